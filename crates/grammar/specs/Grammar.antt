@@ -83,7 +83,7 @@ pub data Production : Type 0 where
 
 -- ---------------------------------------------------------------- what is printed
 
--- byte 1, the Rust's SLOT, marks where the declarator of a function type goes
+-- byte 1, the Rust's SLOT, marks where the declarator of a function type goes; one in the symbol counts too (D-41)
 abbrev pub slot : ℕ
 slot = 1
 
@@ -136,7 +136,7 @@ unfoldable pub digit-ahead : Text → Bool
 digit-ahead [] = false
 digit-ahead (x ∷ t) = digit 10 x
 
--- t of St, and a digit, C or D: where not, St stands for the namespace alone (D-33)
+-- St, and a digit, C or D: where not, St stands for the namespace alone (D-33)
 unfoldable pub std-ahead : Text → Bool
 std-ahead [] = false
 std-ahead (x ∷ []) = false
@@ -216,8 +216,8 @@ module _ (read : Production → Reader Text) where
     give (if only-void ts && same t [] then [] else join (b ", ") ts)
 
   -- <encoding> ::= <function name> <bare-function-type> | <data name>
-  -- The qualifiers are those of the nested name read last, which may be a part of the name (D-3); so is whether a
-  -- return type stands before the parameters (D-21).
+  -- The qualifiers are those of the nested name read last, be it a part of the name (D-3) or the function of a local
+  -- name (D-22). Whether a return type stands before the parameters is settled by the list read last (D-21).
   unfoldable pub function-or-data : Reader Text
   function-or-data = do
     n ← read ⟨name⟩
@@ -235,7 +235,7 @@ module _ (read : Production → Reader Text) where
   anew k s = onto (λ t _. (do go-to []; return t) s) (read k (start (s .rest)))
 
   -- <special-name> ::= TV <type> | TT <type> | TI <type> | TS <type> | GV <object name> | GTt <encoding>
-  -- <encoding> ::= <special-name> | the above
+  -- <encoding> ::= <special-name> | the above. Other special names are 4 (D-39).
   unfoldable pub encoding : Reader Text
   encoding = by-code labels (λ w. do t ← read ⟨type⟩; give (b w ++ t)) (cases
       ("GTt" ⇒ (do t ← anew ⟨encoding⟩; give (b "transaction clone for " ++ t))
@@ -386,7 +386,7 @@ module _ (read : Production → Reader Text) where
       go-to (drop n t)
       cases ("B" ⇒ (do w ← read ⟨source-name⟩; give (take n t ++ b "[abi:" ++ w ++ b "]")) ∷ []) (give (take n t))) else unfit
 
-  -- <operator-name> ::= nw | .. | cv <type>, without tags (D-43)
+  -- <operator-name> ::= nw | .. | cv <type>, without tags (D-42); ABI operators outside the table are 4 (D-39)
   unfoldable pub operator-name : Reader Text
   operator-name = by-code operators (λ w. give (b w)) (cases
       ("cv" ⇒ (do
@@ -456,6 +456,7 @@ module _ (read : Production → Reader Text) where
       at-code ("I" ⇒ type-instance x ∷ []) (return x)
 
   -- <type> ::= <builtin-type> | <qualified-type> | P <type> | .. | the above, and u <source-name>, which is no entry (D-16)
+  -- Other types are 4 (D-35).
   unfoldable pub type : Reader Text
   type = entered
       (by-code letters (λ w. give (b w))
