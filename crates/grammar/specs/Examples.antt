@@ -1,7 +1,7 @@
 -- Symbols and their answers, proved from the definition by computation.
 use mathlib.Core.Bool.{Bool, true, false, _&&_}
 use mathlib.Core.List.{List, [], _∷_, _++_}
-use mathlib.Core.Path.{_≡_, refl, ap, ap₂}
+use mathlib.Core.Path.{_≡_, ap}
 use Prim.Native.Nat.{ℕ}
 use lib.Dec.{T, eqb, eqb→eq}
 use Rattle.grammar.specs.Text as t
@@ -9,6 +9,7 @@ use Rattle.grammar.specs.Tables as w
 use Rattle.grammar.specs.Reader as r
 use Rattle.grammar.specs.Grammar as g
 use Rattle.grammar.specs.Names as n
+use Rattle.grammar.specs.Laws.{both, same→eq}
 use Rattle.grammar.specs.Text.{Text, b, same}
 use Rattle.grammar.specs.Tables.{Row, _⇒_}
 use Rattle.grammar.specs.Names.{Answer, named, refusal, demangle, most-symbol-bytes}
@@ -85,6 +86,8 @@ unfoldable pub answered : List (Row Answer) → Bool
 unfolding
     same-answer
     t.b
+    t.if_then_else_
+    t.choose
     t.same
     t.starts
     t.holds
@@ -197,19 +200,6 @@ unfolding
     n.demangle
 answered [] = true
 answered ((w ⇒ a) ∷ rows) = same-answer (demangle most-symbol-bytes (b w)) a && answered rows
-
-both : (p q : Bool) → T (p && q) → T p × T q
-both true q h = (tt, h)
-both false q h = absurd h
-
-same→eq : (s t : Text) → T (same s t) → s ≡ t
-unfolding same
-same→eq [] [] h = refl
-same→eq [] (y ∷ t) h = absurd h
-same→eq (x ∷ s) [] h = absurd h
-same→eq (x ∷ s) (y ∷ t) h =
-    let (p, q) = both (eqb x y) (same s t) h in
-    ap₂ (λ (a : ℕ) (l : Text). a ∷ l) (eqb→eq x y p) (same→eq s t q)
 
 same-answer→eq : (a c : Answer) → T (same-answer a c) → a ≡ c
 unfolding same-answer

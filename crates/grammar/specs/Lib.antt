@@ -3,4 +3,7 @@ pub mod Tables
 pub mod Reader
 pub mod Grammar
 pub mod Names
+pub mod Laws
+pub mod Ends
+pub mod Fuel
 pub mod Examples

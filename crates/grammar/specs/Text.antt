@@ -16,12 +16,12 @@ b []ˢ = []
 b (c ∷ˢ w) = code c ∷ b w
 
 infix 20 if_then_else_
-abbrev pub if_then_else_ {ℓ} : {A : Type ℓ} → Bool → A → A → A
+unfoldable pub if_then_else_ {ℓ} : {A : Type ℓ} → Bool → A → A → A
 if true then x else y = x
 if false then x else y = y
 
 -- by whether there is a value
-abbrev pub choose {ℓ κ} : {A : Type ℓ} {B : Type κ} → Option A → (A → B) → B → B
+unfoldable pub choose {ℓ κ} : {A : Type ℓ} {B : Type κ} → Option A → (A → B) → B → B
 choose (some x) f y = f x
 choose none f y = y
 
