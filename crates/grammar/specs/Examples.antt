@@ -54,7 +54,7 @@ departures =
     -- D-7
     ∷ "_Z1fIiEvS0_" ⇒ named (b "void f<int>(f<int>)")
     -- D-8
-    ∷ "_Z1fIiEvT_S1_" ⇒ refusal 7
+    ∷ "_ZN1aIiE1bET_S1_" ⇒ refusal 7
     -- D-9
     ∷ "_Z1fA3_iS_" ⇒ refusal 7
     -- D-10
@@ -192,6 +192,7 @@ unfolding
     g.expr-primary
     g.production
     g.parse
+    g.reading
     n.without-slots
     n.finished
     n.high

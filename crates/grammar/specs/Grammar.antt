@@ -5,7 +5,7 @@
 use mathlib.Core.Bool.{Bool, true, false, not, _&&_, _||_}
 use mathlib.Core.List.{List, [], _∷_, _++_}
 use mathlib.Core.Option.{Option, none, some}
-use Prim.Native.Nat.{ℕ, zero, suc, _+_, _-_, _^_}
+use Prim.Native.Nat.{ℕ, zero, suc, _+_, _-_, _*_, _^_}
 use Prim.Native.Char.{code}
 use Prim.Native.String.{String}
 use lib.ListN.{length, take, drop, getElem?}
@@ -171,7 +171,7 @@ pub record Parts : Type 0 where
 
 -- ---------------------------------------------------------------- productions of letters and digits alone
 
--- <unnamed-type-name> ::= Ut [<number>] _, or U and any other letter (D-25)
+-- <unnamed-type-name> ::= Ut [<number>] _, or U and any other byte (D-25)
 -- <closure-type-name> ::= Ul <lambda-sig> E [<number>] _: what stands before the E is not read (D-5)
 unfoldable pub unnamed-type-name : Reader Text
 unnamed-type-name = do
@@ -208,7 +208,7 @@ module _ (read : Production → Reader Text) where
   -- ---------------------------------------------------------------- encodings
 
   -- <bare-function-type> ::= <type>+
-  -- A lone void prints nothing at the end of the symbol, but prints before a dot (D-19).
+  -- A lone void prints nothing at the end of the symbol, but prints before a dot (D-19). Types may be missing (D-56).
   unfoldable pub bare-function-type : Reader Text
   bare-function-type = do
     ts ← while (λ t. not (ended t)) (one-more (read ⟨type⟩)) []
@@ -267,7 +267,7 @@ module _ (read : Production → Reader Text) where
     push-sub n
     at-code ("I" ⇒ name-instance n ∷ []) (give n)
 
-  -- <name> ::= <unscoped-name> | <substitution> <template-args>, at S
+  -- <name> ::= <unscoped-name> | <substitution> <template-args>, or the reference alone (D-55), at S
   unfoldable pub s-name : Reader Text
   s-name = do
     t ← ahead
@@ -294,6 +294,7 @@ module _ (read : Production → Reader Text) where
     give (n ++ ps)
 
   -- <local-name> ::= Z <function encoding> E <entity name> | Z <function encoding> E s, without a discriminator (D-17)
+  -- or a default argument's number (D-54)
   unfoldable pub local-name : Reader Text
   local-name = do
     need "Z"
@@ -340,7 +341,7 @@ module _ (read : Production → Reader Text) where
     if final then return tt else push-sub (join (b "::") l)
     return (record { texts = l; structor = p .structor })
 
-  -- one part more; references and template parameters may stand anywhere among the parts (D-27)
+  -- one part more; references and template parameters may stand anywhere among the parts (D-27), other prefixes are 4 (D-52)
   unfoldable pub prefix : Parts → Reader Parts
   prefix p = do
     t ← ahead
@@ -363,7 +364,7 @@ module _ (read : Production → Reader Text) where
   -- ---------------------------------------------------------------- unqualified names
 
   -- <unqualified-name> ::= <operator-name> | <ctor-dtor-name> | <source-name> | <unnamed-type-name>
-  -- A constructor or destructor outside a nested name is C or D and any byte (D-23); L may stand in front (D-37).
+  -- A constructor or destructor without its class is C or D and any byte (D-23); L may stand in front (D-37).
   unfoldable pub unqualified-name : Reader Text
   unqualified-name = cases
       ("C" ⇒ (do any; give (b "{ctor}"))
@@ -387,6 +388,7 @@ module _ (read : Production → Reader Text) where
       cases ("B" ⇒ (do w ← read ⟨source-name⟩; give (take n t ++ b "[abi:" ++ w ++ b "]")) ∷ []) (give (take n t))) else unfit
 
   -- <operator-name> ::= nw | .. | cv <type>, without tags (D-42); ABI operators outside the table are 4 (D-39)
+  -- The type of cv takes T_ from the arguments so far (D-44); arguments behind it make it a template again (D-43).
   unfoldable pub operator-name : Reader Text
   operator-name = by-code operators (λ w. give (b w)) (cases
       ("cv" ⇒ (do
@@ -399,13 +401,14 @@ module _ (read : Production → Reader Text) where
   -- ---------------------------------------------------------------- types
 
   -- <qualified-type> ::= <CV-qualifiers> <type>: each of r, V and K is an entry (D-10)
-  -- <type> ::= P <type> | R <type> | O <type> | C <type>: put at each slot of the text below (D-12)
+  -- <type> ::= P <type> | R <type> | O <type> | C <type>: put at each slot of the text below (D-12), before F too (D-48),
+  -- or behind it, an array too (D-47); references aren't collapsed (D-50)
   unfoldable pub wrapped : String × String → Reader Text
   wrapped w = do
     t ← read ⟨type⟩
     recorded (if holds slot t then at-slots (b (w .1)) t else t ++ b (w .0))
 
-  -- <function-type> ::= F <bare-function-type> E, without Y or a <ref-qualifier> (D-40)
+  -- <function-type> ::= F <bare-function-type> E, without Y or a <ref-qualifier> (D-40); a slot in parentheses (D-49)
   unfoldable pub function-type : Reader Text
   function-type = do
     r ← read ⟨type⟩
@@ -456,7 +459,7 @@ module _ (read : Production → Reader Text) where
       at-code ("I" ⇒ type-instance x ∷ []) (return x)
 
   -- <type> ::= <builtin-type> | <qualified-type> | P <type> | .. | the above, and u <source-name>, which is no entry (D-16)
-  -- Other types are 4 (D-35).
+  -- Other types are 4 (D-35), arguments behind a template parameter too (D-51).
   unfoldable pub type : Reader Text
   type = entered
       (by-code letters (λ w. give (b w))
@@ -478,7 +481,7 @@ module _ (read : Production → Reader Text) where
   -- ---------------------------------------------------------------- template arguments
 
   -- <template-args> ::= I <template-arg>+ E, or none (D-30). The arguments of a list inside are pushed before the
-  -- argument that it is part of (D-1).
+  -- argument that it is part of (D-1). Declarations of parameters and constraints are 4 (D-53).
   unfoldable pub template-args : Reader Text
   template-args = do
     need "I"
@@ -492,7 +495,7 @@ module _ (read : Production → Reader Text) where
     t ← ahead
     choose (skipped t 1) (λ u. do go-to u; give (b "...")) unfit
 
-  -- J <template-arg>* E, behind J: an argument pack
+  -- J <template-arg>* E, behind J: an argument pack, one argument though it be empty (D-46)
   unfoldable pub pack : Reader Text
   pack = do
     ts ← up-to-E (one-more (read ⟨template-arg⟩)) []
@@ -503,7 +506,8 @@ module _ (read : Production → Reader Text) where
   template-arg = cases ("X" ⇒ expression ∷ "J" ⇒ pack ∷ [])
       (at-code ("L" ⇒ read ⟨expr-primary⟩ ∷ []) (read ⟨type⟩))
 
-  -- <expr-primary> ::= L <type> <value number> E | L _ <name> E: the second E may be missing (D-6)
+  -- <expr-primary> ::= L <type> <value number> E | L _ <name> E: for the ABI's L _Z <encoding> E (D-45), and the second E
+  -- may be missing (D-6)
   unfoldable pub expr-primary : Reader Text
   expr-primary = do
     need "L"
@@ -529,7 +533,11 @@ module _ (read : Production → Reader Text) where
   production ⟨expr-primary⟩ = expr-primary
   production ⟨substitution⟩ = substitution
 
--- a production read with so much fuel; `enough` in Fuel.antt says how much never runs out
+-- a production read with so much fuel
 unfoldable pub parse : ℕ → Production → Reader Text
 parse zero k s = refused 0
 parse (suc n) k s = production (parse n) k s
+
+-- a production read with fuel that is enough: `reading-is` in Fuel.antt
+unfoldable pub reading : Production → Reader Text
+reading k s = parse (4 * suc (length (s .rest))) k s

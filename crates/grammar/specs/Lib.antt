@@ -4,6 +4,6 @@ pub mod Reader
 pub mod Grammar
 pub mod Names
 pub mod Laws
-pub mod Ends
+pub mod Agree
 pub mod Fuel
 pub mod Examples

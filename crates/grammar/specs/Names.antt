@@ -2,13 +2,13 @@
 use mathlib.Core.Bool.{Bool, true, false, _&&_, _||_}
 use mathlib.Core.List.{List, [], _∷_, _++_}
 use mathlib.Core.Option.{Option, none, some}
-use Prim.Native.Nat.{ℕ, suc, _*_}
+use Prim.Native.Nat.{ℕ}
 use lib.ListN.{length, drop}
 use lib.Dec.{eqb, leb, ltb}
 use Rattle.grammar.specs.Text.{Text, b, if_then_else_, choose, starts, each}
 use Rattle.grammar.specs.Tables.{Row, _⇒_}
 use Rattle.grammar.specs.Reader.{State, Result, ok, refused, start, find}
-use Rattle.grammar.specs.Grammar.{Production, ⟨encoding⟩, parse, ended, slot}
+use Rattle.grammar.specs.Grammar.{Production, ⟨encoding⟩, reading, ended, slot}
 
 pub data Answer : Type 0 where
   named : Text → Answer
@@ -27,11 +27,11 @@ unfoldable pub high : Text → Bool
 high [] = false
 high (x ∷ t) = leb 128 x || high t
 
--- <mangled-name> ::= _Z <encoding> | __Z <encoding> (D-36), behind the front
+-- <mangled-name> ::= _Z <encoding>, behind _Z
 unfoldable pub mangled-name : Text → Answer
-mangled-name t = finished (parse (4 * suc (length t)) ⟨encoding⟩ (start t))
+mangled-name t = finished (reading ⟨encoding⟩ (start t))
 
--- 1: longer than the limit; 2: a byte of 128 or more; 3: neither _Z nor __Z in front
+-- 1: longer than the limit; 2: a byte of 128 or more; 3: neither _Z nor __Z (D-36) in front
 unfoldable pub front : ℕ → Text → (Text → Answer) → Answer
 front limit t answer =
     if ltb limit (length t) then refusal 1 else
