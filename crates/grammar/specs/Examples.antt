@@ -166,6 +166,7 @@ unfolding
     g.unscoped-name
     g.local-encoding
     g.local-name
+    g.name-inner
     g.name
     g.ctor-dtor-name
     g.old-prefix
@@ -184,6 +185,7 @@ unfolding
     g.nested-type
     g.class-type
     g.s-type
+    g.type-inner
     g.type
     g.template-args
     g.expression

@@ -239,7 +239,7 @@ module _ (read read' : Production → Reader Text) (n : ℕ) (below : (k : Produ
       (bind (on ⟨name⟩ v l) λ x. give-keeps _)
 
   name-takes : Here ⟨nested-name⟩ → Here ⟨substitution⟩ → Here ⟨unqualified-name⟩ → Takes n (g.name read) (g.name read')
-  unfolding g.name coded b
+  unfolding g.name g.name-inner coded b
   name-takes nested sub name =
       entered-agree _ _ λ s h.
       at-code-agree _ _ _ _
@@ -378,7 +378,7 @@ module _ (read read' : Production → Reader Text) (n : ℕ) (below : (k : Produ
       (bind (sub s h) λ x u k. at-code-agree _ _ _ _ (row tt (type-instance-keeps x u k) end) (reads k))
 
   type-takes : Here ⟨source-name⟩ → Here ⟨nested-name⟩ → Here ⟨template-param⟩ → Here ⟨substitution⟩ → Takes n (g.type read) (g.type read')
-  unfolding g.type all-coded letters d-letters wrappers coded b
+  unfolding g.type g.type-inner all-coded letters d-letters wrappers coded b
   type-takes source nested param sub =
       entered-agree _ _ λ s h.
       by-table-agree _ _ _ _ _ tt (λ w u k. give-keeps _ u (omega (arith, h, k)))

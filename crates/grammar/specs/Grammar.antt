@@ -302,10 +302,13 @@ module _ (read : Production → Reader Text) where
     cases ("s" ⇒ give (outer ++ b "::string literal") ∷ []) (do n ← read ⟨name⟩; give (outer ++ b "::" ++ n))
 
   -- <name> ::= <nested-name> | <local-name> | L <name> | the above (D-37)
-  unfoldable pub name : Reader Text
-  name = entered (at-code
+  unfoldable pub name-inner : Reader Text
+  name-inner = at-code
       ("N" ⇒ read ⟨nested-name⟩ ∷ "S" ⇒ s-name ∷ "L" ⇒ (do need "L"; read ⟨name⟩) ∷ "Z" ⇒ local-name ∷ [])
-      unscoped-name)
+      unscoped-name
+
+  unfoldable pub name : Reader Text
+  name = entered name-inner
 
   -- ---------------------------------------------------------------- nested names
 
@@ -460,9 +463,9 @@ module _ (read : Production → Reader Text) where
 
   -- <type> ::= <builtin-type> | <qualified-type> | P <type> | .. | the above, and u <source-name>, which is no entry (D-16)
   -- Other types are 4 (D-35), arguments behind a template parameter too (D-51).
-  unfoldable pub type : Reader Text
-  type = entered
-      (by-code letters (λ w. give (b w))
+  unfoldable pub type-inner : Reader Text
+  type-inner =
+      by-code letters (λ w. give (b w))
       (by-code d-letters (λ w. give (b w))
       (by-code wrappers wrapped
       (cases
@@ -476,7 +479,10 @@ module _ (read : Production → Reader Text) where
       ∷ "T" ⇒ read ⟨template-param⟩
       ∷ "S" ⇒ s-type
       ∷ [])
-      class-type)))))
+      class-type))))
+
+  unfoldable pub type : Reader Text
+  type = entered type-inner
 
   -- ---------------------------------------------------------------- template arguments
 
