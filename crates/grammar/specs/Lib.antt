@@ -6,4 +6,6 @@ pub mod Names
 pub mod Laws
 pub mod Agree
 pub mod Fuel
+pub mod Numbers
+pub mod Words
 pub mod Examples

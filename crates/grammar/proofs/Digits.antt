@@ -1,0 +1,76 @@
+-- Laws of digits: their values, the run of them that stands at a place, and the number that they write, up to 2^64 - 1. Assumes nothing.
+use mathlib.Core.Path.{_≡_, refl, sym, ap, _∙_}
+use mathlib.Core.Bool.{Bool, true, false}
+use mathlib.Core.List.{[], _∷_}
+use mathlib.Core.Logic.{⊎-elim}
+use Prim.Native.Nat.{ℕ, _+_, _*_, _≤_, _<_, min}
+use native.Mathlib.Nat.{mul-le-mul-left, min-le-left, eq-or-lt-of-le}
+use native.Mathlib.Omega.{arith}
+use borrow.Author.Tests.{lt-ltb, le-ltb, le-leb, lt-leb}
+use lib.ListN.{length, drop, getD}
+use lib.Seq.{drop-drop}
+use Rattle.grammar.specs.Text.{Text, if_then_else_, between, run, past, digit, digit-value, number}
+use Rattle.grammar.specs.Numbers.{most, Numbered}
+use Rattle.grammar.specs.declared.numbers.Number.{Number}
+use Rattle.grammar.proofs.Texts.{rest-some, rest-none}
+
+-- a byte within a range, under it and over it
+module _ (lo hi c : ℕ) where
+  pub in-range : lo ≤ c → c ≤ hi → between lo hi c ≡ true
+  in-range l h = rw (le-leb lo c l, le-leb c hi h)
+
+  pub under : c < lo → between lo hi c ≡ false
+  under h = rw (lt-leb lo c h)
+
+  pub over : lo ≤ c → hi < c → between lo hi c ≡ false
+  over l h = rw (le-leb lo c l, lt-leb c hi h)
+
+-- the run of digits at a place
+module _ (base : ℕ) (s : Text) (i : ℕ) where
+  pub digits-more : i < length s → digit-value (getD s i 0) < base
+      → run (digit base) (drop i s) ≡ getD s i 0 ∷ run (digit base) (drop (i + 1) s)
+  unfolding if_then_else_ run digit
+  digits-more h d = rw (rest-some s i h, lt-ltb _ _ d)
+
+  pub digits-stop : i < length s → base ≤ digit-value (getD s i 0) → run (digit base) (drop i s) ≡ []
+  unfolding if_then_else_ run digit
+  digits-stop h d = rw (rest-some s i h, le-ltb _ _ d)
+
+  pub digits-end : length s ≤ i → run (digit base) (drop i s) ≡ []
+  unfolding run
+  digits-end h = rw (rest-none s i h)
+
+-- a number that is cut off at 2^64 - 1 before the next digits are read is the same, cut off behind them
+module _ (base : ℕ) (some : 1 ≤ base) where
+  cut-one : (n d : ℕ) → min (n * base + d) most ≡ min (min n most * base + d) most
+  cut-one n d = ⊎-elim
+      (λ (e : min n most ≡ n). rw e)
+      (λ (h : min n most < n).
+      let k : most ≤ n * base = omega (arith, mul-le-mul-left n some) in
+      let e : min n most ≡ most = omega arith in
+      rw e (omega arith))
+      (eq-or-lt-of-le (min-le-left n most))
+
+  pub cut : (t : Text) (n : ℕ) → min (number base n t) most ≡ min (number base (min n most) t) most
+  unfolding number
+  cut [] n = omega arith
+  cut (x ∷ t) n =
+      cut t (n * base + digit-value x)
+      ∙ ap (λ (m : ℕ). min (number base m t) most) (cut-one n (digit-value x))
+      ∙ sym (cut t (min n most * base + digit-value x))
+
+-- what stands behind a number
+past-if : (p : ℕ → Bool) (q : Bool) (x : ℕ) (t : Text) → past p t ≡ drop (length (run p t)) t
+    → (if q then past p t else x ∷ t) ≡ drop (length (if q then x ∷ run p t else [])) (x ∷ t)
+unfolding if_then_else_
+past-if p true x t e = e
+past-if p false x t e = refl
+
+pub past-run : (p : ℕ → Bool) (t : Text) → past p t ≡ drop (length (run p t)) t
+unfolding past run
+past-run p [] = refl
+past-run p (x ∷ t) = past-if p (p x) x t (past-run p t)
+
+pub past-number : {base : ℕ} {s : Text} {at : ℕ} {r : Number} → Numbered base s at r → past (digit base) (drop at s) ≡ drop (r .next) s
+past-number {base} {s} {at} n =
+    past-run (digit base) (drop at s) ∙ drop-drop (length (run (digit base) (drop at s))) at s ∙ ap (λ (k : ℕ). drop k s) (sym (n .behind))

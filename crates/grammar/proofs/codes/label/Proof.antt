@@ -1,0 +1,17 @@
+-- `grammar::codes::label` meets its contract: each arm has the word of its row, and `_` has none. Assumes nothing.
+use mathlib.Core.List.{[]}
+use Rattle.grammar.specs.Text.{b}
+use Rattle.grammar.proofs.Lookups.{right, found, all-barred, missing}
+use Rattle.grammar.proofs.codes.label.Statement.{statement}
+use Rattle.grammar.proofs.codes.label.Tie as tie
+
+pub label-spec : {M : Type 1} → statement M
+unfolding right all-barred
+label-spec =
+    tie.close
+    (tie.spec
+    (λ c. rw (c .match .keys1) (found tt))
+    (λ c. rw (c .match .keys2) (found tt))
+    (λ c. rw (c .match .keys3) (found tt))
+    (λ c. rw (c .match .keys4) (found tt))
+    (λ c. missing (b "T") [] (b "VTIS") _ (c .match .rest) tt))

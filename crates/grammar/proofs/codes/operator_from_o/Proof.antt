@@ -1,0 +1,33 @@
+-- `grammar::codes::operator_from_o` meets its contract: each arm has the word of its row, and `_` has none. Assumes nothing.
+use mathlib.Core.List.{[], _∷_}
+use Rattle.grammar.specs.Text.{b}
+use Rattle.grammar.proofs.Lookups.{right, found, all-barred, missing}
+use Rattle.grammar.proofs.codes.operator_from_o.Statement.{statement}
+use Rattle.grammar.proofs.codes.operator_from_o.Tie as tie
+
+pub operator-from-o-spec : {M : Type 1} → statement M
+unfolding right all-barred
+operator-from-o-spec =
+    tie.close
+    (tie.spec
+    (λ c. rw (c .before .match .keys1, c .match2 .keys1) (found tt))
+    (λ c. rw (c .before .match .keys1, c .match2 .keys2) (found tt))
+    (λ c. rw (c .before .match .keys1, c .match2 .keys3) (found tt))
+    (λ c. rw (c .before .match .keys1) (missing (b "o") [] (b "rRo") _ (c .match2 .rest) tt))
+    (λ c. rw (c .before .match .keys2, c .match3 .keys1) (found tt))
+    (λ c. rw (c .before .match .keys2, c .match3 .keys2) (found tt))
+    (λ c. rw (c .before .match .keys2, c .match3 .keys3) (found tt))
+    (λ c. rw (c .before .match .keys2, c .match3 .keys4) (found tt))
+    (λ c. rw (c .before .match .keys2, c .match3 .keys5) (found tt))
+    (λ c. rw (c .before .match .keys2, c .match3 .keys6) (found tt))
+    (λ c. rw (c .before .match .keys2) (missing (b "p") [] (b "slLpmt") _ (c .match3 .rest) tt))
+    (λ c. rw (c .before .match .keys3, c .match4 .keys1) (found tt))
+    (λ c. rw (c .before .match .keys3) (missing (b "q") [] (b "u") _ (c .match4 .rest) tt))
+    (λ c. rw (c .before .match .keys4, c .match5 .keys1) (found tt))
+    (λ c. rw (c .before .match .keys4, c .match5 .keys2) (found tt))
+    (λ c. rw (c .before .match .keys4, c .match5 .keys3) (found tt))
+    (λ c. rw (c .before .match .keys4, c .match5 .keys4) (found tt))
+    (λ c. rw (c .before .match .keys4) (missing (b "r") [] (b "mMsS") _ (c .match5 .rest) tt))
+    (λ c. rw (c .before .match .keys5, c .match6 .keys1) (found tt))
+    (λ c. rw (c .before .match .keys5) (missing (b "s") [] (b "s") _ (c .match6 .rest) tt))
+    (λ c. missing [] (_ ∷ []) (b "opqrs") _ (c .match .rest) tt))

@@ -1,0 +1,20 @@
+-- `grammar::codes::wrapper` meets its contract: each arm has the word of its row, and `_` has none. Assumes nothing.
+use mathlib.Core.List.{[]}
+use Rattle.grammar.specs.Text.{b}
+use Rattle.grammar.proofs.Lookups.{right, found, all-barred, missing}
+use Rattle.grammar.proofs.codes.wrapper.Statement.{statement}
+use Rattle.grammar.proofs.codes.wrapper.Tie as tie
+
+pub wrapper-spec : {M : Type 1} → statement M
+unfolding right all-barred
+wrapper-spec =
+    tie.close
+    (tie.spec
+    (λ c. rw (c .match .keys1) (found tt))
+    (λ c. rw (c .match .keys2) (found tt))
+    (λ c. rw (c .match .keys3) (found tt))
+    (λ c. rw (c .match .keys4) (found tt))
+    (λ c. rw (c .match .keys5) (found tt))
+    (λ c. rw (c .match .keys6) (found tt))
+    (λ c. rw (c .match .keys7) (found tt))
+    (λ c. missing [] [] (b "PROKVCr") _ (c .match .rest) tt))
