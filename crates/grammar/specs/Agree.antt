@@ -262,15 +262,34 @@ abbrev pub Shrinks : {A : Type 0} → ℕ → (A → Reader A) → (A → Reader
 Shrinks {A} n p q = (x : A) (s : State) → unread s < n → Agree (unread s) (p x s) (q x s)
 
 module _ {A : Type 0} {n : ℕ} (p q : A → Reader A) (shrinks : Shrinks n p q) where
-  steps-agree : (on : Text → Bool) (k : ℕ) (x : A) (s : State) → unread s < k → unread s < n → Agree n (steps k on p x s) (steps k on q x s)
+  steps-agree :
+      (on : Text → Bool) (j k : ℕ) (x : A) (s : State) →
+      unread s < j →
+      unread s < k →
+      unread s < n →
+      Agree n (steps j on p x s) (steps k on q x s)
   unfolding steps onto
-  steps-agree on zero x s l h = absurd (omega arith)
-  steps-agree on (suc k) x s l h =
-      branch _ _ _ _ _ s (bind (shrinks x s h) λ y u m. steps-agree on k y u (omega arith) (omega arith)) (reads h)
+  steps-agree on zero k x s i l h = absurd (omega arith)
+  steps-agree on (suc j) zero x s i l h = absurd (omega arith)
+  steps-agree on (suc j) (suc k) x s i l h =
+      branch _ _ _ _ _ s
+      (bind (shrinks x s h) λ y u m. steps-agree on j k y u (omega arith) (omega arith) (omega arith))
+      (reads h)
 
   pub while-keeps : (on : Text → Bool) (x : A) → Keeps n (while on p x) (while on q x)
   unfolding while onto
-  while-keeps on x s h = steps-agree on (suc (unread s)) x s (omega arith) h
+  while-keeps on x s h = steps-agree on (suc (unread s)) (suc (unread s)) x s (omega arith) (omega arith) h
+
+-- a loop is its first step and the loop from there
+module _ {A : Type 0} (p : A → Reader A) (shrinks : (x : A) (s : State) → Agree (unread s) (p x s) (p x s)) where
+  pub while-is :
+      (on : Text → Bool) (x : A) (s : State) →
+      while on p x s ≡ (if on (s .rest) then (λ u. onto (λ y. while on p y) (p x u)) else return x) s
+  unfolding while steps onto
+  while-is on x s =
+      agree-eq (branch {n = suc (unread s)} _ _ _ _ _ s
+      (bind (shrinks x s) λ y u m. steps-agree p p (λ z v l. shrinks z v) on (unread s) (suc (unread u)) y u m (omega arith) (omega arith))
+      (reads (omega arith)))
 
 pub up-to-E-keeps : {A : Type 0} {n : ℕ} (p q : A → Reader A) → Shrinks n p q → (x : A) → Keeps n (up-to-E p x) (up-to-E q x)
 unfolding up-to-E onto coded b
