@@ -179,16 +179,17 @@ unfolding past
 past-shorter p [] = omega arith
 past-shorter p (x ∷ t) = pass-shorter (p x) p x t (past-shorter p t)
 
-pub moved : Text → State → State
+-- the state before another text
+abbrev pub moved : Text → State → State
 moved t s = record { rest = t; subs = s .subs; args = s .args; depth = s .depth; cv = s .cv; templated = s .templated }
 
 module _ {n : ℕ} where
   pub go-to-agree : (t : Text) (s : State) → length t < n → Agree n (go-to t s) (go-to t s)
-  unfolding go-to moved
+  unfolding go-to
   go-to-agree t s h = reads {u = moved t s} h
 
   pub every-keeps : (p : ℕ → Bool) → Keeps n (every p) (every p)
-  unfolding every onto go-to moved
+  unfolding every onto go-to
   every-keeps p s h = let l = past-shorter p (s .rest) in reads {u = moved (past p (s .rest)) s} (omega arith)
 
   pub give-keeps : (t : Text) → Keeps n (give t) (give t)
@@ -220,7 +221,7 @@ module _ {n : ℕ} where
   entered-agree p q f s h = branch _ _ _ _ _ s (bind (f _ h) λ _ u l. reads l) refuses
 
   pub eat-keeps : (w : String) → Keeps n (eat w) (eat w)
-  unfolding eat onto go-to moved
+  unfolding eat onto go-to
   eat-keeps w s h = branch _ _ _ _ _ s (reads {u = moved (drop (length (b w)) (s .rest)) s} (simp length-drop (omega arith))) (reads h)
 
   pub see-keeps : (w : String) → Keeps n (see w) (see w)
@@ -228,7 +229,7 @@ module _ {n : ℕ} where
   see-keeps w s h = reads h
 
   pub need-takes : (w : String) → T (coded w) → Takes n (need w) (need w)
-  unfolding need eat onto go-to coded moved if_then_else_
+  unfolding need eat onto go-to coded if_then_else_
   need-takes w c s h = go (starts (s .rest) (b w)) (starts-shorter (s .rest) (b w) c)
     where
       here : Bool → Reader (Unit {0})
@@ -242,7 +243,7 @@ module _ {n : ℕ} where
       go false l = refuses
 
   pub any-takes : Takes n any any
-  unfolding any first onto go-to moved
+  unfolding any first onto go-to
   any-takes s h = go (s .rest) h
     where
       go : (t : Text) → length t < suc n → Agree n (first t s) (first t s)

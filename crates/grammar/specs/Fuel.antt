@@ -279,7 +279,7 @@ module _ (read read' : Production → Reader Text) (n : ℕ) (below : (k : Produ
       bind (see-keeps "E" u k) λ final v l.
       bind (branch _ _ _ _ _ v (reads l) (push-sub-keeps _ v l)) λ _ w m. reads m
 
-  prefix-shrinks : Shrinks n (g.prefix read) (g.prefix read')
+  pub prefix-shrinks : Shrinks n (g.prefix read) (g.prefix read')
   unfolding g.prefix onto coded b
   prefix-shrinks p s h =
       tested _ _ _ _ _ s (ctor-dtor-name-shrinks p s)

@@ -6,6 +6,7 @@ pub mod Names
 pub mod Laws
 pub mod Agree
 pub mod Fuel
+pub mod Loops
 pub mod Numbers
 pub mod Words
 pub mod Examples
