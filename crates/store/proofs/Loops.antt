@@ -1,0 +1,122 @@
+-- A turn of each loop. Assumes nothing.
+use mathlib.Core.Path.{_≡_, refl, sym, ap, ap₂, _∙_}
+use mathlib.Core.List.{[], _∷_, _++_, append-nil}
+use mathlib.Core.Logic.{_⊎_, ⊎-elim}
+use mathlib.Core.Bool.{Bool, true, false, _&&_}
+use Prim.Native.Nat.{ℕ, suc, _+_, _-_, _≤_, _<_}
+use native.Mathlib.Numerals.{add-one}
+use native.Mathlib.Omega.{arith}
+use borrow.Author.Fill.{fill-more}
+use borrow.Author.Tests.{eq-eqb, ne-eqb}
+use lib.Dec.{eqb}
+use lib.ListN.{length, take, drop, getD, set, length-drop, List·getD-append, drop-of-length-le}
+use lib.Seq.{paste, paste-suc, length-paste-head, length-take-le, getD-append-add, getD-drop, getD-take, take-suc, take-length, drop-cons, drop-length}
+use Rattle.grammar.specs.Text.{Text, if_then_else_, same}
+use Rattle.store.specs.Stack.{zeros, slots-in, newest}
+use Rattle.store.specs.Lists.{drop-take}
+use Rattle.store.specs.Slots.{slots-append}
+
+-- ---- clear: the first i are zero
+
+pub clear-more : (l : Text) (i : ℕ) → i < length l → set (zeros i ++ drop i l) i 0 ≡ zeros (i + 1) ++ drop (i + 1) l
+unfolding zeros
+clear-more l i h = fill-more i 0 l h
+
+pub clear-none : (l : Text) → l ≡ zeros 0 ++ drop 0 l
+unfolding zeros
+clear-none l = refl
+
+pub clear-done : (l m : Text) (i : ℕ) → i ≡ length l → m ≡ zeros i ++ drop i l → m ≡ zeros (length l)
+clear-done l m i e f = f ∙ rw (e, drop-length) (append-nil (zeros (length l)))
+
+-- ---- shift: the bytes at f are pasted at `at`
+
+module _ (l : Text) (f at n i : ℕ) (hf : f + n ≤ length l) (ha : at + n ≤ length l) (lt : i < n) where
+  head : length (take at l ++ take i (drop f l)) ≡ at + i
+  head = length-paste-head l at (drop f l) i (omega arith) (simp length-drop (omega arith))
+
+  shift-down : at ≤ f → getD (paste l at (drop f l) i) (f + i) 0 ≡ getD l (f + i) 0
+  shift-down h =
+      ap (λ (k : ℕ). getD (paste l at (drop f l) i) k 0) {x = f + i} {y = length (take at l ++ take i (drop f l)) + (f - at)} (omega (arith, head))
+      ∙ getD-append-add (take at l ++ take i (drop f l)) (drop (at + i) l) (f - at) 0
+      ∙ getD-drop (at + i) l (f - at) 0
+      ∙ ap (λ (k : ℕ). getD l k 0) {x = at + i + (f - at)} {y = f + i} (omega arith)
+
+  shift-up : f + n ≤ at → getD (paste l at (drop f l) i) (f + i) 0 ≡ getD l (f + i) 0
+  shift-up h =
+      List·getD-append (take at l ++ take i (drop f l)) (drop (at + i) l) 0 (f + i) (omega (arith, head))
+      ∙ List·getD-append (take at l) (take i (drop f l)) 0 (f + i) (omega (arith, length-take-le at l (omega arith)))
+      ∙ getD-take at l (f + i) 0 (omega arith)
+
+  pub shift-more : (at ≤ f) ⊎ (f + n ≤ at)
+      → set (paste l at (drop f l) i) (at + i) (getD (paste l at (drop f l) i) (f + i) 0) ≡ paste l at (drop f l) (i + 1)
+  shift-more h =
+      ap (set (paste l at (drop f l) i) (at + i)) (⊎-elim shift-down shift-up h ∙ sym (getD-drop f l i 0))
+      ∙ paste-suc l at (drop f l) i 0 (omega arith) (simp length-drop (omega arith))
+      ∙ ap (paste l at (drop f l)) (sym (add-one i))
+
+-- ---- slots
+
+one-more : (l : Text) (f i : ℕ) → f + i < length l
+    → slots-in (take (i + 1) (drop f l)) ≡ slots-in (take i (drop f l)) + (if eqb (getD l (f + i) 0) 1 then 1 else 0)
+unfolding slots-in
+one-more l f i h =
+    ap (λ (k : ℕ). slots-in (take k (drop f l))) (add-one i)
+    ∙ ap slots-in (take-suc (drop f l) i 0 (simp length-drop (omega arith)))
+    ∙ slots-append (take i (drop f l)) (getD (drop f l) i 0 ∷ [])
+    ∙ omega (arith, ap {B = ℕ} (λ (x : ℕ). if eqb x 1 then 1 else 0) (getD-drop f l i 0))
+
+pub slot-there : (l : Text) (f i : ℕ) → f + i < length l → getD l (f + i) 0 ≡ 1
+    → slots-in (take (i + 1) (drop f l)) ≡ slots-in (take i (drop f l)) + 1
+unfolding if_then_else_
+slot-there l f i h e = one-more l f i h ∙ ap (λ (q : Bool). slots-in (take i (drop f l)) + (if q then 1 else 0)) (eq-eqb (getD l (f + i) 0) 1 e)
+
+pub slot-not : (l : Text) (f i : ℕ) → f + i < length l → (getD l (f + i) 0 ≡ 1 → ⊥)
+    → slots-in (take (i + 1) (drop f l)) ≡ slots-in (take i (drop f l))
+unfolding if_then_else_
+slot-not l f i h e =
+    one-more l f i h ∙ ap (λ (q : Bool). slots-in (take i (drop f l)) + (if q then 1 else 0)) (ne-eqb (getD l (f + i) 0) 1 e) ∙ omega arith
+
+-- ---- same
+
+module _ (s t : Text) (i : ℕ) (hs : i < length s) (ht : i < length t) where
+  both : same (drop i s) (drop i t) ≡ eqb (getD s i 0) (getD t i 0) && same (drop (suc i) s) (drop (suc i) t)
+  unfolding same
+  both = ap₂ same (drop-cons s i 0 hs) (drop-cons t i 0 ht)
+
+  pub same-more : getD s i 0 ≡ getD t i 0 → same (drop i s) (drop i t) ≡ same (drop (i + 1) s) (drop (i + 1) t)
+  same-more e =
+      both
+      ∙ ap (λ (q : Bool). q && same (drop (suc i) s) (drop (suc i) t)) (eq-eqb (getD s i 0) (getD t i 0) e)
+      ∙ ap (λ (k : ℕ). same (drop k s) (drop k t)) (sym (add-one i))
+
+  pub same-differ : (getD s i 0 ≡ getD t i 0 → ⊥) → same (drop i s) (drop i t) ≡ false
+  same-differ e = both ∙ ap (λ (q : Bool). q && same (drop (suc i) s) (drop (suc i) t)) (ne-eqb (getD s i 0) (getD t i 0) e)
+
+pub same-end : (s t : Text) (i : ℕ) → length s ≤ i → length t ≤ i → same (drop i s) (drop i t) ≡ true
+unfolding same
+same-end s t i hs ht = ap₂ same (drop-of-length-le s hs) (drop-of-length-le t ht)
+
+pub same-lengths : (s t : Text) → (length s ≡ length t → ⊥) → same s t ≡ false
+unfolding same
+same-lengths [] [] h = absurd (h refl)
+same-lengths [] (y ∷ t) h = refl
+same-lengths (x ∷ s) [] h = refl
+same-lengths (x ∷ s) (y ∷ t) h = ap (λ (q : Bool). eqb x y && q) (same-lengths s t (λ e. h (ap suc e))) ∙ and-false (eqb x y) where
+  and-false : (q : Bool) → q && false ≡ false
+  and-false true = refl
+  and-false false = refl
+
+-- byte i of a part
+pub part-at : (l : Text) (f n i : ℕ) → i < n → getD (take n (drop f l)) i 0 ≡ getD l (f + i) 0
+part-at l f n i h = getD-take n (drop f l) i 0 h ∙ getD-drop f l i 0
+
+pub in-part : (l : Text) (f n i : ℕ) → i < n → f + n ≤ length l → i < length (take n (drop f l))
+in-part l f n i h g = omega (arith, length-take-le n (drop f l) (simp length-drop (omega arith)))
+
+-- the newest n bytes as a part
+newest-part : (l : Text) (top n : ℕ) → n ≤ top → take n (drop (top - n) l) ≡ newest l top n
+newest-part l top n h = ap (λ (k : ℕ). take k (drop (top - n) l)) {x = n} {y = top - (top - n)} (omega arith) ∙ sym (drop-take (top - n) top l)
+
+pub same-newest : {r : Bool} (l word : Text) (top n : ℕ) → n ≤ top → length word ≡ n → r ≡ same (take n (drop (top - n) l)) (take n (drop 0 word)) → r ≡ same (newest l top n) word
+same-newest l word top n h e f = f ∙ ap₂ same (newest-part l top n h) (ap (λ (k : ℕ). take k word) (sym e) ∙ take-length word)

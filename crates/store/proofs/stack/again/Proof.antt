@@ -1,0 +1,37 @@
+-- `store::stack::again` meets its contract: room is made, and the bytes, which stand as far below the top as before, are copied.
+-- Assumes nothing.
+use mathlib.Core.Logic.{inr}
+use native.Mathlib.Omega.{arith}
+use borrow.Author.Needs.{needs}
+use Rattle.store.proofs.Stacks.{again-put}
+use borrow.Author.Needs.{needs}
+use Rattle.store.proofs.stack.again.Statement.{statement}
+use Rattle.store.proofs.stack.again.Tie as tie
+use Rattle.store.proofs.stack.room.Reads as room-reads
+use Rattle.store.proofs.stack.shift.Reads as shift-reads
+
+sub-back : tie.Need-sub-back
+sub-back c = search needs
+
+room-requires : tie.Need-room-requires
+room-requires c κs = search needs
+
+sub-low : tie.Need-sub-low
+sub-low c = search needs
+
+shift-requires : tie.Need-shift-requires
+shift-requires c κs = (omega arith, (omega arith, inr (omega arith)))
+
+add-result : tie.Need-add-result
+add-result c = search needs
+
+same-length : tie.Need-same-length
+same-length c = search needs
+
+returns : tie.Need-returns
+returns c = again-put (c .before .before .before .before .before .before .before .before .before .args .from) (c .before .before .before .before .before .before .before .before .before .args .n) (c .before .before .before .before .before .before .before .before .before .pre .0) (c .before .before .before .before .before .before .room .ensures) (c .before .before .before .before .before .before .before .before .before .pre .1 .0) (c .before .before .before .before .before .before .before .before .before .pre .1 .1 .0) (c .before .before .shift .ensures)
+
+pub again-spec : {M : Type 1} → statement M
+again-spec =
+    tie.close
+    (tie.spec sub-back room-requires sub-low shift-requires add-result same-length returns)

@@ -1,0 +1,36 @@
+-- `store::table::start` meets its contract.
+-- Assumes nothing.
+use mathlib.Core.Path.{ap}
+use Prim.Native.Nat.{ℕ, _-_}
+use native.Mathlib.Omega.{arith}
+use borrow.Author.Needs.{needs}
+use lib.ListN.{take}
+use Rattle.grammar.specs.Reader.{bytes-of}
+use Rattle.store.specs.Entries.{start-at}
+use borrow.Author.Needs.{needs}
+use Rattle.store.proofs.table.start.Statement.{statement}
+use Rattle.store.proofs.table.start.Tie as tie
+
+sub-result : tie.Need-sub-result
+sub-result c = search needs
+
+mul-result : tie.Need-mul-result
+mul-result c = search needs
+
+shared-slice-read-result : tie.Need-shared-slice-read-result
+shared-slice-read-result c = search needs
+
+cast-result : tie.Need-cast-result
+cast-result c = omega (arith, c .shared-slice-known .given (c .before .before .args .k - 1))
+
+returns : tie.Need-returns
+unfolding bytes-of
+returns c l n e h = ap (λ (k : ℕ). bytes-of (take k l)) {x = 0} {y = c .before .args .k} (omega arith)
+
+returns-2 : tie.Need-returns-2
+returns-2 c l n e h = start-at n (c .before .before .args .k) (c .before .before .args .ends .now) l e (c .before .if1 .left) h
+
+pub start-spec : {M : Type 1} → statement M
+start-spec =
+    tie.close
+    (tie.spec sub-result mul-result shared-slice-read-result cast-result returns returns-2)
