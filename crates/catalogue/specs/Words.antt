@@ -1,0 +1,39 @@
+-- Words and marks of a printed name: a word is a longest run of letters, digits and _; every other byte is a mark.
+use mathlib.Core.Bool.{true}
+use mathlib.Core.List.{List, [], _∷_, _++_}
+use mathlib.Core.Path.{_≡_, refl, ap}
+use Prim.Native.Nat.{ℕ}
+use Rattle.grammar.specs.Text.{Text, if_then_else_}
+use Rattle.catalogue.specs.Bytes.{all, and-left, and-right}
+use Rattle.catalogue.specs.Class.{wordByte}
+
+pub data Token : Type 0 where
+  aWord : Text → Token
+  aMark : ℕ → Token
+
+abbrev pub grow : ℕ → List Token → List Token
+grow c [] = aWord (c ∷ []) ∷ []
+grow c (aWord x ∷ ts) = aWord (c ∷ x) ∷ ts
+grow c (aMark d ∷ ts) = aWord (c ∷ []) ∷ aMark d ∷ ts
+
+unfoldable pub lex : Text → List Token
+lex [] = []
+lex (c ∷ s) = if wordByte c then grow c (lex s) else aMark c ∷ lex s
+
+-- what may stand after a word
+abbrev pub NoWord : List Token → Type 0
+NoWord [] = Unit {0}
+NoWord (aWord x ∷ ts) = ⊥
+NoWord (aMark c ∷ ts) = Unit {0}
+
+grow-first : (c : ℕ) (ts : List Token) → NoWord ts → grow c ts ≡ aWord (c ∷ []) ∷ ts
+grow-first c [] h = refl
+grow-first c (aWord x ∷ ts) h = absurd h
+grow-first c (aMark d ∷ ts) h = refl
+
+-- a word that is not empty, before something that is no word
+pub lex-word : (c : ℕ) (n s : Text) → all wordByte (c ∷ n) ≡ true → NoWord (lex s) → lex ((c ∷ n) ++ s) ≡ aWord (c ∷ n) ∷ lex s
+unfolding lex if_then_else_
+lex-word c [] s h q = rw (and-left (wordByte c) true h) (grow-first c (lex s) q)
+lex-word c (d ∷ n) s h q =
+    rw (and-left (wordByte c) (all wordByte (d ∷ n)) h) (ap (grow c) (lex-word d n s (and-right (wordByte c) (all wordByte (d ∷ n)) h) q))
