@@ -2,4 +2,3 @@
 pub mod Texts
 pub mod Digits
 pub mod Lookups
-pub mod Finds

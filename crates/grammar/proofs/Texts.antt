@@ -16,12 +16,6 @@ rest-some s i h = rw (add-one, drop-cons s i 0)
 pub rest-none : (s : Text) (i : ℕ) → length s ≤ i → drop i s ≡ []
 rest-none s i h = drop-of-length-le s h
 
--- any text begins with nothing
-pub starts-nothing : (t : Text) → starts t [] ≡ true
-unfolding starts
-starts-nothing [] = refl
-starts-nothing (x ∷ t) = refl
-
 -- a step along a text and a word
 module _ (s word : Text) (n i : ℕ) (h : i < length word) where
   pub starts-short : length s ≤ n → starts (drop n s) (drop i word) ≡ false

@@ -9,4 +9,7 @@ pub mod Fuel
 pub mod Loops
 pub mod Numbers
 pub mod Words
+pub mod Finds
+pub mod Steps
+pub mod NameSteps
 pub mod Examples
