@@ -1,0 +1,9 @@
+// That the reading agrees with the catalogue's trees is proved in specs/. The code here is the limit that demand 3 speaks of.
+ghost use mathlib.Core.Path.{_≡_};
+ghost use Rattle.grammar.specs.Names.{most-symbol-bytes};
+
+pub fn most_symbol_bytes() -> usize
+    ensures { λ r. ⌜ r ≡ most-symbol-bytes ⌝ }
+{
+    4096
+}
