@@ -1,0 +1,58 @@
+-- `parser::literal::cast` puts the type in parentheses and the value behind it. Assumes nothing.
+use mathlib.Core.Path.{_≡_, _∙_}
+use native.Mathlib.Omega.{arith}
+use mathlib.Core.List.{_++_}
+use Prim.Native.Nat.{_-_}
+use Rattle.grammar.specs.Text.{b}
+use lib.ListN.{length, length-append}
+use Rattle.parser.specs.Holds.{part}
+use Rattle.parser.specs.Laws.{less, given-refines}
+use Rattle.parser.specs.Literals.{signed, length-signed, length-part, stands-size}
+use borrow.Author.Needs.{needs}
+use Rattle.parser.proofs.literal.cast.Statement.{statement}
+use Rattle.parser.proofs.literal.cast.Tie as tie
+
+enclosed-requires : tie.Need-enclosed-requires
+enclosed-requires c κs = search needs
+
+value-requires : tie.Need-value-requires
+value-requires c κs = search needs
+
+sub-size : tie.Need-sub-size
+sub-size c = search needs
+
+add-given : tie.Need-add-given
+add-given c = search needs
+
+add-given-2 : tie.Need-add-given-2
+add-given-2 c = omega (arith, c .before .before .before .before .before .before .before .before .before .before .pre)
+
+given-requires : tie.Need-given-requires
+given-requires c κs = search needs
+
+same-length : tie.Need-same-length
+same-length c = search needs
+
+returns : tie.Need-returns
+returns c =
+    λ store ends k d base from t σ h l m.
+    let a = c .before .before .before .before .before .before .before .before .before .before .before .args in
+    let v = signed (part (a .s .now) (a .from) (a .to)) in
+    let z : length v ≡ a .to - a .from = length-signed _ ∙ length-part _ _ _ (c .before .before .before .before .before .before .before .before .before .before .before .pre .1 .1 .1 .1 .0) in
+    let e = c .before .before .before .before .before .before .before .enclosed .ensures .stands l h in
+    let w = c .before .before .before .value .ensures .stands e in
+    let q = length-append (b "(" ++ t ++ b ")") v in
+    rw (c .given .ensures) (less (omega arith) (given-refines (stands-size w _ (omega (arith, q, z, e .size, c .before .before .before .before .before .before .before .before .before .before .before .pre)))))
+
+pub cast-spec : {M : Type 1} → statement M
+cast-spec =
+    tie.close
+    (tie.spec
+    enclosed-requires
+    value-requires
+    sub-size
+    add-given
+    add-given-2
+    given-requires
+    same-length
+    returns)

@@ -1,0 +1,62 @@
+-- `parser::literal::truth` drops the type and puts the word. Assumes nothing.
+use mathlib.Core.Path.{refl, sym, _∙_}
+use Rattle.grammar.specs.Text.{if_then_else_, b}
+use Rattle.parser.specs.Holds.{given-of}
+use Rattle.parser.specs.Laws.{by, given-refines}
+use Rattle.parser.specs.Literals.{truth-of, stands-bare, stands-puts, stands-size}
+use borrow.Author.Needs.{needs}
+use Rattle.parser.proofs.literal.truth.Statement.{statement}
+use Rattle.parser.proofs.literal.truth.Tie as tie
+
+cut-requires : tie.Need-cut-requires
+cut-requires c κs = search needs
+
+one-requires : tie.Need-one-requires
+one-requires c κs = search needs
+
+slice-aggregate-put : tie.Need-slice-aggregate-put
+slice-aggregate-put c = search needs
+
+put-requires : tie.Need-put-requires
+put-requires c κs = search needs
+
+same-length : tie.Need-same-length
+same-length c = search needs
+
+returns : tie.Need-returns
+unfolding truth-of given-of if_then_else_ b
+returns c =
+    λ store ends k d base from t σ h l m.
+    let w = stands-puts (stands-bare l m h (c .before .before .before .before .before .before .before .before .before .cut .ensures)) (c .before .before .put .ensures) in
+    by (rw (sym (c .before .before .before .before .before .before .one .ensures) ∙ c .before .before .before .before .before .if1 .taken)) (given-refines (stands-size w 4 refl))
+
+slice-aggregate-put-2 : tie.Need-slice-aggregate-put-2
+slice-aggregate-put-2 c = search needs
+
+put-requires-2 : tie.Need-put-requires-2
+put-requires-2 c κs = search needs
+
+same-length-2 : tie.Need-same-length-2
+same-length-2 c = search needs
+
+returns-2 : tie.Need-returns-2
+unfolding truth-of given-of if_then_else_ b
+returns-2 c =
+    λ store ends k d base from t σ h l m.
+    let w = stands-puts (stands-bare l m h (c .before .before .before .before .before .before .before .before .before .cut .ensures)) (c .before .before .put2 .ensures) in
+    by (rw (sym (c .before .before .before .before .before .before .one .ensures) ∙ c .before .before .before .before .before .if1 .left)) (given-refines (stands-size w 5 refl))
+
+pub truth-spec : {M : Type 1} → statement M
+truth-spec =
+    tie.close
+    (tie.spec
+    cut-requires
+    one-requires
+    slice-aggregate-put
+    put-requires
+    same-length
+    returns
+    slice-aggregate-put-2
+    put-requires-2
+    same-length-2
+    returns-2)

@@ -1,0 +1,92 @@
+-- `parser::memory::push_sub` makes the newest n bytes an entry, and refuses with 9 where the table has no room. Assumes nothing.
+use native.Mathlib.Omega.{arith}
+use borrow.Author.Needs.{needs}
+use mathlib.Core.Path.{sym}
+use lib.Seq.{length-take-le}
+use Rattle.store.specs.Entries.{entries-sized}
+use Rattle.parser.specs.Holds.{full, low-bytes, low-ends}
+use Rattle.parser.specs.Halves.{store-size, ends-size, lent-size, fits-not, push-sub-no, pushes-by, pushes-sub}
+use Rattle.parser.proofs.memory.push_sub.Statement.{statement}
+use Rattle.parser.proofs.memory.push_sub.Tie as tie
+
+returns : tie.Need-returns
+returns c k d s base from t σ h = pushes-by (push-sub-no t σ (fits-not (h .holds .subs) t (λ i j. omega (arith, c .if1 .taken)))) full
+
+sub-if2 : tie.Need-sub-if2
+sub-if2 c = search needs
+
+returns-2 : tie.Need-returns-2
+returns-2 c k d s base from t σ h = pushes-by (push-sub-no t σ (fits-not (h .holds .subs) t (λ i j. omega (arith, c .if2 .taken, h .size, h .holds .subs .room)))) full
+
+sub-from : tie.Need-sub-from
+sub-from c = search needs
+
+slice-relend-prefix-push : tie.Need-slice-relend-prefix-push
+slice-relend-prefix-push c = omega (arith, store-size (c .before .before .before .before .before .before .pre .0 .1 .1))
+
+slice-aggregate-push : tie.Need-slice-aggregate-push
+slice-aggregate-push c = sym (length-take-le 32768 (c .before .before .before .before .before .before .before .args .store .now) (omega (arith, store-size (c .before .before .before .before .before .before .before .pre .0 .1 .1))))
+
+slice-relend-prefix-push-2 : tie.Need-slice-relend-prefix-push-2
+slice-relend-prefix-push-2 c = omega (arith, ends-size (c .before .before .before .before .before .before .before .pre .0 .1 .1))
+
+slice-aggregate-push-2 : tie.Need-slice-aggregate-push-2
+slice-aggregate-push-2 c = sym (length-take-le 1024 (c .before .before .before .before .before .before .before .before .args .ends .now) (omega (arith, ends-size (c .before .before .before .before .before .before .before .before .pre .0 .1 .1))))
+
+sub-push : tie.Need-sub-push
+sub-push c = search needs
+
+part-push-start : tie.Need-part-push-start
+part-push-start c = search needs
+
+part-push-end : tie.Need-part-push-end
+part-push-end c = search needs
+
+push-requires : tie.Need-push-requires
+unfolding low-bytes low-ends
+push-requires c κs =
+    let h = c .before .before .before .before .before .before .before .before .before .pre .0 .1 .1 in
+    (entries-sized (h .subs), (c .before .before .before .before .if1 .left, omega (arith, lent-size (c .before .before .before .before .before .before .before .before .before .args .n) (h .text) (omega (arith, c .before .before .before .if2 .left)), c .before .before .before .if2 .left)))
+
+add-with-subs : tie.Need-add-with-subs
+add-with-subs c = search needs
+
+add-with-subs-2 : tie.Need-add-with-subs-2
+add-with-subs-2 c = omega (arith, c .before .before .before .before .before .before .before .before .if2 .left)
+
+with-subs-requires : tie.Need-with-subs-requires
+with-subs-requires c κs = search needs
+
+same-length : tie.Need-same-length
+same-length c = search needs
+
+same-length-2 : tie.Need-same-length-2
+same-length-2 c = search needs
+
+returns-3 : tie.Need-returns-3
+unfolding low-bytes low-ends
+returns-3 c k d s base from t σ h =
+    pushes-sub h (omega (arith, c .before .before .before .before .before .before .before .before .before .if2 .left)) (c .before .before .before .before .before .before .before .before .before .before .if1 .left) (omega (arith, c .before .before .before .before .before .before .before .before .before .if2 .left, h .holds .subs .room)) (c .with-subs .ensures) (c .before .before .before .before .before .push .ensures _ (h .holds .subs))
+
+pub push-sub-spec : {M : Type 1} → statement M
+push-sub-spec =
+    tie.close
+    (tie.spec
+    returns
+    sub-if2
+    returns-2
+    sub-from
+    slice-relend-prefix-push
+    slice-aggregate-push
+    slice-relend-prefix-push-2
+    slice-aggregate-push-2
+    sub-push
+    part-push-start
+    part-push-end
+    push-requires
+    add-with-subs
+    add-with-subs-2
+    with-subs-requires
+    same-length
+    same-length-2
+    returns-3)

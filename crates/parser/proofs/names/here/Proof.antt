@@ -1,0 +1,18 @@
+-- `parser::names::here` tells whether the byte at a place is c; past the end there is none. Assumes nothing.
+use mathlib.Core.Path.{sym}
+use borrow.Author.Needs.{needs}
+use Rattle.parser.specs.Runs.{starts-one, starts-none}
+use Rattle.parser.proofs.names.here.Statement.{statement}
+use Rattle.parser.proofs.names.here.Tie as tie
+
+returns : tie.Need-returns
+returns c = sym (starts-none _ _ _ (c .if1 .taken))
+
+shared-slice-read-result : tie.Need-shared-slice-read-result
+shared-slice-read-result c = search needs
+
+returns-2 : tie.Need-returns-2
+returns-2 c = sym (starts-one _ _ _ (c .before .if1 .left))
+
+pub here-spec : {M : Type 1} → statement M
+here-spec = tie.close (tie.spec returns shared-slice-read-result returns-2)

@@ -1,0 +1,33 @@
+-- `parser::names::numbered` finds the place behind digits and an underscore, if there are any. Assumes nothing.
+use mathlib.Core.Path.{sym, _∙_}
+use native.Mathlib.Omega.{arith}
+use borrow.Author.Needs.{needs}
+use Rattle.grammar.specs.Text.{if_then_else_}
+use Rattle.parser.specs.Runs.{starts-inside}
+use Rattle.parser.specs.Source.{behind-number}
+use Rattle.parser.proofs.names.numbered.Statement.{statement}
+use Rattle.parser.proofs.names.numbered.Tie as tie
+
+decimal-requires : tie.Need-decimal-requires
+decimal-requires c κs = search needs
+
+here-requires : tie.Need-here-requires
+here-requires c κs = search needs
+
+add-result : tie.Need-add-result
+add-result c = search needs
+
+returns : tie.Need-returns
+unfolding behind-number if_then_else_
+returns c =
+    let e = sym (c .before .here .ensures) ∙ c .if1 .taken in
+    (rw (← c .before .before .decimal .ensures .behind, e), omega (arith, starts-inside (c .before .before .before .before .args .s .now) (c .before .before .decimal .result .next) 95 e))
+
+returns-2 : tie.Need-returns-2
+unfolding behind-number if_then_else_
+returns-2 c =
+    let e = sym (c .before .here .ensures) ∙ c .if1 .left in
+    (rw (← c .before .before .decimal .ensures .behind, e), omega (arith, c .before .before .decimal .ensures .inside))
+
+pub numbered-spec : {M : Type 1} → statement M
+numbered-spec = tie.close (tie.spec decimal-requires here-requires add-result returns returns-2)

@@ -1,0 +1,95 @@
+-- `parser::names::old_entry` reads the number of an entry and puts the entry on the stack. Assumes nothing.
+use mathlib.Core.Path.{sym, _∙_}
+use native.Mathlib.Omega.{arith}
+use borrow.Author.Tests.{not-true, not-false}
+use Rattle.parser.specs.Holds.{refuses}
+use Rattle.parser.specs.Laws.{by}
+use Rattle.parser.specs.Halves.{none-given}
+use Rattle.parser.specs.Runs.{starts-inside}
+use Rattle.parser.specs.Adds.{reads-moved, ready-moved}
+use Rattle.parser.specs.References.{index-none, index-some, entry-open, entry-is}
+use borrow.Author.Needs.{needs}
+use Rattle.parser.proofs.names.old_entry.Statement.{statement}
+use Rattle.parser.proofs.names.old_entry.Tie as tie
+
+seq-id-requires : tie.Need-seq-id-requires
+seq-id-requires c κs = search needs
+
+here-requires : tie.Need-here-requires
+here-requires c κs = search needs
+
+returns : tie.Need-returns
+returns c = λ σ h. by (entry-open _ _ σ (h .rest) (c .before .before .seq-id .ensures .behind) (sym (c .before .here .ensures) ∙ not-true _ (c .if1 .taken))) refuses
+
+add-moved : tie.Need-add-moved
+add-moved c = search needs
+
+moved-requires : tie.Need-moved-requires
+moved-requires c κs = search needs
+
+recall-requires : tie.Need-recall-requires
+recall-requires c κs =
+    let s = c .before .before .before .before .before .before .before .before .before .before .args .s .now in
+    let l = starts-inside s (c .before .before .before .before .before .seq-id .result .next) 95 (sym (c .before .before .before .before .here .ensures) ∙ not-false _ (c .before .before .before .if1 .left)) in
+    (s, ready-moved _ (c .before .before .moved .ensures) (c .before .before .before .before .before .before .before .before .before .before .pre .1) (omega (arith, l)))
+
+same-length : tie.Need-same-length
+same-length c = search needs
+
+returns-2 : tie.Need-returns-2
+returns-2 c = λ σ h.
+    let s = c .before .before .before .before .before .before .before .before .before .before .before .before .before .args .s .now in
+    let n = c .before .before .before .before .before .before .before .before .seq-id .ensures .behind in
+    let e = (sym (c .before .before .before .before .before .before .before .here .ensures) ∙ not-false _ (c .before .before .before .before .before .before .if1 .left)) in
+    let l = starts-inside s (c .before .before .before .before .before .before .before .before .seq-id .result .next) 95 e in
+    by (entry-is s _ σ (h .rest) n 0 (index-none 36 _ (omega (arith, n, c .before .before .before .before .if2 .taken))) e)
+    (reads-moved (c .before .before .before .before .before .moved .ensures) (c .before .before .recall .ensures s) h (omega (arith, l)) (omega (arith, n)))
+
+returns-3 : tie.Need-returns-3
+returns-3 c = λ σ h.
+    let s = c .before .before .before .before .before .before .before .before .before .before .before .args .s .now in
+    let d = c .before .before .before .before .before .before .seq-id .ensures in
+    by
+    (entry-is s _ σ (h .rest) (d .behind) _ (index-some 36 _ (λ z. c .before .before .if2 .left (omega (arith, d .behind, z)))) (sym (c .before .before .before .before .before .here .ensures) ∙ not-false _ (c .before .before .before .before .if1 .left))
+    ∙ none-given (σ .subs) _ _ _ (omega (arith, d .is, c .if3 .taken, h .subs .count-is, h .subs .most)))
+    refuses
+
+add-k : tie.Need-add-k
+add-k c = search needs
+
+recall-requires-2 : tie.Need-recall-requires-2
+recall-requires-2 c κs =
+    let s = c .before .before .before .before .before .before .before .before .before .before .before .before .args .s .now in
+    let l = starts-inside s (c .before .before .before .before .before .before .before .seq-id .result .next) 95 (sym (c .before .before .before .before .before .before .here .ensures) ∙ not-false _ (c .before .before .before .before .before .if1 .left)) in
+    (s, ready-moved _ (c .before .before .before .before .moved .ensures) (c .before .before .before .before .before .before .before .before .before .before .before .before .pre .1) (omega (arith, l)))
+
+same-length-2 : tie.Need-same-length-2
+same-length-2 c = search needs
+
+returns-4 : tie.Need-returns-4
+returns-4 c = λ σ h.
+    let s = c .before .before .before .before .before .before .before .before .before .before .before .before .before .before .before .args .s .now in
+    let d = c .before .before .before .before .before .before .before .before .before .before .seq-id .ensures in
+    let e = (sym (c .before .before .before .before .before .before .before .before .before .here .ensures) ∙ not-false _ (c .before .before .before .before .before .before .before .before .if1 .left)) in
+    let l = starts-inside s (c .before .before .before .before .before .before .before .before .before .before .seq-id .result .next) 95 e in
+    by
+    (entry-is s _ σ (h .rest) (d .behind) _ (index-some 36 _ (λ z. c .before .before .before .before .before .before .if2 .left (omega (arith, d .behind, z))) ∙ omega (arith, d .is, c .before .before .before .before .if3 .left)) e)
+    (reads-moved (c .before .before .before .before .before .before .before .moved .ensures) (c .before .before .recall2 .ensures s) h (omega (arith, l)) (omega (arith, d .behind)))
+
+pub old-entry-spec : {M : Type 1} → statement M
+old-entry-spec =
+    tie.close
+    (tie.spec
+    seq-id-requires
+    here-requires
+    returns
+    add-moved
+    moved-requires
+    recall-requires
+    same-length
+    returns-2
+    returns-3
+    add-k
+    recall-requires-2
+    same-length-2
+    returns-4)

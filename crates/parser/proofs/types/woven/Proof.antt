@@ -1,0 +1,21 @@
+-- `parser::types::woven` meets its contract: the product of two numbers up to 65,536 does not wrap. Assumes nothing.
+use native.Mathlib.Nat.{mul-le-mul-right}
+use native.Mathlib.Omega.{arith}
+use borrow.Author.Needs.{needs}
+use Rattle.parser.proofs.types.woven.Statement.{statement}
+use Rattle.parser.proofs.types.woven.Tie as tie
+
+mul-more : tie.Need-mul-more
+mul-more c = omega (arith, mul-le-mul-right (c .args .each) (c .pre .1 .0), c .pre .1 .1)
+
+add-size : tie.Need-add-size
+add-size c = omega (arith, mul-le-mul-right (c .args .each) (c .pre .1 .0), c .pre .0, c .pre .1 .1)
+
+returns : tie.Need-returns
+returns c = search needs
+
+returns-2 : tie.Need-returns-2
+returns-2 c = search needs
+
+pub woven-spec : {M : Type 1} → statement M
+woven-spec = tie.close (tie.spec mul-more add-size returns returns-2)

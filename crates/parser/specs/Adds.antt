@@ -1,0 +1,79 @@
+-- Texts put on the stack one after the other: what they come to. Assumes nothing.
+use mathlib.Core.List.{[], _++_, append-assoc, append-nil}
+use mathlib.Core.Path.{_≡_, refl, sym, ap, _∙_, subst}
+use Prim.Native.Nat.{ℕ, _+_, _≤_, min}
+use native.Mathlib.Omega.{arith}
+use lib.ListN.{length, take, drop}
+use Rattle.grammar.specs.Text.{Text}
+use Rattle.grammar.specs.Reader.{State, Reader}
+use Rattle.grammar.specs.Agree.{moved}
+use Rattle.store.specs.Stack.{Clean, Tail}
+use Rattle.store.specs.Tails.{put-tail, chain, whole}
+use Rattle.parser.specs.declared.state.Parser.{Parser}
+use Rattle.parser.specs.declared.state.Read.{Read}
+use Rattle.parser.specs.States.{raised-to, moved-to}
+use Rattle.parser.specs.Holds.{Memory, mem, window, Holds, Ready, Reads, Refines, Stands, Puts}
+use Rattle.parser.specs.Laws.{by-state, holds-text, holds-moved, sooner}
+
+-- the text t was put on the stack in parts, and the state has the new top; the newest 49,152 bytes, at least, are there
+pub record Adds (text text' : Text) (p p' : Parser) (t : Text) : Type 0 where
+  pub same : p' ≡ raised-to p (p' .top)
+  pub clean : Clean text' (p' .top)
+  pub tail : Tail 49152 (take (p' .top) text') (take (p .top) text ++ t)
+
+pub adds-none : {text : Text} {p : Parser} → Clean text (p .top) → Adds text text p p []
+adds-none {text} {p} c = record { same = refl; clean = c; tail = rw append-nil (whole 49152 (take (p .top) text)) }
+
+pub adds-more : {text text' text'' : Text} {p p' p'' : Parser} {t u : Text} → Adds text text' p p' t → Puts text' text'' p' p'' u → Adds text text'' p p'' (t ++ u)
+adds-more {p'' = p''} {t = t} {u = u} a h = record {
+  same = h .same ∙ ap (λ (q : Parser). raised-to q (p'' .top)) (a .same);
+  clean = h .put .clean;
+  tail = rw (← append-assoc) (put-tail u (a .clean) (omega arith) (h .put) (a .tail));
+}
+
+pub adds-adds : {text text' text'' : Text} {p p' p'' : Parser} {t u : Text} → Adds text text' p p' t → Adds text' text'' p' p'' u → Adds text text'' p p'' (t ++ u)
+adds-adds {p'' = p''} {t = t} {u = u} a b = record {
+  same = b .same ∙ ap (λ (q : Parser). raised-to q (p'' .top)) (a .same);
+  clean = b .clean;
+  tail = rw (← append-assoc) (chain u (a .tail) (b .tail));
+}
+
+-- the same from another place
+pub adds-moved : {text text' : Text} {p p' : Parser} {t : Text} (at : ℕ) → Adds text text' p p' t → Adds text text' (moved-to p at) (moved-to p' at) t
+adds-moved at a = record { same = ap (λ (q : Parser). moved-to q at) (a .same); clean = a .clean; tail = a .tail }
+
+-- a text put by a state that a method handed back
+pub puts-from : {text text' : Text} {p q r : Parser} {t : Text} → q ≡ p → Puts text text' q r t → Puts text text' p r t
+puts-from {text} {text'} {p} {q} {r} {t} e h = subst (λ (x : Parser). Puts text text' x r t) e h
+
+pub clean-by : {text : Text} {p q : Parser} → q ≡ p → Clean text (p .top) → Clean text (q .top)
+clean-by {text} {p} {q} e c = subst (λ (x : Parser). Clean text (x .top)) (sym e) c
+
+pub puts-at : {text text' : Text} {p q r : Parser} {t : Text} → q ≡ p → Puts text text' q r t → r .at ≡ p .at
+puts-at e h = ap (λ (x : Parser). x .at) (h .same) ∙ ap (λ (x : Parser). x .at) e
+
+module _ {s text text' store ends : Text} {p p' : Parser} {t : Text} {σ : State} (a : Adds text text' p p' t) (h : Holds s (mem text store ends) p σ) where
+  pub holds-adds : Holds s (mem text' store ends) p' σ
+  holds-adds = by-state (a .same) (holds-text h (p' .top) (a .clean))
+
+  pub stands-adds : {n from : ℕ} → n ≡ min (length t) 65536 → from ≤ p .at → Stands 49152 (p .depth) s (take (p .top) text) from (mem text' store ends) p' n t σ
+  stands-adds e l = record {
+    holds = holds-adds;
+    tail = a .tail;
+    size = e;
+    level = ap (λ (q : Parser). q .depth) (a .same);
+    more = omega (arith, l, ap (λ (q : Parser). q .at) (a .same));
+    least = omega arith;
+    most = omega arith;
+  }
+
+-- a reading of the code from another place, seen from where the state came from
+pub reads-moved :
+    {f : Reader Text} {k at from : ℕ} {s : Text} {m m' : Memory} {p q : Parser} {r : Read} {σ : State} →
+    q ≡ moved-to p at → Reads f k (q .at) s m m' q r → Holds s m p σ → at ≤ length s → from ≤ at →
+    Refines k (p .depth) s (window m p) from m' r (f (moved (drop at s) σ))
+reads-moved {f = f} {k = k} {at = at} {s = s} {m = m} {m' = m'} {p = p} {q = q} {r = r} {σ = σ} e h g l u =
+    sooner u (subst (λ (x : Parser). Reads f k (x .at) s m m' x r) e h (moved (drop at s) σ) (holds-moved g at l))
+
+pub ready-moved : {s : Text} {m : Memory} {p q : Parser} {σ : State} (at : ℕ) → q ≡ moved-to p at → Holds s m p σ → at ≤ length s → Ready s m q
+ready-moved {s} {σ = σ} at e h l = (moved (drop at s) σ, by-state e (holds-moved h at l))

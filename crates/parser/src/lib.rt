@@ -1,0 +1,7 @@
+// The reader's state and answers, and the readings that call no other reading back.
+pub mod leaf;
+pub mod literal;
+pub mod memory;
+pub mod names;
+pub mod state;
+pub mod types;

@@ -1,0 +1,283 @@
+// Source names, references and the other names that are made of letters and digits alone.
+ghost use mathlib.Core.Path.{_≡_};
+ghost use mathlib.Core.Bool.{not};
+ghost use mathlib.Core.List.{List, [], _∷_};
+ghost use Prim.Native.Nat.{ℕ, _+_, _≤_};
+ghost use lib.Dec.{eqb};
+ghost use lib.ListN.{length, drop, getElem?};
+ghost use Rattle.grammar.specs.Text.{Text, choose, starts, run, decimal};
+ghost use Rattle.grammar.specs.Reader.{give};
+ghost use Rattle.grammar.specs.Words.{Inside, spelled};
+ghost use Rattle.grammar.specs.Grammar.{⟨source-name⟩, ⟨template-param⟩, ⟨substitution⟩, unnamed-type-name, reading};
+ghost use Rattle.store.specs.Stack.{Clean};
+ghost use Rattle.parser.specs.Holds.{mem, Ready, Reads};
+ghost use Rattle.parser.specs.Adds.{Adds};
+ghost use Rattle.parser.specs.Source.{identified, closers, behind-number};
+ghost use Rattle.parser.specs.References.{entry-at};
+use crate::memory;
+use crate::state::Parser;
+use crate::state::Read;
+use grammar::codes;
+use grammar::codes::Picked;
+use grammar::numbers;
+use grammar::numbers::Number;
+
+pub enum Found {
+    Part(usize, usize),
+    Nothing,
+}
+
+// Whether the byte stands at a place.
+pub fn here(s: &[u8], at: usize, c: u8) -> bool
+    ensures { λ r. ⌜ r ≡ starts (drop at (now (s .entry))) (c ∷ []) ⌝ }
+{
+    if s.len() <= at {
+        return false;
+    }
+    s[at] == c
+}
+
+// The identifier behind its length.
+pub fn identifier(s: &[u8], at: usize) -> Found
+    requires { ⌜ (at ≤ length (now s)) × (length (now s) ≤ 16384) ⌝ }
+    ensures { λ r. ⌜ r ≡ identified (now (s .entry)) at ⌝ }
+{
+    let length = numbers::decimal(s, at);
+    let from = length.next;
+    if length.value == 0 {
+        return Found::Nothing;
+    }
+    let left = (s.len() - from) as u64;
+    if left < length.value {
+        return Found::Nothing;
+    }
+    let to = from + length.value as usize;
+    Found::Part(from, to)
+}
+
+// A closing bracket for each tag.
+fn close_tags(text: &mut [u8], p: Parser, tags: usize) -> Parser
+    requires { ⌜ Clean (now text) (p .top) ⌝ }
+    ensures { λ r. ⌜ Adds (now (text .entry)) (now (text .exit)) p r (closers tags) ⌝ }
+{
+    let mut next = p;
+    let mut closed: usize = 0;
+    while closed < tags {
+        next = memory::put(text, next, b"]");
+        closed += 1;
+    }
+    next
+}
+
+// <source-name> ::= <positive length number> <identifier>
+// <abi-tags> ::= B <source-name>
+pub fn source_name(s: &[u8], text: &mut [u8], p: Parser) -> Read
+    requires { ⌜ (p .at ≤ length (now s)) × ((length (now s) ≤ 16384) × Clean (now text) (p .top)) ⌝ }
+    ensures { λ r. ⌜ ((store ends : List ℕ) → Reads (reading ⟨source-name⟩) 49152 (p .at + 1) (now (s .entry))
+        (mem (now (text .entry)) store ends) (mem (now (text .exit)) store ends) p r) ⌝ }
+{
+    let mut next = p;
+    let mut n: usize = 0;
+    let mut tags: usize = 0;
+    loop {
+        let at = next.at;
+        let Found::Part(from, to) = identifier(s, at) else {
+            return Read::Refused(4);
+        };
+        let size = to - from;
+        next = memory::put_part(s, text, next.moved(to), from, to);
+        n = memory::sum(n, size);
+        if !here(s, to, b'B') {
+            let done = close_tags(text, next, tags);
+            return memory::given(done, memory::sum(n, tags));
+        }
+        next = memory::put(text, next.moved(to + 1), b"[abi:");
+        n = memory::sum(n, 5);
+        tags += 1;
+    }
+}
+
+// <substitution> ::= St | Sa | .. | S_ | S <seq-id> _
+pub fn substitution(s: &[u8], text: &mut [u8], store: &[u8], ends: &[u16], p: Parser) -> Read
+    requires { ⌜ Ready (now s) (mem (now text) (now store) (now ends)) p ⌝ }
+    ensures { λ r. ⌜ Reads (reading ⟨substitution⟩) 49152 (p .at + 1) (now (s .entry))
+        (mem (now (text .entry)) (now (store .entry)) (now (ends .entry)))
+        (mem (now (text .exit)) (now (store .entry)) (now (ends .entry))) p r ⌝ }
+{
+    let first = p.at;
+    if !here(s, first, b'S') {
+        return Read::Refused(4);
+    }
+    let at = first + 1;
+    if s.len() <= at {
+        return Read::Refused(4);
+    }
+    let picked = codes::abbreviation(s[at]);
+    let Picked::At(w) = picked else {
+        return old_entry(s, text, store, ends, p.moved(at));
+    };
+    word(text, p.moved(at + 1), w)
+}
+
+// S_ | S <seq-id> _, behind S
+fn old_entry(s: &[u8], text: &mut [u8], store: &[u8], ends: &[u16], p: Parser) -> Read
+    requires { ⌜ Ready (now s) (mem (now text) (now store) (now ends)) p ⌝ }
+    ensures { λ r. ⌜ Reads entry-at 49152 (p .at) (now (s .entry))
+        (mem (now (text .entry)) (now (store .entry)) (now (ends .entry)))
+        (mem (now (text .exit)) (now (store .entry)) (now (ends .entry))) p r ⌝ }
+{
+    let at = p.at;
+    let number = numbers::seq_id(s, at);
+    let end = number.next;
+    if !here(s, end, b'_') {
+        return Read::Refused(4);
+    }
+    let next = p.moved(end + 1);
+    if end == at {
+        return memory::recall(text, store, ends, next, 0);
+    }
+    if Parser::ENTRIES as u64 <= number.value {
+        return Read::Refused(7);
+    }
+    let k = number.value as usize + 1;
+    memory::recall(text, store, ends, next, k)
+}
+
+// A word of a table.
+pub fn word(text: &mut [u8], p: Parser, w: codes::Word) -> Read
+    requires { ⌜ (Clean (now text) (p .top)) × Inside w ⌝ }
+    ensures { λ r. ⌜ ((s store ends : List ℕ) → Reads (give (spelled w)) 49152 (p .at) s
+        (mem (now (text .entry)) store ends) (mem (now (text .exit)) store ends) p r) ⌝ }
+{
+    let n = w.to - w.from;
+    Read::Text(memory::put_word(text, p, w), n)
+}
+
+// <template-param> ::= T_ | T <number> _
+pub fn template_param(s: &[u8], text: &mut [u8], store: &[u8], ends: &[u16], p: Parser) -> Read
+    requires { ⌜ Ready (now s) (mem (now text) (now store) (now ends)) p ⌝ }
+    ensures { λ r. ⌜ Reads (reading ⟨template-param⟩) 49152 (p .at + 1) (now (s .entry))
+        (mem (now (text .entry)) (now (store .entry)) (now (ends .entry)))
+        (mem (now (text .exit)) (now (store .entry)) (now (ends .entry))) p r ⌝ }
+{
+    let first = p.at;
+    if !here(s, first, b'T') {
+        return Read::Refused(4);
+    }
+    let at = first + 1;
+    let number = numbers::decimal(s, at);
+    let end = number.next;
+    if !here(s, end, b'_') {
+        return Read::Refused(4);
+    }
+    let next = p.moved(end + 1);
+    if end == at {
+        return argument(text, store, ends, next, 0);
+    }
+    if number.value == Number::PAST {
+        return Read::Refused(4);
+    }
+    let i = number.value + 1;
+    argument(text, store, ends, next, i)
+}
+
+// Template argument i, or T and i.
+pub fn argument(text: &mut [u8], store: &[u8], ends: &[u16], p: Parser, i: u64) -> Read
+    requires { ⌜ ((s : Text) × Ready s (mem (now text) (now store) (now ends)) p) ⌝ }
+    ensures { λ r. ⌜ ((s : Text) → Reads (λ σ. choose (getElem? (σ .args) i) give (give (84 ∷ decimal 20 i)) σ) 49152 (p .at) s
+        (mem (now (text .entry)) (now (store .entry)) (now (ends .entry)))
+        (mem (now (text .exit)) (now (store .entry)) (now (ends .entry))) p r) ⌝ }
+{
+    let args = p.args;
+    if i < args.count as u64 {
+        return memory::recall_arg(text, store, ends, p, i as usize);
+    }
+    number(text, p, i)
+}
+
+// T and the number in decimal.
+pub fn number(text: &mut [u8], p: Parser, i: u64) -> Read
+    requires { ⌜ Clean (now text) (p .top) ⌝ }
+    ensures { λ r. ⌜ ((s store ends : List ℕ) → Reads (give (84 ∷ decimal 20 i)) 49152 (p .at) s
+        (mem (now (text .entry)) store ends) (mem (now (text .exit)) store ends) p r) ⌝ }
+{
+    let mut digits = [0u8; 21];
+    let mut from: usize = 21;
+    let mut rest = i;
+    while 10 <= rest {
+        from -= 1;
+        digits[from] = 48 + (rest % 10) as u8;
+        rest = rest / 10;
+    }
+    let last = from - 1;
+    digits[last] = 48 + rest as u8;
+    let start = last - 1;
+    digits[start] = b'T';
+    let n = 21 - start;
+    Read::Text(memory::put(text, p, &digits[start..]), n)
+}
+
+// <unnamed-type-name> ::= Ut [<number>] _
+// <closure-type-name> ::= Ul <lambda-sig> E [<number>] _, behind U
+pub fn unnamed_type_name(s: &[u8], text: &mut [u8], p: Parser) -> Read
+    requires { ⌜ Clean (now text) (p .top) ⌝ }
+    ensures { λ r. ⌜ ((store ends : List ℕ) → Reads unnamed-type-name 49152 (p .at) (now (s .entry))
+        (mem (now (text .entry)) store ends) (mem (now (text .exit)) store ends) p r) ⌝ }
+{
+    let at = p.at;
+    if s.len() <= at {
+        return Read::Refused(4);
+    }
+    if s[at] == b'l' {
+        let end = before(s, at + 1, b'E');
+        if s.len() <= end {
+            return Read::Refused(4);
+        }
+        let next = numbered(s, end + 1);
+        return Read::Text(memory::put(text, p.moved(next), b"{lambda}"), 8);
+    }
+    let next = numbered(s, at + 1);
+    Read::Text(memory::put(text, p.moved(next), b"{unnamed}"), 9)
+}
+
+// The place behind digits and an underscore, if there are any.
+pub fn numbered(s: &[u8], at: usize) -> usize
+    requires { ⌜ at ≤ length (now s) ⌝ }
+    ensures { λ r. ⌜ (r ≡ behind-number (now (s .entry)) at) × (r ≤ length (now (s .entry))) ⌝ }
+{
+    let end = numbers::decimal(s, at).next;
+    if here(s, end, b'_') {
+        return end + 1;
+    }
+    end
+}
+
+// The place of the next byte c, or the end.
+pub fn before(s: &[u8], at: usize, c: u8) -> usize
+    requires { ⌜ at ≤ length (now s) ⌝ }
+    ensures { λ r. ⌜ (r ≡ at + length (run (λ x. not (eqb x c)) (drop at (now (s .entry))))) × (r ≤ length (now (s .entry))) ⌝ }
+{
+    let mut end = at;
+    while end < s.len() {
+        if s[end] == c {
+            return end;
+        }
+        end += 1;
+    }
+    end
+}
+
+// The place behind all bytes c.
+pub fn behind(s: &[u8], at: usize, c: u8) -> usize
+    requires { ⌜ at ≤ length (now s) ⌝ }
+    ensures { λ r. ⌜ (r ≡ at + length (run (λ x. eqb x c) (drop at (now (s .entry))))) × (r ≤ length (now (s .entry))) ⌝ }
+{
+    let mut end = at;
+    while end < s.len() {
+        if s[end] != c {
+            return end;
+        }
+        end += 1;
+    }
+    end
+}
