@@ -1,7 +1,8 @@
--- The productions of the ABI's chapter 5.1 as the Rust reads them, in the ABI's order, each below its production.
--- A reader starts at its production's first byte and returns the text that is printed. The twelve productions of the
--- type `Production` are read by `read`; the others stand above the one that they are part of. D-1, D-2, .. are the
--- Rust's departures from the ABI, by their numbers in docs/DIFFERENCES.md.
+-- The productions of the ABI's chapter 5.1 as the Rust reads them, each below its production: those of letters and digits
+-- alone first, then the others in the ABI's order. A reader starts at its production's first byte, or behind the letter that
+-- its comment names, and returns the text that is printed. The twelve productions of the type `Production` are read by
+-- `read`; a part that only one of them has stands above it. D-1, D-2, .. are the Rust's departures from the ABI, by their
+-- numbers in docs/DIFFERENCES.md.
 use mathlib.Core.Bool.{Bool, true, false, not, _&&_, _||_}
 use mathlib.Core.List.{List, [], _∷_, _++_}
 use mathlib.Core.Option.{Option, none, some}
@@ -171,7 +172,7 @@ pub record Parts : Type 0 where
 
 -- ---------------------------------------------------------------- productions of letters and digits alone
 
--- <unnamed-type-name> ::= Ut [<number>] _, or U and any other byte (D-25)
+-- <unnamed-type-name> ::= Ut [<number>] _, behind U, or U and any other byte (D-25)
 -- <closure-type-name> ::= Ul <lambda-sig> E [<number>] _: what stands before the E is not read (D-5)
 unfoldable pub unnamed-type-name : Reader Text
 unnamed-type-name = do
@@ -404,21 +405,21 @@ module _ (read : Production → Reader Text) where
   -- ---------------------------------------------------------------- types
 
   -- <qualified-type> ::= <CV-qualifiers> <type>: each of r, V and K is an entry (D-10)
-  -- <type> ::= P <type> | R <type> | O <type> | C <type>: put at each slot of the text below (D-12), before F too (D-48),
+  -- <type> ::= P <type> | R <type> | O <type> | C <type>, behind the letter: put at each slot of the text below (D-12), before F too (D-48),
   -- or behind it, an array too (D-47); references aren't collapsed (D-50)
   unfoldable pub wrapped : String × String → Reader Text
   wrapped w = do
     t ← read ⟨type⟩
     recorded (if holds slot t then at-slots (b (w .1)) t else t ++ b (w .0))
 
-  -- <function-type> ::= F <bare-function-type> E, without Y or a <ref-qualifier> (D-40); a slot in parentheses (D-49)
+  -- <function-type> ::= F <bare-function-type> E, behind F, without Y or a <ref-qualifier> (D-40); a slot in parentheses (D-49)
   unfoldable pub function-type : Reader Text
   function-type = do
     r ← read ⟨type⟩
     ts ← up-to-E (one-more (read ⟨type⟩)) []
     recorded (r ++ b " (" ++ (slot ∷ []) ++ b ")(" ++ (if only-void ts then [] else join (b ", ") ts) ++ b ")")
 
-  -- <array-type> ::= A [<dimension>] _ <type>: the dimension is not read (D-32), and the type is no entry (D-9)
+  -- <array-type> ::= A [<dimension>] _ <type>, behind A: the dimension is not read (D-32), and the type is no entry (D-9)
   unfoldable pub array-type : Reader Text
   array-type = do
     n ← every (λ c. not (eqb c (code "_")))
@@ -426,7 +427,7 @@ module _ (read : Production → Reader Text) where
     t ← read ⟨type⟩
     give (t ++ b " [" ++ n ++ b "]")
 
-  -- <pointer-to-member-type> ::= M <class type> <member type>, put at each slot of the member (D-12)
+  -- <pointer-to-member-type> ::= M <class type> <member type>, behind M: put at each slot of the member (D-12)
   unfoldable pub pointer-to-member-type : Reader Text
   pointer-to-member-type = do
     c ← read ⟨type⟩
