@@ -8,7 +8,7 @@ use Rattle.grammar.specs.Text.{Text}
 use Rattle.grammar.specs.Reader.{State, Reader}
 use Rattle.grammar.specs.Agree.{moved}
 use Rattle.store.specs.Stack.{Clean, Tail}
-use Rattle.store.specs.Tails.{put-tail, chain, whole}
+use Rattle.store.specs.Tails.{put-tail, chain, whole, weaken}
 use Rattle.parser.specs.declared.state.Parser.{Parser}
 use Rattle.parser.specs.declared.state.Read.{Read}
 use Rattle.parser.specs.States.{raised-to, moved-to}
@@ -38,6 +38,17 @@ adds-adds {p'' = p''} {t = t} {u = u} a b = record {
   tail = rw (← append-assoc) (chain u (a .tail) (b .tail));
 }
 
+pub adds-one : {text text' : Text} {p p' : Parser} {t : Text} → Clean text (p .top) → Puts text text' p p' t → Adds text text' p p' t
+adds-one {text} {p = p} {t = t} c h = record {
+  same = h .same;
+  clean = h .put .clean;
+  tail = put-tail t c (omega arith) (h .put) (whole 49152 (take (p .top) text));
+}
+
+-- by an equation of the text
+pub adds-by : {text text' : Text} {p p' : Parser} {t u : Text} → u ≡ t → Adds text text' p p' t → Adds text text' p p' u
+adds-by e a = rw e a
+
 -- the same from another place
 pub adds-moved : {text text' : Text} {p p' : Parser} {t : Text} (at : ℕ) → Adds text text' p p' t → Adds text text' (moved-to p at) (moved-to p' at) t
 adds-moved at a = record { same = ap (λ (q : Parser). moved-to q at) (a .same); clean = a .clean; tail = a .tail }
@@ -66,6 +77,21 @@ module _ {s text text' store ends : Text} {p p' : Parser} {t : Text} {σ : State
     least = omega arith;
     most = omega arith;
   }
+
+-- behind a text that stands on the stack
+pub stands-more :
+    {k d : ℕ} {s base : Text} {from : ℕ} {text text' store ends : Text} {p p' : Parser} {n : ℕ} {t u : Text} {σ : State} →
+    Adds text text' p p' u → Stands k d s base from (mem text store ends) p n t σ →
+    Stands k d s base from (mem text' store ends) p' (min (length (t ++ u)) 65536) (t ++ u) σ
+stands-more {t = t} {u = u} a h = record {
+  holds = by-state (a .same) (holds-text (h .holds) _ (a .clean));
+  tail = rw (← append-assoc) (chain u (h .tail) (weaken (h .most) (a .tail)));
+  size = refl;
+  level = ap (λ (q : Parser). q .depth) (a .same) ∙ h .level;
+  more = omega (arith, ap (λ (q : Parser). q .at) (a .same), h .more);
+  least = h .least;
+  most = h .most;
+}
 
 -- a reading of the code from another place, seen from where the state came from
 pub reads-moved :

@@ -12,16 +12,12 @@ use lib.ListN.{length, take, drop, getD, length-drop}
 use lib.Seq.{drop-drop, take-suc, getD-drop, append-snoc}
 use Rattle.grammar.specs.Text.{Text, b, if_then_else_, choose, starts, holds, run, past, after-last, digit}
 use Rattle.grammar.specs.Grammar.{last, class-of, skipped, open-after, structor-ahead, std-ahead}
-use Rattle.grammar.proofs.Digits.{past-run}
 use Rattle.grammar.specs.Laws.{starts-nothing}
 use Rattle.parser.specs.declared.leaf.Skipped.{Skipped}
 use Rattle.parser.specs.declared.leaf.Skipped.the-variants as skipped-as
 use Rattle.parser.specs.declared.leaf.Class.{Class}
 use Rattle.parser.specs.Places.{rest-some, rest-none}
-
--- what stands behind a run that begins at a place
-pub past-at : (p : ℕ → Bool) (s : Text) (at : ℕ) → past p (drop at s) ≡ drop (at + length (run p (drop at s))) s
-past-at p s at = past-run p (drop at s) ∙ drop-drop (length (run p (drop at s))) at s
+use Rattle.parser.specs.Runs.{run-more}
 
 -- the byte is a qualifier of a nested name
 abbrev pub qualifies : ℕ → Bool
@@ -56,21 +52,6 @@ pub record Classed (t : Text) (n : ℕ) (r : Class) : Type 0 where
 pub class-of-is : (ts : List Text) → class-of ts ≡ choose (last ts) class-in []
 unfolding class-of class-in
 class-of-is ts = refl
-
--- ---------------------------------------------------------------- runs
-
-module _ (p : ℕ → Bool) (s : Text) (i : ℕ) where
-  pub run-more : i < length s → p (getD s i 0) ≡ true → run p (drop i s) ≡ getD s i 0 ∷ run p (drop (i + 1) s)
-  unfolding if_then_else_ run
-  run-more h e = rw (rest-some s i h, e)
-
-  pub run-stop : i < length s → p (getD s i 0) ≡ false → run p (drop i s) ≡ []
-  unfolding if_then_else_ run
-  run-stop h e = rw (rest-some s i h, e)
-
-  pub run-end : length s ≤ i → run p (drop i s) ≡ []
-  unfolding run
-  run-end h = rw (rest-none s i h)
 
 -- the byte is one of those that a match of the code names
 abbrev pub Qualifies : ℕ → Type 0

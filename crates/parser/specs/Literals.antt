@@ -24,6 +24,7 @@ use Rattle.parser.specs.declared.literal.Kind.the-variants.{Truth, Suffi
 use Rattle.parser.specs.Holds.{mem, part, Stands, Refines, Puts, Cuts}
 use Rattle.parser.specs.Laws.{by-state, holds-text, holds-puts, tail-puts}
 use Rattle.parser.specs.Places.{rest-some}
+use Rattle.parser.specs.Wraps.{stands-puts}
 
 -- how a literal is printed, by its type's text: a suffix is a part of ull
 unfoldable pub kind-of : Text → Kind
@@ -44,14 +45,6 @@ signed v = if starts v (b "n") then b "-" ++ drop 1 v else v
 unfoldable pub truth-of : Text → Text
 truth-of v = if same (signed v) (b "1") then b "true" else b "false"
 
--- the text w was put on the stack, at once or in parts: it stands behind whatever stood there
-pub record Adds (s text text' : Text) (p p' : Parser) (w : Text) : Type 0 where
-  pub clean : Clean text' (p' .top)
-  pub stands :
-      {k d : ℕ} {base : Text} {from : ℕ} {store ends : List ℕ} {n : ℕ} {a : Text} {σ : State} →
-      Stands k d s base from (mem text store ends) p n a σ →
-      Stands k d s base from (mem text' store ends) p' (min (length (a ++ w)) 65536) (a ++ w) σ
-
 -- the newest text was put in parentheses
 pub record Encloses (text text' : Text) (p p' : Parser) (n : ℕ) : Type 0 where
   pub clean : Clean text' (p' .top)
@@ -70,17 +63,6 @@ Gives s text text' p n r most f =
 -- ---------------------------------------------------------------- texts on the stack
 
 module _ {k d : ℕ} {s base : Text} {from : ℕ} {text store ends : List ℕ} {p : Parser} {n : ℕ} {a : Text} {σ : State} (h : Stands k d s base from (mem text store ends) p n a σ) where
-  pub stands-puts : {text' : Text} {p' : Parser} {t : Text} → Puts text text' p p' t → Stands k d s base from (mem text' store ends) p' (min (length (a ++ t)) 65536) (a ++ t) σ
-  stands-puts {text'} {p'} {t} u = record {
-    holds = holds-puts u (h .holds);
-    tail = tail-puts u base a (h .holds) (h .most) (h .tail);
-    size = refl;
-    level = ap (λ (q : Parser). q .depth) (u .same) ∙ h .level;
-    more = omega (arith, ap (λ (q : Parser). q .at) (u .same), h .more);
-    least = h .least;
-    most = h .most;
-  }
-
   -- the newest text, read from the stack
   pub stands-newest : length a ≤ 32768 → (n ≡ length a) × (n ≤ p .top) × (newest text (p .top) n ≡ a)
   stands-newest l =
@@ -107,7 +89,7 @@ pub stands-turned :
     Puts text₁ text₂ p₁ p₂ (take n (drop (p₁ .top - (n + length x)) text₁)) → Cuts text₂ text₃ p₂ p₃ n (n + length x) →
     Stands k d s base from (mem text₃ store ends) p₃ (min (length (x ++ t)) 65536) (x ++ t) σ
 stands-turned {k} {d} {s} {base} {from} {text} {text₁} {text₂} {text₃} {store} {ends} {p} {p₁} {p₂} {p₃} {n} {t} {x} {σ} l m h u v w =
-    let f : Stands k d s base from (mem text₁ store ends) p₁ (min (length (t ++ x)) 65536) (t ++ x) σ = stands-puts h u in
+    let f : Stands k d s base from (mem text₁ store ends) p₁ (min (length (t ++ x)) 65536) (t ++ x) σ = stands-puts h u refl in
     let e : n ≡ length t = omega (arith, h .size) in
     let y : length (t ++ x) ≡ length t + length x = length-append t x in
     let y' : length (x ++ t) ≡ n + length x = length-append x t ∙ omega arith in
@@ -204,25 +186,6 @@ one-single s from to l e = rw (part-cons s from to (omega arith) l, z) (go (eqb 
     go : (q : Bool) → eqb c 110 ≡ q → same (if q && true then 45 ∷ [] else c ∷ []) (49 ∷ []) ≡ eqb c 49
     go true f = sym (rw (eqb-true c 110 f))
     go false f = and-true (eqb c 49)
-
-pub adds-none : {s text : Text} {p : Parser} {w : Text} → Clean text (p .top) → w ≡ [] → Adds s text text p p w
-adds-none {s} {text} {p} {w} c e = rw e (record { clean = c; stands = λ {a = a} h. rw (append-nil a) (stands-size h _ refl) })
-
-pub adds-one : {s text text' : Text} {p p' : Parser} {w t : Text} → Puts text text' p p' t → w ≡ t → Adds s text text' p p' w
-adds-one u e = rw e (record { clean = u .put .clean; stands = λ h. stands-puts h u })
-
-pub adds-two :
-    {s text text₁ text₂ : Text} {p p₁ p₂ : Parser} {w t u : Text} →
-    Puts text text₁ p p₁ t → Puts text₁ text₂ p₁ p₂ u → w ≡ t ++ u → Adds s text text₂ p p₂ w
-adds-two {t = t} {u = u} x y e = rw e (record { clean = y .put .clean; stands = λ {a = a} h. rw (← append-assoc a t u) (stands-puts (stands-puts h x) y) })
-
--- a text put on the stack is there, whole
-pub puts-top : {text text' : Text} {p p' : Parser} {t : Text} → Clean text (p .top) → Puts text text' p p' t → min (p .top) 49152 + length t ≤ p' .top
-puts-top {text} {text'} {p} {p'} {t} c u =
-    let e = ap length (u .put .is) in
-    let x = length-append (drop (u .put .lost) (take (p .top) text)) t in
-    let y = length-drop (u .put .lost) (take (p .top) text) in
-    omega (arith, top-size c, top-size (u .put .clean), u .put .most)
 
 -- ---------------------------------------------------------------- literals by their kind
 

@@ -43,11 +43,15 @@ pub reads-at : {f : Reader Text} {k : ℕ} {s : Text} {m m' : Memory} {p q : Par
 reads-at {f} {k} {s} {m} {m'} {p} {q} {r} e h = subst (λ (x : Parser). Reads f k (x .at) s m m' x r) e h
 
 -- so many bytes are there after a text was put
+pub puts-least : {text text' : Text} {p p' : Parser} {t : Text} → Clean text (p .top) → Puts text text' p p' t → min (p .top) 49152 + length t ≤ p' .top
+puts-least {text} {text'} {p} {p'} {t} c u =
+    let e = ap length (u .put .is) in
+    let x = length-append (drop (u .put .lost) (take (p .top) text)) t in
+    let y = length-drop (u .put .lost) (take (p .top) text) in
+    omega (arith, top-size c, top-size (u .put .clean), u .put .most)
+
 pub puts-top : {text text' : Text} {p p' : Parser} {t : Text} (n : ℕ) → Clean text (p .top) → Puts text text' p p' t → n ≤ p .top → n ≤ 49152 → n + length t ≤ p' .top
-puts-top {text} {text'} {p} {p'} {t} n c u l m =
-    let z = top-size c in
-    let e : p' .top ≡ length (drop (u .put .lost) (take (p .top) text)) + length t = sym (top-size (u .put .clean)) ∙ ap length (u .put .is) ∙ length-append (drop (u .put .lost) (take (p .top) text)) t in
-    omega (arith, e, length-drop (u .put .lost) (take (p .top) text), u .put .most)
+puts-top n c u l m = omega (arith, puts-least c u)
 
 -- ---------------------------------------------------------------- a text more on the stack, and one in place of another
 

@@ -7,7 +7,8 @@ ghost use Rattle.grammar.specs.Text.{b, same};
 ghost use Rattle.grammar.specs.Grammar.{literal};
 ghost use Rattle.store.specs.Stack.{Clean, newest};
 ghost use Rattle.parser.specs.Holds.{part};
-ghost use Rattle.parser.specs.Literals.{kind-of, signed, truth-of, Adds, Encloses, Gives};
+ghost use Rattle.parser.specs.Literals.{kind-of, signed, truth-of, Encloses, Gives};
+ghost use Rattle.parser.specs.Adds.{Adds};
 use crate::memory;
 use crate::state::Parser;
 use crate::state::Read;
@@ -52,7 +53,7 @@ pub fn suffix(text: &[u8], top: usize, n: usize) -> Kind
 // The value, with - for n in front.
 pub fn value(s: &[u8], text: &mut [u8], p: Parser, from: usize, to: usize) -> Parser
     requires { ⌜ (Clean (now text) (p .top)) × ((from ≤ to) × ((to ≤ length (now s)) × (length (now s) ≤ 16384))) ⌝ }
-    ensures { λ r. ⌜ Adds (now (s .entry)) (now (text .entry)) (now (text .exit)) p r (signed (part (now (s .entry)) from to)) ⌝ }
+    ensures { λ r. ⌜ Adds (now (text .entry)) (now (text .exit)) p r (signed (part (now (s .entry)) from to)) ⌝ }
 {
     if to <= from {
         return p;

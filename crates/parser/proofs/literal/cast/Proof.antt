@@ -7,6 +7,7 @@ use Rattle.grammar.specs.Text.{b}
 use lib.ListN.{length, length-append}
 use Rattle.parser.specs.Holds.{part}
 use Rattle.parser.specs.Laws.{less, given-refines}
+use Rattle.parser.specs.Adds.{stands-more}
 use Rattle.parser.specs.Literals.{signed, length-signed, length-part, stands-size}
 use borrow.Author.Needs.{needs}
 use Rattle.parser.proofs.literal.cast.Statement.{statement}
@@ -40,7 +41,7 @@ returns c =
     let v = signed (part (a .s .now) (a .from) (a .to)) in
     let z : length v ≡ a .to - a .from = length-signed _ ∙ length-part _ _ _ (c .before .before .before .before .before .before .before .before .before .before .before .pre .1 .1 .1 .1 .0) in
     let e = c .before .before .before .before .before .before .before .enclosed .ensures .stands l h in
-    let w = c .before .before .before .value .ensures .stands e in
+    let w = stands-more (c .before .before .before .value .ensures) e in
     let q = length-append (b "(" ++ t ++ b ")") v in
     rw (c .given .ensures) (less (omega arith) (given-refines (stands-size w _ (omega (arith, q, z, e .size, c .before .before .before .before .before .before .before .before .before .before .before .pre)))))
 

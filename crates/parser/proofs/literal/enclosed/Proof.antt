@@ -1,9 +1,11 @@
 -- `parser::literal::enclosed` puts the text again behind a (, and cuts the old one. Assumes nothing.
+use mathlib.Core.Path.{refl}
 use native.Mathlib.Omega.{arith}
 use Prim.Native.Nat.{_+_}
 use lib.ListN.{length-append, length-take, length-drop}
 use Rattle.grammar.specs.Text.{b}
-use Rattle.parser.specs.Literals.{stands-puts, stands-size, stands-turned, puts-top}
+use Rattle.parser.specs.Wraps.{stands-puts, puts-least}
+use Rattle.parser.specs.Literals.{stands-size, stands-turned}
 use borrow.Author.Needs.{needs}
 use Rattle.parser.proofs.literal.enclosed.Statement.{statement}
 use Rattle.parser.proofs.literal.enclosed.Tie as tie
@@ -18,13 +20,13 @@ put-requires : tie.Need-put-requires
 put-requires c κs = search needs
 
 again-requires : tie.Need-again-requires
-again-requires c κs = (c .before .before .before .put .ensures .put .clean, (omega arith, (omega (arith, puts-top (c .before .before .before .before .before .before .before .pre .0) (c .before .before .before .put .ensures)), (omega arith, omega arith))))
+again-requires c κs = (c .before .before .before .put .ensures .put .clean, (omega arith, (omega (arith, puts-least (c .before .before .before .before .before .before .before .pre .0) (c .before .before .before .put .ensures)), (omega arith, omega arith))))
 
 cut-requires : tie.Need-cut-requires
 cut-requires c κs =
     let u = c .before .before .before .before .before .before .before .put .ensures in
-    let x = puts-top (c .before .before .before .before .before .before .before .before .before .before .before .pre .0) u in
-    let y = puts-top (u .put .clean) (c .before .before .before .again .ensures) in
+    let x = puts-least (c .before .before .before .before .before .before .before .before .before .before .before .pre .0) u in
+    let y = puts-least (u .put .clean) (c .before .before .before .again .ensures) in
     (c .before .before .before .again .ensures .put .clean, omega (arith, x, simp (length-take, length-drop) at y, u .put .clean .size, u .put .clean .most, c .before .before .before .before .before .before .before .before .before .before .before .pre))
 
 slice-aggregate-put-2 : tie.Need-slice-aggregate-put-2
@@ -43,7 +45,7 @@ returns c =
       clean = c .before .before .put2 .ensures .put .clean;
       stands = λ {t = t} l h.
           let w = stands-turned l (omega arith) h (c .before .before .before .before .before .before .before .before .before .before .before .before .before .before .before .put .ensures) (c .before .before .before .before .before .before .before .before .before .before .before .again .ensures) (c .before .before .before .before .before .before .before .cut .ensures) in
-          stands-size (stands-puts w (c .before .before .put2 .ensures)) (c .before .before .before .before .before .before .before .before .before .before .before .before .before .before .before .before .before .before .before .args .n + 2) (simp length-append (omega (arith, h .size)));
+          stands-size (stands-puts w (c .before .before .put2 .ensures) refl) (c .before .before .before .before .before .before .before .before .before .before .before .before .before .before .before .before .before .before .before .args .n + 2) (simp length-append (omega (arith, h .size)));
     }
 
 pub enclosed-spec : {M : Type 1} → statement M

@@ -1,10 +1,13 @@
 -- `parser::literal::suffixed` drops the type and puts the value and the suffix. Assumes nothing.
+use mathlib.Core.Path.{refl}
 use native.Mathlib.Omega.{arith}
 use lib.ListN.{length-append}
 use Rattle.grammar.specs.Text.{b}
 use Rattle.parser.specs.Holds.{part}
 use Rattle.parser.specs.Laws.{given-refines}
-use Rattle.parser.specs.Literals.{length-signed, length-part, stands-bare, stands-puts, stands-size}
+use Rattle.parser.specs.Wraps.{stands-puts}
+use Rattle.parser.specs.Adds.{stands-more}
+use Rattle.parser.specs.Literals.{length-signed, length-part, stands-bare, stands-size}
 use borrow.Author.Needs.{needs}
 use Rattle.parser.proofs.literal.suffixed.Statement.{statement}
 use Rattle.parser.proofs.literal.suffixed.Tie as tie
@@ -45,7 +48,7 @@ returns c =
     let x = length-signed v in
     let y = length-part (a .s .now) (a .from) (a .to) (c .before .before .before .before .before .before .before .before .before .before .before .before .before .before .before .before .pre .1 .1 .1 .1 .0) in
     let z = length-part (b "ull") (a .a) (a .e) (omega (arith, c .before .before .before .before .before .before .before .before .before .before .before .before .before .before .before .before .pre)) in
-    let w = stands-puts (c .before .before .before .before .before .before .before .before .value .ensures .stands (stands-bare l m h (c .before .before .before .before .before .before .before .before .before .before .before .before .cut .ensures))) (c .before .before .before .put-part .ensures) in
+    let w = stands-puts (stands-more (c .before .before .before .before .before .before .before .before .value .ensures) (stands-bare l m h (c .before .before .before .before .before .before .before .before .before .before .before .before .cut .ensures))) (c .before .before .before .put-part .ensures) refl in
     rw (c .given .ensures) (given-refines (stands-size w _ (simp length-append (omega (arith, x, y, z, c .before .before .before .before .before .before .before .before .before .before .before .before .before .before .before .before .pre)))))
 
 pub suffixed-spec : {M : Type 1} → statement M

@@ -3,7 +3,8 @@ use mathlib.Core.Path.{refl, sym, _∙_}
 use Rattle.grammar.specs.Text.{if_then_else_, b}
 use Rattle.parser.specs.Holds.{given-of}
 use Rattle.parser.specs.Laws.{by, given-refines}
-use Rattle.parser.specs.Literals.{truth-of, stands-bare, stands-puts, stands-size}
+use Rattle.parser.specs.Wraps.{stands-puts}
+use Rattle.parser.specs.Literals.{truth-of, stands-bare, stands-size}
 use borrow.Author.Needs.{needs}
 use Rattle.parser.proofs.literal.truth.Statement.{statement}
 use Rattle.parser.proofs.literal.truth.Tie as tie
@@ -27,7 +28,7 @@ returns : tie.Need-returns
 unfolding truth-of given-of if_then_else_ b
 returns c =
     λ store ends k d base from t σ h l m.
-    let w = stands-puts (stands-bare l m h (c .before .before .before .before .before .before .before .before .before .cut .ensures)) (c .before .before .put .ensures) in
+    let w = stands-puts (stands-bare l m h (c .before .before .before .before .before .before .before .before .before .cut .ensures)) (c .before .before .put .ensures) refl in
     by (rw (sym (c .before .before .before .before .before .before .one .ensures) ∙ c .before .before .before .before .before .if1 .taken)) (given-refines (stands-size w 4 refl))
 
 slice-aggregate-put-2 : tie.Need-slice-aggregate-put-2
@@ -43,7 +44,7 @@ returns-2 : tie.Need-returns-2
 unfolding truth-of given-of if_then_else_ b
 returns-2 c =
     λ store ends k d base from t σ h l m.
-    let w = stands-puts (stands-bare l m h (c .before .before .before .before .before .before .before .before .before .cut .ensures)) (c .before .before .put2 .ensures) in
+    let w = stands-puts (stands-bare l m h (c .before .before .before .before .before .before .before .before .before .cut .ensures)) (c .before .before .put2 .ensures) refl in
     by (rw (sym (c .before .before .before .before .before .before .one .ensures) ∙ c .before .before .before .before .before .if1 .left)) (given-refines (stands-size w 5 refl))
 
 pub truth-spec : {M : Type 1} → statement M
