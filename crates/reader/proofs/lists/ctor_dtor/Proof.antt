@@ -1,0 +1,113 @@
+-- `reader::lists::ctor_dtor` meets its contract. Assumes nothing.
+use borrow.Author.Needs.{needs}
+use Rattle.reader.proofs.lists.ctor_dtor.Statement.{statement}
+use Rattle.reader.proofs.lists.ctor_dtor.Tie as tie
+use native.Mathlib.Omega.{arith}
+use mathlib.Core.Path.{_≡_, ap, _∙_}
+use Prim.Native.Nat.{_+_, _-_, _*_, _≤_, min}
+use lib.ListN.{length}
+use Rattle.parser.specs.Wraps.{puts-top}
+use Rattle.reader.specs.declared.lists.Parts.{Parts}
+use Rattle.reader.specs.Lists.{before-part}
+use Rattle.reader.specs.Joined.{colons-size}
+use Rattle.reader.specs.Structors.{tilde-size, structor-long, structor-named, exact, between, again-room}
+
+add-moved : tie.Need-add-moved
+add-moved c = search needs
+
+moved-requires : tie.Need-moved-requires
+moved-requires c κs = search needs
+
+returns : tie.Need-returns
+returns c s store ends base from ps σ x t e h =
+    structor-long h e (c .moved .ensures) (omega arith)
+
+class-of-requires : tie.Need-class-of-requires
+class-of-requires c κs = search needs
+
+shorter-requires : tie.Need-shorter-requires
+shorter-requires c κs = search needs
+
+tilde-size-requires : tie.Need-tilde-size-requires
+tilde-size-requires c κs = search needs
+
+add-last : tie.Need-add-last
+add-last c = search (needs, c .tilde-size .ensures, tilde-size (c .before .before .before .before .before .before .args .c), c .before .shorter .ensures)
+
+longer-requires : tie.Need-longer-requires
+longer-requires c κs = (omega (arith, c .tilde-size .ensures, tilde-size (c .before .before .before .before .before .before .args .c), c .before .shorter .ensures), c .before .before .before .before .before .before .pre .1 .0)
+
+separated-requires : tie.Need-separated-requires
+separated-requires c κs = search needs
+
+tilde-requires : tie.Need-tilde-requires
+tilde-requires c κs = search needs
+
+sub-again : tie.Need-sub-again
+sub-again c = omega (arith, ap (λ (q : Parts). q .n) (c .before .before .before .before .before .before .before .before .before .longer .ensures), c .before .before .before .before .before .before .before .before .before .before .before .before .before .before .before .before .pre .1 .0)
+
+sub-again-2 : tie.Need-sub-again-2
+sub-again-2 c = omega (arith, ap (λ (q : Parts). q .n) (c .before .before .before .before .before .before .before .before .before .longer .ensures), c .before .before .before .before .before .before .before .before .before .before .tilde-size .ensures, tilde-size (c .before .before .before .before .before .before .before .before .before .before .before .before .before .before .before .before .args .c), c .before .before .before .before .before .before .before .before .before .before .before .shorter .ensures, c .before .before .before .before .before .before .before .before .before .before .before .before .before .before .if1 .left)
+
+gap : (c : tie.After-struct-known) → c .before .before .before .before .before .before .before .before .before .before .longer .result .n - c .before .before .before .before .before .before .before .before .before .before .before .before .before .before .before .before .before .args .parts .n - c .before .before .before .before .before .before .before .before .before .before .before .before .shorter .result ≡ 2 * min (c .before .before .before .before .before .before .before .before .before .before .before .before .before .before .before .before .before .args .parts .count) 1 + c .before .before .before .before .before .before .before .before .before .before .before .tilde-size .result
+gap c = between (c .before .before .before .before .before .before .before .before .before .before .before .before .before .before .before .before .before .args .parts .count) (ap (λ (q : Parts). q .n) (c .before .before .before .before .before .before .before .before .before .before .longer .ensures)) (c .before .before .before .before .before .before .before .before .before .before .before .before .before .before .before .if1 .left) (omega (arith, c .before .before .before .before .before .before .before .before .before .before .before .before .shorter .ensures)) (omega (arith, c .before .before .before .before .before .before .before .before .before .before .before .tilde-size .ensures, tilde-size (c .before .before .before .before .before .before .before .before .before .before .before .before .before .before .before .before .before .args .c)))
+
+gap-small : (c : tie.After-struct-known) → 2 * min (c .before .before .before .before .before .before .before .before .before .before .before .before .before .before .before .before .before .args .parts .count) 1 + c .before .before .before .before .before .before .before .before .before .before .before .tilde-size .result ≤ 3
+gap-small c = omega (arith, c .before .before .before .before .before .before .before .before .before .before .before .tilde-size .ensures, tilde-size (c .before .before .before .before .before .before .before .before .before .before .before .before .before .before .before .before .before .args .c))
+
+back-small : (c : tie.After-struct-known) → c .before .before .before .before .before .before .before .before .before .before .before .before .before .class-of .result .back ≤ 32768
+back-small c = omega (arith, c .before .before .before .before .before .before .before .before .before .before .before .before .before .class-of .ensures .inside, c .before .before .before .before .before .before .before .before .before .before .before .before .before .before .before .before .before .pre .1, c .before .before .before .before .before .before .before .before .before .before .before .before .before .before .before .if1 .left)
+
+back-there : (c : tie.After-struct-known) → c .before .before .before .before .before .before .before .before .before .before .before .before .before .class-of .result .back + (2 * min (c .before .before .before .before .before .before .before .before .before .before .before .before .before .before .before .before .before .args .parts .count) 1 + c .before .before .before .before .before .before .before .before .before .before .before .tilde-size .result) ≤ c .before .before .before .before .tilde .result .top
+back-there c =
+    let u = c .before .before .before .before .before .before .before .before .separated .ensures in
+    let a = puts-top (c .before .before .before .before .before .before .before .before .before .before .before .before .before .class-of .result .back) (c .before .before .before .before .before .before .before .before .before .before .before .before .before .before .before .before .before .pre .0 .3 .1 .text) u (omega (arith, c .before .before .before .before .before .before .before .before .before .before .before .before .before .class-of .ensures .inside, c .before .before .before .before .before .before .before .before .before .before .before .before .before .before .before .before .before .pre .1, c .before .before .before .before .before .before .before .before .before .before .before .before .before .before .before .if1 .left)) (omega (arith, back-small c)) in
+    let e = puts-top (c .before .before .before .before .before .before .before .before .before .before .before .before .before .class-of .result .back + length (before-part (c .before .before .before .before .before .before .before .before .before .before .before .before .before .before .before .before .before .args .parts .count))) (u .put .clean) (c .before .before .before .before .tilde .ensures) a (omega (arith, back-small c, colons-size (c .before .before .before .before .before .before .before .before .before .before .before .before .before .before .before .before .before .args .parts .count))) in
+    omega (arith, e, colons-size (c .before .before .before .before .before .before .before .before .before .before .before .before .before .before .before .before .before .args .parts .count), c .before .before .before .before .before .before .before .before .before .before .before .tilde-size .ensures)
+
+add-again : tie.Need-add-again
+add-again c = search (needs, back-small c, gap c, gap-small c)
+
+again-requires : tie.Need-again-requires
+again-requires c κs = (c .before .before .before .before .tilde .ensures .put .clean, again-room (gap c) (omega (arith, c .before .before .before .before .before .before .before .before .before .before .before .before .before .class-of .ensures .inside, c .before .before .before .before .before .before .before .before .before .before .before .before .shorter .ensures)) (back-there c) (gap-small c) (back-small c) (omega (arith, c .before .before .before .before .before .before .before .before .before .before .before .before .shorter .ensures)))
+
+add-moved-2 : tie.Need-add-moved-2
+add-moved-2 c = search (needs, c .before .before .before .before .before .before .before .before .before .before .before .before .before .before .before .before .before .before .before .before .pre .0 .3 .1 .place, c .before .before .before .before .before .before .before .before .before .before .before .before .before .before .before .before .before .before .before .before .pre .0 .3 .1 .source)
+
+moved-requires-2 : tie.Need-moved-requires-2
+moved-requires-2 c κs = search needs
+
+same-length : tie.Need-same-length
+same-length c = search needs
+
+returns-2 : tie.Need-returns-2
+returns-2 c s store ends base from ps σ x t e h =
+    let m : c .before .before .before .before .before .before .before .before .before .before .before .before .before .before .before .before .shorter .result ≤ 16384 = omega (arith, c .before .before .before .before .before .before .before .before .before .before .before .before .before .before .before .before .shorter .ensures) in
+    let y : c .before .before .before .before .before .before .before .before .before .before .before .before .before .before .before .tilde-size .result ≤ 1 = omega (arith, c .before .before .before .before .before .before .before .before .before .before .before .before .before .before .before .tilde-size .ensures, tilde-size (c .before .before .before .before .before .before .before .before .before .before .before .before .before .before .before .before .before .before .before .before .before .args .c)) in
+    let o = between (c .before .before .before .before .before .before .before .before .before .before .before .before .before .before .before .before .before .before .before .before .before .args .parts .count) (ap (λ (q : Parts). q .n) (c .before .before .before .before .before .before .before .before .before .before .before .before .before .before .longer .ensures)) (c .before .before .before .before .before .before .before .before .before .before .before .before .before .before .before .before .before .before .before .if1 .left) m y in
+    let n = exact (c .before .before .before .before .before .before .before .before .before .before .before .before .before .before .before .before .before .before .before .before .before .args .parts .count) (ap (λ (q : Parts). q .n) (c .before .before .before .before .before .before .before .before .before .before .before .before .before .before .longer .ensures)) (c .before .before .before .before .before .before .before .before .before .before .before .before .before .before .before .before .before .before .before .if1 .left) m y in
+    structor-named h (c .before .before .before .before .before .before .before .before .before .before .before .before .before .before .before .before .before .before .before .if1 .left) x t e (c .before .before .before .before .before .before .before .before .before .before .before .before .before .before .before .before .before .class-of .ensures) (c .before .before .before .before .before .before .before .before .before .before .before .before .separated .ensures) (c .before .before .before .before .before .before .before .before .tilde .ensures) (c .before .before .before .before .before .before .before .before .before .before .before .before .before .before .before .before .shorter .ensures)
+    (omega (arith, o, c .before .before .before .before .before .before .before .before .before .before .before .before .before .before .before .tilde-size .ensures)) (c .before .before .before .again .ensures) (c .moved2 .ensures) (omega (arith, n, c .before .before .before .before .before .before .before .before .before .before .before .before .before .before .before .tilde-size .ensures)) (omega (arith, c .before .before .before .before .before .before .before .before .before .before .before .before .before .before .before .tilde-size .ensures))
+
+pub ctor-dtor-spec : {M : Type 1} → statement M
+ctor-dtor-spec =
+    tie.close
+    (tie.spec
+    add-moved
+    moved-requires
+    returns
+    class-of-requires
+    shorter-requires
+    tilde-size-requires
+    add-last
+    longer-requires
+    separated-requires
+    tilde-requires
+    sub-again
+    sub-again-2
+    add-again
+    again-requires
+    add-moved-2
+    moved-requires-2
+    same-length
+    returns-2)

@@ -1,0 +1,16 @@
+pub mod Cycle
+pub mod Lists
+pub mod Opens
+pub mod Arrays
+pub mod Heads
+pub mod Items
+pub mod Closes
+pub mod Brackets
+pub mod Joined
+pub mod Argued
+pub mod Opers
+pub mod Lits
+pub mod LocFns
+pub mod Funcs
+pub mod Structors
+pub mod Nested

@@ -1,0 +1,804 @@
+// Names, types, template arguments and literals. Each reading falls with the bytes that are left.
+use crate::lists;
+use crate::lists::Kind;
+use crate::lists::Parts;
+use crate::lists::Prefix;
+use crate::lists::Texts;
+use grammar::codes;
+use grammar::codes::Picked;
+use parser::leaf;
+use parser::leaf::Skipped;
+use parser::literal;
+use parser::memory;
+use parser::names;
+use parser::state::Parser;
+use parser::state::Peeked;
+use parser::state::Read;
+use parser::types;
+ghost use mathlib.Core.Bool.{true};
+ghost use mathlib.Core.Path.{_≡_};
+ghost use mathlib.Core.List.{List, _∷_};
+ghost use Prim.Native.Nat.{ℕ, _+_, _-_, _≤_, _<_, min};
+ghost use lib.ListN.{drop};
+ghost use Rattle.grammar.specs.Grammar.{
+  reading,
+  ⟨type⟩,
+  ⟨template-args⟩,
+  ⟨template-arg⟩,
+  ⟨expr-primary⟩,
+  ⟨name⟩,
+  ⟨nested-name⟩,
+  ⟨unqualified-name⟩,
+  ⟨operator-name⟩,
+  type-inner,
+  array-type,
+  function-type,
+  pointer-to-member-type,
+  nested-type,
+  class-type,
+  s-type,
+  name-inner,
+  unscoped-name,
+  std-ahead,
+  std-name,
+  s-name,
+  local-name,
+  local-encoding,
+  prefix,
+  prefix-args,
+};
+ghost use Rattle.parser.specs.Holds.{mem, Ready, Reads, keep};
+ghost use Rattle.reader.specs.Cycle.{ReadsWrapped, ReadsInstance, ReadsTypeInstance};
+ghost use Rattle.reader.specs.Lists.{ReadsItems, ReadsItem, ReadsPart, ReadsNewPart, ReadsPartText};
+
+// <type>
+pub fn ty(s: &[u8], text: &mut [u8], store: &mut [u8], ends: &mut [u16], p: Parser) -> Read
+    requires { ⌜ Ready (now s) (mem (now text) (now store) (now ends)) p ⌝ }
+    ensures { λ r. ⌜ Reads (reading ⟨type⟩) (keep (p .depth + 1)) (p .at + 1) (now (s .entry))
+        (mem (now (text .entry)) (now (store .entry)) (now (ends .entry))) (mem (now (text .exit)) (now (store .exit)) (now (ends .exit))) p r ⌝ }
+{
+    let depth = p.depth;
+    if Parser::DEPTH <= depth {
+        return Read::Refused(8);
+    }
+    let got = ty_in(s, text, store, ends, p.enter());
+    let Read::Text(next, n) = got else {
+        return got;
+    };
+    Read::Text(next.leave(depth), n)
+}
+
+pub fn ty_in(s: &[u8], text: &mut [u8], store: &mut [u8], ends: &mut [u16], p: Parser) -> Read
+    requires { ⌜ Ready (now s) (mem (now text) (now store) (now ends)) p ⌝ }
+    ensures { λ r. ⌜ Reads (type-inner reading) (keep (p .depth)) (p .at + 1) (now (s .entry))
+        (mem (now (text .entry)) (now (store .entry)) (now (ends .entry))) (mem (now (text .exit)) (now (store .exit)) (now (ends .exit))) p r ⌝ }
+{
+    let Peeked::Byte(c) = p.peek(s) else {
+        return Read::Refused(4);
+    };
+    let at = p.at;
+    let behind = p.moved(at + 1);
+    if let Picked::At(w) = codes::builtin(c) {
+        return names::word(text, behind, w);
+    }
+    match c {
+        b'P' | b'R' | b'O' | b'C' | b'K' | b'V' | b'r' => wrap(s, text, store, ends, behind, c),
+        b'A' => array(s, text, store, ends, behind),
+        b'F' => func(s, text, store, ends, behind),
+        b'M' => memb(s, text, store, ends, behind),
+        b'D' => types::builtin_d(s, text, p),
+        b'u' => names::source_name(s, text, behind),
+        b'N' => nest_ty(s, text, store, ends, p),
+        b'T' => names::template_param(s, text, store, ends, p),
+        b'S' => s_ty(s, text, store, ends, p),
+        b'0'..=b'9' => class(s, text, store, ends, p),
+        _ => Read::Refused(4),
+    }
+}
+
+// P R O C K V r <type>, behind the letter
+fn wrap(s: &[u8], text: &mut [u8], store: &mut [u8], ends: &mut [u16], p: Parser, c: u8) -> Read
+    requires { ⌜ Ready (now s) (mem (now text) (now store) (now ends)) p ⌝ }
+    ensures { λ r. ⌜ ReadsWrapped c (now (s .entry))
+        (mem (now (text .entry)) (now (store .entry)) (now (ends .entry))) (mem (now (text .exit)) (now (store .exit)) (now (ends .exit))) p r ⌝ }
+{
+    let got = ty(s, text, store, ends, p);
+    let Read::Text(next, n) = got else {
+        return got;
+    };
+    types::wrap(text, store, ends, next, n, c)
+}
+
+// <array-type> ::= A [<dimension>] _ <type>, behind A
+fn array(s: &[u8], text: &mut [u8], store: &mut [u8], ends: &mut [u16], p: Parser) -> Read
+    requires { ⌜ Ready (now s) (mem (now text) (now store) (now ends)) p ⌝ }
+    ensures { λ r. ⌜ Reads (array-type reading) (keep (p .depth)) (p .at + 1) (now (s .entry))
+        (mem (now (text .entry)) (now (store .entry)) (now (ends .entry))) (mem (now (text .exit)) (now (store .exit)) (now (ends .exit))) p r ⌝ }
+{
+    let from = p.at;
+    let to = names::before(s, from, b'_');
+    if s.len() <= to {
+        return Read::Refused(4);
+    }
+    let got = ty(s, text, store, ends, p.moved(to + 1));
+    let Read::Text(next, n) = got else {
+        return got;
+    };
+    let open = memory::put(text, next, b" [");
+    let bound = memory::put_part(s, text, open, from, to);
+    let close = memory::put(text, bound, b"]");
+    memory::given(close, n + 3 + (to - from))
+}
+
+// <function-type> ::= F <type> <type>* E, behind F
+fn func(s: &[u8], text: &mut [u8], store: &mut [u8], ends: &mut [u16], p: Parser) -> Read
+    requires { ⌜ Ready (now s) (mem (now text) (now store) (now ends)) p ⌝ }
+    ensures { λ r. ⌜ Reads (function-type reading) (keep (p .depth)) (p .at + 1) (now (s .entry))
+        (mem (now (text .entry)) (now (store .entry)) (now (ends .entry))) (mem (now (text .exit)) (now (store .exit)) (now (ends .exit))) p r ⌝ }
+{
+    let got = ty(s, text, store, ends, p);
+    let Read::Text(returned, r) = got else {
+        return got;
+    };
+    let open = memory::put(text, returned, b" (\x01)(");
+    let list = items(s, text, store, ends, open, Kind::Types);
+    let Texts::Listed(last, n, count) = list else {
+        return lists::refused(list);
+    };
+    let at = last.at;
+    if !names::here(s, at, b'E') {
+        return Read::Refused(4);
+    }
+    let next = last.moved(at + 1);
+    lists::func_end(text, store, ends, next, r, n, count)
+}
+
+// <pointer-to-member-type> ::= M <type> <type>, behind M
+fn memb(s: &[u8], text: &mut [u8], store: &mut [u8], ends: &mut [u16], p: Parser) -> Read
+    requires { ⌜ Ready (now s) (mem (now text) (now store) (now ends)) p ⌝ }
+    ensures { λ r. ⌜ Reads (pointer-to-member-type reading) (keep (p .depth)) (p .at + 1) (now (s .entry))
+        (mem (now (text .entry)) (now (store .entry)) (now (ends .entry))) (mem (now (text .exit)) (now (store .exit)) (now (ends .exit))) p r ⌝ }
+{
+    let class = ty(s, text, store, ends, p);
+    let Read::Text(a, c) = class else {
+        return class;
+    };
+    let got = ty(s, text, store, ends, a);
+    let Read::Text(b, m) = got else {
+        return got;
+    };
+    types::wrap_member(text, store, ends, b, c, m)
+}
+
+// <class-enum-type> ::= <nested-name>
+fn nest_ty(s: &[u8], text: &mut [u8], store: &mut [u8], ends: &mut [u16], p: Parser) -> Read
+    requires { ⌜ Ready (now s) (mem (now text) (now store) (now ends)) p ⌝ }
+    ensures { λ r. ⌜ Reads (nested-type reading) (keep (p .depth)) (p .at + 1) (now (s .entry))
+        (mem (now (text .entry)) (now (store .entry)) (now (ends .entry))) (mem (now (text .exit)) (now (store .exit)) (now (ends .exit))) p r ⌝ }
+{
+    let got = nested(s, text, store, ends, p);
+    let Read::Text(next, n) = got else {
+        return got;
+    };
+    if memory::newest_entry(text, store, ends, next, n) {
+        return got;
+    }
+    memory::recorded(text, store, ends, next, n)
+}
+
+// <class-enum-type> ::= <source-name> [<template-args>]
+fn class(s: &[u8], text: &mut [u8], store: &mut [u8], ends: &mut [u16], p: Parser) -> Read
+    requires { ⌜ Ready (now s) (mem (now text) (now store) (now ends)) p ⌝ }
+    ensures { λ r. ⌜ Reads (class-type reading) (keep (p .depth)) (p .at + 1) (now (s .entry))
+        (mem (now (text .entry)) (now (store .entry)) (now (ends .entry))) (mem (now (text .exit)) (now (store .exit)) (now (ends .exit))) p r ⌝ }
+{
+    let got = names::source_name(s, text, p);
+    let Read::Text(a, n) = got else {
+        return got;
+    };
+    let kept = memory::push_sub(text, store, ends, a, n);
+    let Read::Text(b, _) = kept else {
+        return kept;
+    };
+    let at = b.at;
+    if names::here(s, at, b'I') {
+        return inst_t(s, text, store, ends, b, n);
+    }
+    kept
+}
+
+// a type with its arguments
+fn inst_t(
+    s: &[u8],
+    text: &mut [u8],
+    store: &mut [u8],
+    ends: &mut [u16],
+    p: Parser,
+    x: usize,
+) -> Read
+    requires { ⌜ (Ready (now s) (mem (now text) (now store) (now ends)) p) × ((x ≤ 32768) × (x ≤ p .top)) ⌝ }
+    ensures { λ r. ⌜ ReadsTypeInstance x (now (s .entry))
+        (mem (now (text .entry)) (now (store .entry)) (now (ends .entry))) (mem (now (text .exit)) (now (store .exit)) (now (ends .exit))) p r ⌝ }
+{
+    let got = args(s, text, store, ends, p);
+    let Read::Text(next, n) = got else {
+        return got;
+    };
+    memory::recorded(text, store, ends, next, x + n)
+}
+
+// <type> ::= <substitution> [<template-args>] | St <unqualified-name>, at S
+fn s_ty(s: &[u8], text: &mut [u8], store: &mut [u8], ends: &mut [u16], p: Parser) -> Read
+    requires { ⌜ Ready (now s) (mem (now text) (now store) (now ends)) p ⌝ }
+    ensures { λ r. ⌜ Reads (s-type reading) (keep (p .depth)) (p .at + 1) (now (s .entry))
+        (mem (now (text .entry)) (now (store .entry)) (now (ends .entry))) (mem (now (text .exit)) (now (store .exit)) (now (ends .exit))) p r ⌝ }
+{
+    let at = p.at;
+    if leaf::std_ahead(s, at) {
+        return std(s, text, store, ends, p);
+    }
+    let got = names::substitution(s, text, store, ends, p);
+    let Read::Text(next, n) = got else {
+        return got;
+    };
+    let end = next.at;
+    if names::here(s, end, b'I') {
+        return inst_t(s, text, store, ends, next, n);
+    }
+    got
+}
+
+// A list of types or of template arguments.
+pub fn items(
+    s: &[u8],
+    text: &mut [u8],
+    store: &mut [u8],
+    ends: &mut [u16],
+    p: Parser,
+    kind: Kind,
+) -> Texts
+    requires { ⌜ Ready (now s) (mem (now text) (now store) (now ends)) p ⌝ }
+    ensures { λ r. ⌜ ReadsItems kind (now (s .entry))
+        (mem (now (text .entry)) (now (store .entry)) (now (ends .entry))) (mem (now (text .exit)) (now (store .exit)) (now (ends .exit))) p r ⌝ }
+{
+    let mut next = p;
+    let mut n: usize = 0;
+    let mut count: usize = 0;
+    loop {
+        let Peeked::Byte(c) = next.peek(s) else {
+            return Texts::Listed(next, n, count);
+        };
+        if lists::stops(kind, c) {
+            return Texts::Listed(next, n, count);
+        }
+        if 0 < count {
+            next = memory::put(text, next, b", ");
+            n = memory::sum(n, 2);
+        }
+        let got = item(s, text, store, ends, next, kind);
+        let Read::Text(after, m) = got else {
+            return lists::unlisted(got);
+        };
+        next = after;
+        n = memory::sum(n, m);
+        count += 1;
+    }
+}
+
+// One text of a list, which begins with c.
+fn item(
+    s: &[u8],
+    text: &mut [u8],
+    store: &mut [u8],
+    ends: &mut [u16],
+    p: Parser,
+    kind: Kind,
+) -> Read
+    requires { ⌜ Ready (now s) (mem (now text) (now store) (now ends)) p ⌝ }
+    ensures { λ r. ⌜ ReadsItem kind (now (s .entry))
+        (mem (now (text .entry)) (now (store .entry)) (now (ends .entry))) (mem (now (text .exit)) (now (store .exit)) (now (ends .exit))) p r ⌝ }
+{
+    match kind {
+        Kind::Parameters | Kind::Types => ty(s, text, store, ends, p),
+        Kind::Pack => arg(s, text, store, ends, p),
+        Kind::Arguments => {
+            let got = arg(s, text, store, ends, p);
+            let Read::Text(next, n) = got else {
+                return got;
+            };
+            memory::push_arg(text, store, ends, next, n)
+        }
+    }
+}
+
+// <template-args> ::= I <template-arg>* E
+pub fn args(s: &[u8], text: &mut [u8], store: &mut [u8], ends: &mut [u16], p: Parser) -> Read
+    requires { ⌜ Ready (now s) (mem (now text) (now store) (now ends)) p ⌝ }
+    ensures { λ r. ⌜ Reads (reading ⟨template-args⟩) (keep (p .depth + 1)) (p .at + 1) (now (s .entry))
+        (mem (now (text .entry)) (now (store .entry)) (now (ends .entry))) (mem (now (text .exit)) (now (store .exit)) (now (ends .exit))) p r ⌝ }
+{
+    let at = p.at;
+    if !names::here(s, at, b'I') {
+        return Read::Refused(4);
+    }
+    let depth = p.depth;
+    if Parser::DEPTH <= depth {
+        return Read::Refused(8);
+    }
+    let open = memory::put(text, p.moved(at + 1).enter(), b"<");
+    let list = items(s, text, store, ends, open, Kind::Arguments);
+    let Texts::Listed(last, n, _) = list else {
+        return lists::refused(list);
+    };
+    let end = last.at;
+    if !names::here(s, end, b'E') {
+        return Read::Refused(4);
+    }
+    let next = last.moved(end + 1).leave(depth);
+    let top = next.top;
+    if text[top - 1] == b'>' {
+        let close = memory::put(text, next, b" >");
+        return memory::given(close, memory::sum(n, 3));
+    }
+    let close = memory::put(text, next, b">");
+    memory::given(close, memory::sum(n, 2))
+}
+
+// <template-arg> ::= <type> | X <expression> E | <expr-primary> | J <template-arg>* E
+pub fn arg(s: &[u8], text: &mut [u8], store: &mut [u8], ends: &mut [u16], p: Parser) -> Read
+    requires { ⌜ Ready (now s) (mem (now text) (now store) (now ends)) p ⌝ }
+    ensures { λ r. ⌜ Reads (reading ⟨template-arg⟩) (keep (p .depth)) (p .at + 1) (now (s .entry))
+        (mem (now (text .entry)) (now (store .entry)) (now (ends .entry))) (mem (now (text .exit)) (now (store .exit)) (now (ends .exit))) p r ⌝ }
+{
+    let at = p.at;
+    if names::here(s, at, b'L') {
+        return lit(s, text, store, ends, p);
+    }
+    if names::here(s, at, b'X') {
+        let Skipped::To(end) = leaf::expression(s, at + 1) else {
+            return Read::Refused(4);
+        };
+        return Read::Text(memory::put(text, p.moved(end), b"..."), 3);
+    }
+    if names::here(s, at, b'J') {
+        let list = items(s, text, store, ends, p.moved(at + 1), Kind::Pack);
+        let Texts::Listed(last, n, _) = list else {
+            return lists::refused(list);
+        };
+        let end = last.at;
+        if !names::here(s, end, b'E') {
+            return Read::Refused(4);
+        }
+        return memory::given(last.moved(end + 1), n);
+    }
+    ty(s, text, store, ends, p)
+}
+
+// <expr-primary> ::= L <type> <value number> E | L _ <name> E
+fn lit(s: &[u8], text: &mut [u8], store: &mut [u8], ends: &mut [u16], p: Parser) -> Read
+    requires { ⌜ Ready (now s) (mem (now text) (now store) (now ends)) p ⌝ }
+    ensures { λ r. ⌜ Reads (reading ⟨expr-primary⟩) (keep (p .depth)) (p .at + 1) (now (s .entry))
+        (mem (now (text .entry)) (now (store .entry)) (now (ends .entry))) (mem (now (text .exit)) (now (store .exit)) (now (ends .exit))) p r ⌝ }
+{
+    let first = p.at;
+    if !names::here(s, first, b'L') {
+        return Read::Refused(4);
+    }
+    let at = first + 1;
+    if names::here(s, at, b'_') {
+        let got = name(s, text, store, ends, p.moved(at + 1));
+        let Read::Text(next, n) = got else {
+            return got;
+        };
+        let end = next.at;
+        if names::here(s, end, b'E') {
+            return Read::Text(next.moved(end + 1), n);
+        }
+        return got;
+    }
+    let got = ty(s, text, store, ends, p.moved(at));
+    let Read::Text(next, n) = got else {
+        return got;
+    };
+    let from = next.at;
+    let to = names::before(s, from, b'E');
+    if s.len() <= to {
+        return Read::Refused(4);
+    }
+    literal::literal(s, text, next.moved(to + 1), n, from, to)
+}
+
+// <name>
+pub fn name(s: &[u8], text: &mut [u8], store: &mut [u8], ends: &mut [u16], p: Parser) -> Read
+    requires { ⌜ Ready (now s) (mem (now text) (now store) (now ends)) p ⌝ }
+    ensures { λ r. ⌜ Reads (reading ⟨name⟩) (keep (p .depth + 1)) (p .at + 1) (now (s .entry))
+        (mem (now (text .entry)) (now (store .entry)) (now (ends .entry))) (mem (now (text .exit)) (now (store .exit)) (now (ends .exit))) p r ⌝ }
+{
+    let depth = p.depth;
+    if Parser::DEPTH <= depth {
+        return Read::Refused(8);
+    }
+    let got = nm_in(s, text, store, ends, p.enter());
+    let Read::Text(next, n) = got else {
+        return got;
+    };
+    Read::Text(next.leave(depth), n)
+}
+
+fn nm_in(s: &[u8], text: &mut [u8], store: &mut [u8], ends: &mut [u16], p: Parser) -> Read
+    requires { ⌜ Ready (now s) (mem (now text) (now store) (now ends)) p ⌝ }
+    ensures { λ r. ⌜ Reads (name-inner reading) (keep (p .depth)) (p .at + 1) (now (s .entry))
+        (mem (now (text .entry)) (now (store .entry)) (now (ends .entry))) (mem (now (text .exit)) (now (store .exit)) (now (ends .exit))) p r ⌝ }
+{
+    let Peeked::Byte(c) = p.peek(s) else {
+        return Read::Refused(4);
+    };
+    let at = p.at;
+    match c {
+        b'N' => nested(s, text, store, ends, p),
+        b'S' => s_nm(s, text, store, ends, p),
+        b'L' => name(s, text, store, ends, p.moved(at + 1)),
+        b'Z' => local(s, text, store, ends, p),
+        _ => plain(s, text, store, ends, p),
+    }
+}
+
+// <name> ::= <unscoped-name> [<template-args>]
+fn plain(s: &[u8], text: &mut [u8], store: &mut [u8], ends: &mut [u16], p: Parser) -> Read
+    requires { ⌜ Ready (now s) (mem (now text) (now store) (now ends)) p ⌝ }
+    ensures { λ r. ⌜ Reads (unscoped-name reading) (keep (p .depth)) (p .at + 1) (now (s .entry))
+        (mem (now (text .entry)) (now (store .entry)) (now (ends .entry))) (mem (now (text .exit)) (now (store .exit)) (now (ends .exit))) p r ⌝ }
+{
+    let got = unq(s, text, store, ends, p);
+    let Read::Text(next, n) = got else {
+        return got;
+    };
+    let end = next.at;
+    if !names::here(s, end, b'I') {
+        return got;
+    }
+    let kept = memory::push_sub(text, store, ends, next, n);
+    let Read::Text(after, _) = kept else {
+        return kept;
+    };
+    inst_n(s, text, store, ends, after, n)
+}
+
+// a name with its arguments, which replace those so far
+fn inst_n(
+    s: &[u8],
+    text: &mut [u8],
+    store: &mut [u8],
+    ends: &mut [u16],
+    p: Parser,
+    x: usize,
+) -> Read
+    requires { ⌜ (Ready (now s) (mem (now text) (now store) (now ends)) p) × ((x ≤ 32768) × (x ≤ p .top)) ⌝ }
+    ensures { λ r. ⌜ ReadsInstance x (now (s .entry))
+        (mem (now (text .entry)) (now (store .entry)) (now (ends .entry))) (mem (now (text .exit)) (now (store .exit)) (now (ends .exit))) p r ⌝ }
+{
+    let bare = memory::clear_args(store, ends, p);
+    let got = args(s, text, store, ends, bare);
+    let Read::Text(next, n) = got else {
+        return got;
+    };
+    memory::recorded(text, store, ends, next.with_templated(true), x + n)
+}
+
+// <unscoped-name> ::= St <unqualified-name>
+fn std(s: &[u8], text: &mut [u8], store: &mut [u8], ends: &mut [u16], p: Parser) -> Read
+    requires { ⌜ (Ready (now s) (mem (now text) (now store) (now ends)) p) × (std-ahead (drop (p .at) (now s)) ≡ true) ⌝ }
+    ensures { λ r. ⌜ Reads (std-name reading) (keep (p .depth)) (p .at + 1) (now (s .entry))
+        (mem (now (text .entry)) (now (store .entry)) (now (ends .entry))) (mem (now (text .exit)) (now (store .exit)) (now (ends .exit))) p r ⌝ }
+{
+    let at = p.at;
+    let prefixed = memory::put(text, p.moved(at + 2), b"std::");
+    let got = unq(s, text, store, ends, prefixed);
+    let Read::Text(next, m) = got else {
+        return got;
+    };
+    let n = m + 5;
+    let kept = memory::push_sub(text, store, ends, next, n);
+    let Read::Text(after, _) = kept else {
+        return kept;
+    };
+    let end = after.at;
+    if names::here(s, end, b'I') {
+        return inst_n(s, text, store, ends, after, n);
+    }
+    memory::given(after, n)
+}
+
+// <name> ::= <substitution> [<template-args>] | St <unqualified-name>, at S
+fn s_nm(s: &[u8], text: &mut [u8], store: &mut [u8], ends: &mut [u16], p: Parser) -> Read
+    requires { ⌜ Ready (now s) (mem (now text) (now store) (now ends)) p ⌝ }
+    ensures { λ r. ⌜ Reads (s-name reading) (keep (p .depth)) (p .at + 1) (now (s .entry))
+        (mem (now (text .entry)) (now (store .entry)) (now (ends .entry))) (mem (now (text .exit)) (now (store .exit)) (now (ends .exit))) p r ⌝ }
+{
+    let at = p.at;
+    if leaf::std_ahead(s, at) {
+        return std(s, text, store, ends, p);
+    }
+    let got = names::substitution(s, text, store, ends, p);
+    let Read::Text(next, n) = got else {
+        return got;
+    };
+    let end = next.at;
+    if names::here(s, end, b'I') {
+        return inst_n(s, text, store, ends, next, n);
+    }
+    got
+}
+
+// <local-name> ::= Z <function encoding> E <entity name> | Z <function encoding> E s
+fn local(s: &[u8], text: &mut [u8], store: &mut [u8], ends: &mut [u16], p: Parser) -> Read
+    requires { ⌜ Ready (now s) (mem (now text) (now store) (now ends)) p ⌝ }
+    ensures { λ r. ⌜ Reads (local-name reading) (keep (p .depth)) (p .at + 1) (now (s .entry))
+        (mem (now (text .entry)) (now (store .entry)) (now (ends .entry))) (mem (now (text .exit)) (now (store .exit)) (now (ends .exit))) p r ⌝ }
+{
+    let at = p.at;
+    if !names::here(s, at, b'Z') {
+        return Read::Refused(4);
+    }
+    let got = loc_fn(s, text, store, ends, p.moved(at + 1));
+    let Read::Text(outer, n) = got else {
+        return got;
+    };
+    let end = outer.at;
+    if names::here(s, end, b's') {
+        let next = memory::put(text, outer.moved(end + 1), b"::string literal");
+        return memory::given(next, n + 16);
+    }
+    let colons = memory::put(text, outer, b"::");
+    let inner = name(s, text, store, ends, colons);
+    let Read::Text(next, m) = inner else {
+        return inner;
+    };
+    memory::given(next, n + m + 2)
+}
+
+// <name> <type>* E
+fn loc_fn(s: &[u8], text: &mut [u8], store: &mut [u8], ends: &mut [u16], p: Parser) -> Read
+    requires { ⌜ Ready (now s) (mem (now text) (now store) (now ends)) p ⌝ }
+    ensures { λ r. ⌜ Reads (local-encoding reading) (keep (p .depth)) (p .at + 1) (now (s .entry))
+        (mem (now (text .entry)) (now (store .entry)) (now (ends .entry))) (mem (now (text .exit)) (now (store .exit)) (now (ends .exit))) p r ⌝ }
+{
+    let got = name(s, text, store, ends, p);
+    let Read::Text(named, n) = got else {
+        return got;
+    };
+    let at = named.at;
+    if names::here(s, at, b'E') {
+        return Read::Text(named.moved(at + 1), n);
+    }
+    let open = memory::put(text, named, b"(");
+    let list = items(s, text, store, ends, open, Kind::Types);
+    let Texts::Listed(last, m, _) = list else {
+        return lists::refused(list);
+    };
+    if Parser::TEXT < m {
+        return Read::Refused(11);
+    }
+    let end = last.at;
+    if !names::here(s, end, b'E') {
+        return Read::Refused(4);
+    }
+    let close = memory::put(text, last.moved(end + 1), b")");
+    memory::given(close, n + m + 2)
+}
+
+// <nested-name> ::= N [<CV-qualifiers>] [<ref-qualifier>] <prefix> <unqualified-name> E
+fn nested(s: &[u8], text: &mut [u8], store: &mut [u8], ends: &mut [u16], p: Parser) -> Read
+    requires { ⌜ Ready (now s) (mem (now text) (now store) (now ends)) p ⌝ }
+    ensures { λ r. ⌜ Reads (reading ⟨nested-name⟩) (keep (p .depth)) (p .at + 1) (now (s .entry))
+        (mem (now (text .entry)) (now (store .entry)) (now (ends .entry))) (mem (now (text .exit)) (now (store .exit)) (now (ends .exit))) p r ⌝ }
+{
+    let at = p.at;
+    if !names::here(s, at, b'N') {
+        return Read::Refused(4);
+    }
+    let from = at + 1;
+    let to = leaf::qualifiers(s, from);
+    let mut next = p.moved(to);
+    let mut parts = Parts {
+        n: 0,
+        last: 0,
+        count: 0,
+        structor: false,
+    };
+    loop {
+        let Peeked::Byte(c) = next.peek(s) else {
+            return Read::Refused(4);
+        };
+        if c == b'E' {
+            let end = next.at;
+            let named = next.moved(end + 1).with_cv(from, to);
+            let n = parts.n;
+            if parts.structor {
+                return memory::given(named.with_templated(false), n);
+            }
+            return memory::given(named, n);
+        }
+        let got = px(s, text, store, ends, next, parts, c);
+        let Prefix::Parts(after, more) = got else {
+            return lists::unprefixed(got);
+        };
+        next = after;
+        parts = more;
+    }
+}
+
+// One part more, which begins with c.
+fn px(
+    s: &[u8],
+    text: &mut [u8],
+    store: &mut [u8],
+    ends: &mut [u16],
+    p: Parser,
+    parts: Parts,
+    c: u8,
+) -> Prefix
+    requires { ⌜ (Ready (now s) (mem (now text) (now store) (now ends)) p) × ((parts .n ≤ 65536) × ((parts .last ≤ parts .n) × (min (parts .n) 32768 ≤ p .top))) ⌝ }
+    ensures { λ r. ⌜ ((t : List ℕ) → drop (p .at) (now (s .entry)) ≡ c ∷ t → ReadsPart (prefix reading) (now (s .entry))
+        (mem (now (text .entry)) (now (store .entry)) (now (ends .entry))) (mem (now (text .exit)) (now (store .exit)) (now (ends .exit))) p parts r) ⌝ }
+{
+    let at = p.at;
+    if leaf::structor(s, at) {
+        return lists::ctor_dtor(text, p, parts, c);
+    }
+    match c {
+        b'I' => px_arg(s, text, store, ends, p, parts),
+        b'S' => {
+            let colons = lists::separated(text, p, parts);
+            let got = names::substitution(s, text, store, ends, colons);
+            let Read::Text(next, m) = got else {
+                return lists::unread(got);
+            };
+            Prefix::Parts(next, lists::longer(parts, m))
+        }
+        _ => px_new(s, text, store, ends, p, parts, c),
+    }
+}
+
+// template arguments behind the last part
+fn px_arg(
+    s: &[u8],
+    text: &mut [u8],
+    store: &mut [u8],
+    ends: &mut [u16],
+    p: Parser,
+    parts: Parts,
+) -> Prefix
+    requires { ⌜ (Ready (now s) (mem (now text) (now store) (now ends)) p) × ((parts .n ≤ 65536) × ((parts .last ≤ parts .n) × (min (parts .n) 32768 ≤ p .top))) ⌝ }
+    ensures { λ r. ⌜ ReadsPart (prefix-args reading) (now (s .entry))
+        (mem (now (text .entry)) (now (store .entry)) (now (ends .entry))) (mem (now (text .exit)) (now (store .exit)) (now (ends .exit))) p parts r ⌝ }
+{
+    let bare = memory::clear_args(store, ends, p);
+    let got = args(s, text, store, ends, bare);
+    let Read::Text(named, m) = got else {
+        return lists::unread(got);
+    };
+    if parts.count == 0 {
+        return Prefix::Refused(4);
+    }
+    let n = memory::sum(parts.n, m);
+    let kept = memory::push_sub(text, store, ends, named, n);
+    let Read::Text(next, _) = kept else {
+        return lists::unread(kept);
+    };
+    let at = next.at;
+    let last = names::here(s, at, b'E');
+    Prefix::Parts(
+        next.with_templated(last),
+        Parts {
+            n,
+            last: memory::sum(parts.last, m),
+            count: 1,
+            structor: parts.structor,
+        },
+    )
+}
+
+// an unqualified name or a template parameter: an entry, unless it is the last part
+fn px_new(
+    s: &[u8],
+    text: &mut [u8],
+    store: &mut [u8],
+    ends: &mut [u16],
+    p: Parser,
+    parts: Parts,
+    c: u8,
+) -> Prefix
+    requires { ⌜ (Ready (now s) (mem (now text) (now store) (now ends)) p) × ((parts .n ≤ 65536) × ((parts .last ≤ parts .n) × (min (parts .n) 32768 ≤ p .top))) ⌝ }
+    ensures { λ r. ⌜ ReadsNewPart c (now (s .entry))
+        (mem (now (text .entry)) (now (store .entry)) (now (ends .entry))) (mem (now (text .exit)) (now (store .exit)) (now (ends .exit))) p parts r ⌝ }
+{
+    let colons = lists::separated(text, p, parts);
+    let got = part(s, text, store, ends, colons, c);
+    let Read::Text(next, m) = got else {
+        return lists::unread(got);
+    };
+    let more = lists::longer(parts, m);
+    let at = next.at;
+    if names::here(s, at, b'E') {
+        return Prefix::Parts(next, more);
+    }
+    let n = more.n;
+    let kept = memory::push_sub(text, store, ends, next, n);
+    let Read::Text(after, _) = kept else {
+        return lists::unread(kept);
+    };
+    Prefix::Parts(after, more)
+}
+
+fn part(s: &[u8], text: &mut [u8], store: &mut [u8], ends: &mut [u16], p: Parser, c: u8) -> Read
+    requires { ⌜ Ready (now s) (mem (now text) (now store) (now ends)) p ⌝ }
+    ensures { λ r. ⌜ ReadsPartText c (now (s .entry))
+        (mem (now (text .entry)) (now (store .entry)) (now (ends .entry))) (mem (now (text .exit)) (now (store .exit)) (now (ends .exit))) p r ⌝ }
+{
+    if c == b'T' {
+        return names::template_param(s, text, store, ends, p);
+    }
+    unq(s, text, store, ends, p)
+}
+
+// <unqualified-name> ::= <operator-name> | <ctor-dtor-name> | <source-name> | <unnamed-type-name>
+fn unq(s: &[u8], text: &mut [u8], store: &mut [u8], ends: &mut [u16], p: Parser) -> Read
+    requires { ⌜ Ready (now s) (mem (now text) (now store) (now ends)) p ⌝ }
+    ensures { λ r. ⌜ Reads (reading ⟨unqualified-name⟩) (keep (p .depth)) (p .at + 1) (now (s .entry))
+        (mem (now (text .entry)) (now (store .entry)) (now (ends .entry))) (mem (now (text .exit)) (now (store .exit)) (now (ends .exit))) p r ⌝ }
+{
+    let first = p.at;
+    let at = names::behind(s, first, b'L');
+    let q = p.moved(at);
+    let Peeked::Byte(c) = q.peek(s) else {
+        return Read::Refused(4);
+    };
+    match c {
+        b'0'..=b'9' => names::source_name(s, text, q),
+        b'C' => {
+            if s.len() <= at + 1 {
+                return Read::Refused(4);
+            }
+            Read::Text(memory::put(text, q.moved(at + 2), b"{ctor}"), 6)
+        }
+        b'D' => {
+            if s.len() <= at + 1 {
+                return Read::Refused(4);
+            }
+            Read::Text(memory::put(text, q.moved(at + 2), b"{dtor}"), 6)
+        }
+        b'U' => names::unnamed_type_name(s, text, q.moved(at + 1)),
+        _ => oper(s, text, store, ends, q),
+    }
+}
+
+// <operator-name> ::= nw | .. | cv <type>
+fn oper(s: &[u8], text: &mut [u8], store: &mut [u8], ends: &mut [u16], p: Parser) -> Read
+    requires { ⌜ Ready (now s) (mem (now text) (now store) (now ends)) p ⌝ }
+    ensures { λ r. ⌜ Reads (reading ⟨operator-name⟩) (keep (p .depth)) (p .at + 1) (now (s .entry))
+        (mem (now (text .entry)) (now (store .entry)) (now (ends .entry))) (mem (now (text .exit)) (now (store .exit)) (now (ends .exit))) p r ⌝ }
+{
+    let at = p.at;
+    if s.len() <= at + 1 {
+        return Read::Refused(4);
+    }
+    let a = s[at];
+    let c = s[at + 1];
+    let behind = p.moved(at + 2);
+    if let Picked::At(w) = codes::operator_name(a, c) {
+        return names::word(text, behind, w);
+    }
+    if a != b'c' {
+        return Read::Refused(4);
+    }
+    if c != b'v' {
+        return Read::Refused(4);
+    }
+    let operator = memory::put(text, behind, b"operator ");
+    let got = ty(s, text, store, ends, operator);
+    let Read::Text(next, n) = got else {
+        return got;
+    };
+    memory::given(next.with_templated(false), n + 9)
+}

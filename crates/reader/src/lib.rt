@@ -1,0 +1,3 @@
+// The readings that call one another: names, types, template arguments and literals.
+pub mod cycle;
+pub mod lists;
