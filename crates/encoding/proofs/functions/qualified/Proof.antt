@@ -1,0 +1,87 @@
+-- `encoding::functions::qualified`: the loop's invariant is that the text has what the qualifiers so far print. Assumes nothing.
+use mathlib.Core.Logic.{_⊎_, ⊎-elim}
+use Prim.Native.Nat.{_-_}
+use native.Mathlib.Omega.{arith}
+use borrow.Author.Needs.{needs}
+use Rattle.grammar.proofs.Lookups.{length-spelled}
+use Rattle.parser.specs.Wraps.{picked-at}
+use Rattle.encoding.specs.Ends.{Qualifying, qualifying-start, qualifying-word, qualifying-nothing, qualifying-done}
+use Rattle.encoding.proofs.functions.qualified.Statement.{statement}
+use Rattle.encoding.proofs.functions.qualified.Tie as tie
+
+abbrev Inv-loop : tie.InvT-loop
+Inv-loop s text₀ n from to next₀ size₀ at₀ text next size at = Qualifying s text₀ text next₀ next n from to size at
+
+abbrev μ-loop : tie.MeasureT-loop
+μ-loop s text₀ n from to next₀ size₀ at₀ text next size at = to - at
+
+loop-holds : tie.Need-loop-holds Inv-loop μ-loop
+loop-holds c = qualifying-start (c .before .before .args .s .now) (c .before .before .pre .0) (c .before .before .pre .1 .0) (c .before .before .pre .1 .1 .0)
+
+shared-slice-read-qualifier : tie.Need-shared-slice-read-qualifier Inv-loop μ-loop
+shared-slice-read-qualifier c = omega (arith, c .before .before .before .before .before .pre .1 .1 .1)
+
+qualifier-requires : tie.Need-qualifier-requires Inv-loop μ-loop
+qualifier-requires c κs = search needs
+
+enum-known-w : tie.Need-enum-known-w Inv-loop μ-loop
+enum-known-w c = search needs
+
+put-word-requires : tie.Need-put-word-requires Inv-loop μ-loop
+put-word-requires c κs = (c .before .before .before .before .before .before .before .loop .inv .adds .clean, picked-at (c .before .before .before .before .qualifier .ensures) (c .before .before .w .given .1) .1)
+
+sub-sum : tie.Need-sub-sum Inv-loop μ-loop
+sub-sum c = omega (arith, picked-at (c .before .before .before .before .before .before .before .before .qualifier .ensures) (c .before .before .before .before .before .before .w .given .1) .1)
+
+sum-requires : tie.Need-sum-requires Inv-loop μ-loop
+sum-requires c κs = (omega (arith, c .before .before .before .before .before .before .before .before .before .before .before .loop .inv .size-is), omega (arith, picked-at (c .before .before .before .before .before .before .before .before .qualifier .ensures) (c .before .before .before .before .before .before .w .given .1) .1))
+
+enum-told : tie.Need-enum-told Inv-loop μ-loop
+enum-told c = search needs
+
+add-at : tie.Need-add-at Inv-loop μ-loop
+add-at c = omega (arith, c .before .before .before .before .before .before .before .pre .1 .1 .1)
+
+loop-less : tie.Need-loop-less Inv-loop μ-loop
+loop-less c = omega arith
+
+loop-again : tie.Need-loop-again Inv-loop μ-loop
+loop-again c =
+    let i = c .before .before .before .before .loop .inv in
+    let l = c .before .before .before .loop-test .taken in
+    let h = c .before .before .before .before .before .before .before .pre .1 .1 .1 in
+    let g = c .before .qualifier .ensures in
+    ⊎-elim
+    (λ w. rw (w .9, w .10, w .11) (qualifying-word i l h g (w .1 .given .1) (length-spelled _ (picked-at g (w .1 .given .1) .1)) (w .4 .ensures) (w .8 .ensures)))
+    (λ w. rw (w .2, w .3, w .4) (qualifying-nothing i l h g (w .1 .given .1)))
+    (c .match .came)
+
+given-requires : tie.Need-given-requires Inv-loop μ-loop
+given-requires c κs = search needs
+
+same-length : tie.Need-same-length Inv-loop μ-loop
+same-length c = omega (arith, c .before .before .loop .inv .adds .clean .size, c .before .before .before .before .before .pre .0 .size)
+
+returns : tie.Need-returns Inv-loop μ-loop
+returns c = qualifying-done (c .before .before .loop .inv) (omega arith) (c .given .ensures)
+
+pub qualified-spec : {M : Type 1} → statement M
+qualified-spec =
+    tie.close
+    (tie.spec
+    Inv-loop
+    μ-loop
+    loop-holds
+    shared-slice-read-qualifier
+    qualifier-requires
+    enum-known-w
+    put-word-requires
+    sub-sum
+    sum-requires
+    enum-told
+    add-at
+    loop-less
+    loop-again
+    given-requires
+    same-length
+    returns)

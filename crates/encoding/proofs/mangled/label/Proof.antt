@@ -1,0 +1,35 @@
+-- `encoding::mangled::label` looks at the first two bytes. Assumes nothing.
+use native.Mathlib.Omega.{arith}
+use Rattle.encoding.specs.Labels.{labels-short, labels-other, labels-picked}
+use borrow.Author.Needs.{needs}
+use Rattle.encoding.proofs.mangled.label.Statement.{statement}
+use Rattle.encoding.proofs.mangled.label.Tie as tie
+
+returns : tie.Need-returns
+returns c = labels-short (c .before .before .args .s .now) (c .if1 .taken)
+
+shared-slice-read-if2 : tie.Need-shared-slice-read-if2
+shared-slice-read-if2 c = search needs
+
+returns-2 : tie.Need-returns-2
+returns-2 c = labels-other (c .before .before .before .before .args .s .now) (omega (arith, c .before .before .if1 .left)) (c .if2 .taken)
+
+shared-slice-read-label : tie.Need-shared-slice-read-label
+shared-slice-read-label c = search needs
+
+label-requires : tie.Need-label-requires
+label-requires c κs = search needs
+
+returns-3 : tie.Need-returns-3
+returns-3 c = labels-picked (c .before .before .before .before .before .before .args .s .now) (omega (arith, c .before .before .before .before .if1 .left)) (c .before .before .if2 .left) (c .label .ensures)
+
+pub label-spec : {M : Type 1} → statement M
+label-spec =
+    tie.close
+    (tie.spec
+    returns
+    shared-slice-read-if2
+    returns-2
+    shared-slice-read-label
+    label-requires
+    returns-3)

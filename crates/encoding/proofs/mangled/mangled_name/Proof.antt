@@ -1,0 +1,159 @@
+-- `encoding::mangled::mangled_name`: the loop's invariant is that the reading is that of what is left, with the words for each
+-- GTt before it. Assumes nothing.
+use mathlib.Core.Path.{sym, ap, _∙_}
+use Prim.Native.Nat.{_-_}
+use native.Mathlib.Omega.{arith}
+use lib.ListN.{length, length-drop}
+use Rattle.grammar.specs.Text.{b, starts}
+use Rattle.store.specs.Lists.{second-lent}
+use Rattle.parser.specs.Adds.{clean-by}
+use Rattle.encoding.specs.Clones.{blank-text, Clones, clones-start, clone-fits, clones-more, clones-fresh, clones-alone, clones-refused, clones-got, clones-given}
+use borrow.Author.Needs.{needs}
+use Rattle.encoding.proofs.mangled.mangled_name.Statement.{statement}
+use Rattle.encoding.proofs.mangled.mangled_name.Tie as tie
+
+abbrev Inv-loop : tie.InvT-loop
+Inv-loop s text₀ store ends at₀ p₀ n₀ t12 t13 text at p n = Clones s text₀ text p₀ p n at
+
+abbrev μ-loop : tie.MeasureT-loop
+μ-loop s text₀ store ends at₀ p₀ n₀ t12 t13 text at p n = length s - at
+
+new-requires : tie.Need-new-requires Inv-loop μ-loop
+new-requires c κs = search needs
+
+loop-holds : tie.Need-loop-holds Inv-loop μ-loop
+loop-holds c = clones-start (c .before .before .before .before .before .args .s .now) (clean-by (c .new .ensures) (blank-text (c .before .before .before .before .before .pre .1)))
+
+slice-aggregate-starts-with : tie.Need-slice-aggregate-starts-with Inv-loop μ-loop
+slice-aggregate-starts-with c = search needs
+
+starts-with-requires : tie.Need-starts-with-requires Inv-loop μ-loop
+starts-with-requires c κs = search needs
+
+slice-aggregate-put : tie.Need-slice-aggregate-put Inv-loop μ-loop
+slice-aggregate-put c = search needs
+
+put-requires : tie.Need-put-requires Inv-loop μ-loop
+put-requires c κs = (c .before .before .before .before .before .loop .inv .adds .clean, omega arith)
+
+sum-requires : tie.Need-sum-requires Inv-loop μ-loop
+sum-requires c κs = (omega (arith, c .before .before .before .before .before .before .before .before .loop .inv .size-is), omega arith)
+
+add-at : tie.Need-add-at Inv-loop μ-loop
+add-at c = omega (arith, c .before .before .before .before .before .before .before .before .before .loop .inv .place, c .before .before .before .before .before .before .before .before .before .before .before .before .before .before .before .pre .0)
+
+loop-less : tie.Need-loop-less Inv-loop μ-loop
+loop-less c = omega (arith, clone-fits (c .before .before .before .before .before .before .before .before .before .loop .inv) (sym (c .before .before .before .before .before .before .before .starts-with .ensures) ∙ c .before .before .before .before .before .before .if1 .taken))
+
+loop-again : tie.Need-loop-again Inv-loop μ-loop
+unfolding b
+loop-again c = clones-more (c .before .before .before .before .before .before .before .before .before .loop .inv) (sym (c .before .before .before .before .before .before .before .starts-with .ensures) ∙ c .before .before .before .before .before .before .if1 .taken) (c .before .before .before .put .ensures) (c .sum .ensures)
+
+sub-inner : tie.Need-sub-inner Inv-loop μ-loop
+sub-inner c = omega (arith, c .before .before .before .loop .inv .place)
+
+part-inner-start : tie.Need-part-inner-start Inv-loop μ-loop
+part-inner-start c = omega (arith, c .before .before .before .loop .inv .place)
+
+part-inner-end : tie.Need-part-inner-end Inv-loop μ-loop
+part-inner-end c = search needs
+
+encoding-requires : tie.Need-encoding-requires Inv-loop μ-loop
+unfolding b
+encoding-requires c κs =
+    let s = c .before .before .before .before .before .before .before .before .before .before .before .before .before .args .s .now in
+    let e = second-lent (c .before .before .before .before .before .before .before .loop .at) s in (
+      omega (arith, ap length e, length-drop (c .before .before .before .before .before .before .before .loop .at) s, c .before .before .before .before .before .before .before .before .before .before .before .before .before .pre .0),
+      (ap (λ t. starts t (b "GTt")) e ∙ sym (c .before .before .before .before .before .starts-with .ensures) ∙ c .before .before .before .before .if1 .left, clones-fresh (c .before .before .before .before .before .before .before .loop .inv) (c .before .before .before .before .before .before .before .before .new .ensures) (c .before .before .before .before .before .before .before .before .before .before .before .before .before .pre .1)),
+    )
+
+enum-known-got : tie.Need-enum-known-got Inv-loop μ-loop
+enum-known-got c = search needs
+
+enum-told : tie.Need-enum-told Inv-loop μ-loop
+enum-told c = search needs
+
+same-length : tie.Need-same-length Inv-loop μ-loop
+same-length c = omega (arith, c .before .before .before .before .before .before .before .before .encoding .kept, c .before .before .before .before .before .before .before .before .before .before .before .before .before .before .before .before .loop .inv .adds .clean .size, blank-text (c .before .before .before .before .before .before .before .before .before .before .before .before .before .before .before .before .before .before .before .before .before .before .pre .1) .size)
+
+same-length-2 : tie.Need-same-length-2 Inv-loop μ-loop
+same-length-2 c = omega (arith, c .before .before .before .before .before .before .before .before .encoding .kept)
+
+same-length-3 : tie.Need-same-length-3 Inv-loop μ-loop
+same-length-3 c = omega (arith, c .before .before .before .before .before .before .before .before .encoding .kept)
+
+returns : tie.Need-returns Inv-loop μ-loop
+returns c = clones-refused (c .before .before .before .before .before .before .before .before .before .before .before .before .before .before .before .before .loop .inv) (c .before .before .before .before .before .before .before .before .before .before .before .before .before .before .before .before .before .new .ensures) (second-lent (c .before .before .before .before .before .before .before .before .before .before .before .before .before .before .before .before .loop .at) (c .before .before .before .before .before .before .before .before .before .before .before .before .before .before .before .before .before .before .before .before .before .before .args .s .now)) (c .before .before .before .before .before .before .before .before .encoding .ensures) (c .enum-told .given .1)
+
+same-length-4 : tie.Need-same-length-4 Inv-loop μ-loop
+same-length-4 c = omega (arith, c .before .before .before .before .before .before .before .before .before .before .encoding .kept, c .before .before .before .before .before .before .before .before .before .before .before .before .before .before .before .before .before .before .loop .inv .adds .clean .size, blank-text (c .before .before .before .before .before .before .before .before .before .before .before .before .before .before .before .before .before .before .before .before .before .before .before .before .pre .1) .size)
+
+same-length-5 : tie.Need-same-length-5 Inv-loop μ-loop
+same-length-5 c = omega (arith, c .before .before .before .before .before .before .before .before .before .before .encoding .kept)
+
+same-length-6 : tie.Need-same-length-6 Inv-loop μ-loop
+same-length-6 c = omega (arith, c .before .before .before .before .before .before .before .before .before .before .encoding .kept)
+
+returns-2 : tie.Need-returns-2 Inv-loop μ-loop
+returns-2 c = clones-alone (c .before .before .before .before .before .before .before .before .before .before .before .before .before .before .before .before .before .before .loop .inv) (c .before .before .before .before .before .before .before .before .before .before .before .before .before .before .before .before .before .before .before .new .ensures) (second-lent (c .before .before .before .before .before .before .before .before .before .before .before .before .before .before .before .before .before .before .loop .at) (c .before .before .before .before .before .before .before .before .before .before .before .before .before .before .before .before .before .before .before .before .before .before .before .before .args .s .now)) (c .before .before .before .before .before .before .before .before .before .before .encoding .ensures) (c .if2 .taken) (c .before .before .got .given .1)
+
+moved-requires : tie.Need-moved-requires Inv-loop μ-loop
+moved-requires c κs = search needs
+
+sum-requires-2 : tie.Need-sum-requires-2 Inv-loop μ-loop
+sum-requires-2 c κs =
+    let w = clones-got (c .before .before .before .before .before .before .before .before .before .before .before .before .before .before .before .before .before .before .before .loop .inv) (c .before .before .before .before .before .before .before .before .before .before .before .before .before .before .before .before .before .before .before .before .new .ensures) (second-lent (c .before .before .before .before .before .before .before .before .before .before .before .before .before .before .before .before .before .before .before .loop .at) (c .before .before .before .before .before .before .before .before .before .before .before .before .before .before .before .before .before .before .before .before .before .before .before .before .before .args .s .now)) (c .before .before .before .before .before .before .before .before .before .before .before .encoding .ensures) (c .before .before .before .got .given .1) .prints in
+    (omega (arith, c .before .before .before .before .before .before .before .before .before .before .before .before .before .before .before .before .before .before .before .loop .inv .size-is), omega (arith, w .size, w .short))
+
+given-requires : tie.Need-given-requires Inv-loop μ-loop
+given-requires c κs = search needs
+
+same-length-7 : tie.Need-same-length-7 Inv-loop μ-loop
+same-length-7 c = omega (arith, c .before .before .before .before .before .before .before .before .before .before .before .before .before .encoding .kept, c .before .before .before .before .before .before .before .before .before .before .before .before .before .before .before .before .before .before .before .before .before .loop .inv .adds .clean .size, blank-text (c .before .before .before .before .before .before .before .before .before .before .before .before .before .before .before .before .before .before .before .before .before .before .before .before .before .before .before .pre .1) .size)
+
+same-length-8 : tie.Need-same-length-8 Inv-loop μ-loop
+same-length-8 c = omega (arith, c .before .before .before .before .before .before .before .before .before .before .before .before .before .encoding .kept)
+
+same-length-9 : tie.Need-same-length-9 Inv-loop μ-loop
+same-length-9 c = omega (arith, c .before .before .before .before .before .before .before .before .before .before .before .before .before .encoding .kept)
+
+returns-3 : tie.Need-returns-3 Inv-loop μ-loop
+returns-3 c = clones-given (c .before .before .before .before .before .before .before .before .before .before .before .before .before .before .before .before .before .before .before .before .before .loop .inv) (c .before .before .before .before .before .before .before .before .before .before .before .before .before .before .before .before .before .before .before .before .before .before .new .ensures) (second-lent (c .before .before .before .before .before .before .before .before .before .before .before .before .before .before .before .before .before .before .before .before .before .loop .at) (c .before .before .before .before .before .before .before .before .before .before .before .before .before .before .before .before .before .before .before .before .before .before .before .before .before .before .before .args .s .now)) (c .before .before .before .before .before .before .before .before .before .before .before .before .before .encoding .ensures) (c .before .before .before .if2 .left) (c .before .before .before .before .before .got .given .1) (c .before .before .moved .ensures) (c .before .sum2 .ensures) (c .given .ensures)
+
+pub mangled-name-spec : {M : Type 1} → statement M
+mangled-name-spec =
+    tie.close
+    (tie.spec
+    Inv-loop
+    μ-loop
+    new-requires
+    loop-holds
+    slice-aggregate-starts-with
+    starts-with-requires
+    slice-aggregate-put
+    put-requires
+    sum-requires
+    add-at
+    loop-less
+    loop-again
+    sub-inner
+    part-inner-start
+    part-inner-end
+    encoding-requires
+    enum-known-got
+    enum-told
+    same-length
+    same-length-2
+    same-length-3
+    returns
+    same-length-4
+    same-length-5
+    same-length-6
+    returns-2
+    moved-requires
+    sum-requires-2
+    given-requires
+    same-length-7
+    same-length-8
+    same-length-9
+    returns-3)

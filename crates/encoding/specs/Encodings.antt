@@ -1,0 +1,98 @@
+-- What the readings of an encoding promise.
+use mathlib.Core.Bool.{Bool, _&&_}
+use mathlib.Core.List.{List, [], _++_}
+use mathlib.Core.Path.{_≡_}
+use Prim.Native.Nat.{ℕ, _+_, _≤_}
+use lib.ListN.{length, drop}
+use Rattle.grammar.specs.Text.{Text, b, choose, same, each, join}
+use Rattle.grammar.specs.Tables.{labels}
+use Rattle.grammar.specs.Reader.{State, Result, ok, refused, Reader, onto, give, find}
+use Rattle.grammar.specs.Words.{word-of, Picked-inside}
+use Rattle.grammar.specs.declared.codes.Word.{Word}
+use Rattle.grammar.specs.declared.codes.Picked.{Picked}
+use Rattle.grammar.specs.declared.codes.Picked.the-variants.{At}
+use Rattle.grammar.specs.Grammar.{reading, ⟨type⟩, qualifier, only-void, bare-function-type}
+use Rattle.store.specs.Stack.{Clean, Tail, zeros}
+use Rattle.store.specs.Table.{Entries}
+use Rattle.parser.specs.declared.state.Parser.{Parser}
+use Rattle.parser.specs.declared.state.Read.{Read}
+use Rattle.parser.specs.declared.state.Read.the-variants.{Text as read, Refused}
+use Rattle.parser.specs.States.{fresh, raised-to}
+use Rattle.parser.specs.Holds.{Memory, mem, window, part, low-bytes, high-bytes, low-ends, high-ends, Stands, Refines, keep}
+
+-- ---------------------------------------------------------------- functions
+
+-- what the qualifiers in a part of the symbol print
+abbrev pub qualified-by : Text → ℕ → ℕ → Text
+qualified-by s from to = each qualifier (part s from to)
+
+-- a text of n bytes is returned with what the qualifiers print
+abbrev pub Qualifies : Text → Text → Text → Parser → ℕ → ℕ → ℕ → Read → Type 0
+Qualifies s text text' p n from to r =
+    (k d : ℕ) (base : Text) (at : ℕ) (store ends t : Text) (σ : State) → Stands k d s base at (mem text store ends) p n t σ →
+    Refines k d s base at (mem text' store ends) r (give (t ++ qualified-by s from to) σ)
+
+-- whether the parameters, of n bytes, are a void alone at the end of the symbol
+abbrev pub LoneVoid : Text → Text → Parser → ℕ → ℕ → Bool → Type 0
+LoneVoid s text p n count r =
+    (k d : ℕ) (base : Text) (at : ℕ) (store ends : Text) (ts : List Text) (σ : State) →
+    Stands k d s base at (mem text store ends) p n (join (b ", ") ts) σ → count ≡ length ts → r ≡ (only-void ts && same (σ .rest) [])
+
+-- parameters behind a text, and qualifiers
+abbrev pub with-parameters : Text → Text → Reader Text
+with-parameters t q σ = onto (λ ps. give (t ++ b "(" ++ ps ++ b ")" ++ q)) (bare-function-type reading σ)
+
+-- the type returned before a text, and the same
+abbrev pub with-returned : Text → Text → Reader Text
+with-returned t q σ = onto (λ r. with-parameters (r ++ b " " ++ t) q) (reading ⟨type⟩ σ)
+
+-- a reading goes on from a text of n bytes
+abbrev pub GoesOn : (Text → Text → Reader Text) → Text → Memory → Memory → Parser → ℕ → ℕ → ℕ → Read → Type 0
+GoesOn f s m m' p n from to r =
+    (base : Text) (at : ℕ) (t : Text) (σ : State) → Stands (keep (p .depth + 1)) (p .depth) s base at m p n t σ →
+    Refines (keep (p .depth)) (p .depth) s base at m' r (f t (qualified-by s from to) σ)
+
+-- ---------------------------------------------------------------- encodings
+
+-- the label that stands first in the symbol is the one that the code picks
+pub record Labels (s : Text) (r : Picked) : Type 0 where
+  pub is : (f : Text → Text → Result Text) (x : Result Text) → choose (find labels s) (λ q. f (b (q .0)) (q .1)) x ≡ choose (word-of r) (λ t. f t (drop 2 s)) x
+  pub inside : Picked-inside r
+  pub long : (w : Word) → r ≡ At w → 2 ≤ length s
+
+-- the state is empty but for the stack of texts
+pub record Fresh (m : Memory) (p : Parser) : Type 0 where
+  pub same : p ≡ raised-to fresh (p .top)
+  pub text : Clean (m .text) (p .top)
+  pub subs : Entries [] (low-bytes (m .store)) (low-ends (m .ends)) 0 0
+  pub args : Entries [] (high-bytes (m .store)) (high-ends (m .ends)) 0 0
+
+-- the tables hold some texts
+abbrev pub Subs : Memory → Parser → Type 0
+Subs m p = (l : List Text) × Entries l (low-bytes (m .store)) (low-ends (m .ends)) (p .subs .count) (p .subs .bytes)
+
+abbrev pub Args : Memory → Parser → Type 0
+Args m p = (l : List Text) × Entries l (high-bytes (m .store)) (high-ends (m .ends)) (p .args .count) (p .args .bytes)
+
+-- the text t, of n bytes, is the newest on the stack, above the base, and so many bytes are left unread as the grammar
+-- leaves; the tables may hold more than the grammar's, since GTt and GV drop them
+pub record Prints (k : ℕ) (s base : Text) (m : Memory) (p : Parser) (n : ℕ) (t : Text) (σ : State) : Type 0 where
+  pub place : p .at ≤ length s
+  pub rest : σ .rest ≡ drop (p .at) s
+  pub text : Clean (m .text) (p .top)
+  pub tail : Tail k (window m p) (base ++ t)
+  pub size : n ≡ length t
+  pub short : length t ≤ 16384
+  pub subs : Subs m p
+  pub args : Args m p
+
+-- the code's answer is the grammar's
+pub data Encodes (k : ℕ) (s base : Text) (m : Memory) : Read → Result Text → Type 0 where
+  encodes : {p : Parser} {n : ℕ} {t : Text} {σ : State} → Prints k s base m p n t σ → Encodes k s base m (read p n) (ok t σ)
+  refuses : {r : ℕ} → Encodes k s base m (Refused r) (refused r)
+
+-- the work slices are as long as they have to be, and zero
+pub record Blank (m : Memory) : Type 0 where
+  pub text : m .text ≡ zeros 65536
+  pub store : m .store ≡ zeros 65536
+  pub ends : m .ends ≡ zeros 2048

@@ -1,0 +1,3 @@
+// What is behind _Z: special names, functions and data.
+pub mod functions;
+pub mod mangled;
