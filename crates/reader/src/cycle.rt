@@ -322,7 +322,7 @@ pub fn args(s: &[u8], text: &mut [u8], store: &mut [u8], ends: &mut [u16], p: Pa
         return Read::Refused(4);
     }
     let depth = p.depth;
-    if Parser::DEPTH <= depth {
+    if depth >= Parser::DEPTH {
         return Read::Refused(8);
     }
     let open = memory::put(text, p.moved(at + 1).enter(), b"<");
