@@ -1,0 +1,21 @@
+-- `names::entry::refused` meets its contract, by cases. Assumes nothing.
+use mathlib.Core.Path.{sym, ap}
+use borrow.Author.Needs.{needs}
+use Rattle.names.specs.Printed.{refused-of}
+use Rattle.names.proofs.entry.refused.Statement.{statement}
+use Rattle.names.proofs.entry.refused.Tie as tie
+
+enum-known-front : tie.Need-enum-known-front
+enum-known-front c = search needs
+
+enum-known-front-2 : tie.Need-enum-known-front-2
+enum-known-front-2 c = search needs
+
+returns : tie.Need-returns
+returns c = sym (ap refused-of (c .before .front .given .1))
+
+returns-2 : tie.Need-returns-2
+returns-2 c = sym (ap refused-of (c .before .front2 .given .1))
+
+pub refused-spec : {M : Type 1} → statement M
+refused-spec = tie.close (tie.spec enum-known-front enum-known-front-2 returns returns-2)

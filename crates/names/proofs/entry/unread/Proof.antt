@@ -1,0 +1,21 @@
+-- `names::entry::unread` meets its contract, by cases. Assumes nothing.
+use mathlib.Core.Path.{sym, ap}
+use borrow.Author.Needs.{needs}
+use Rattle.names.specs.Printed.{unread-of}
+use Rattle.names.proofs.entry.unread.Statement.{statement}
+use Rattle.names.proofs.entry.unread.Tie as tie
+
+enum-known-got : tie.Need-enum-known-got
+enum-known-got c = search needs
+
+enum-known-got-2 : tie.Need-enum-known-got-2
+enum-known-got-2 c = search needs
+
+returns : tie.Need-returns
+returns c = sym (ap unread-of (c .before .got .given .1))
+
+returns-2 : tie.Need-returns-2
+returns-2 c = sym (ap unread-of (c .before .got2 .given .1))
+
+pub unread-spec : {M : Type 1} → statement M
+unread-spec = tie.close (tie.spec enum-known-got enum-known-got-2 returns returns-2)

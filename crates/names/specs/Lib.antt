@@ -1,0 +1,8 @@
+pub mod Outcome
+pub mod Symbols
+pub mod Fronts
+pub mod Slotless
+pub mod Printed
+pub mod Wiped
+pub mod Tells
+pub mod Told

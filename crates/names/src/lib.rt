@@ -1,0 +1,3 @@
+// The entry for names.
+pub mod entry;
+pub mod symbol;

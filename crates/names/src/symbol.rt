@@ -1,0 +1,80 @@
+// What is told of a symbol before it is read, and its name written.
+use grammar::text as bytes;
+ghost use mathlib.Core.Bool.{_&&_};
+ghost use mathlib.Core.Path.{_≡_};
+ghost use mathlib.Core.List.{_++_};
+ghost use Prim.Native.Nat.{_-_, _≤_};
+ghost use lib.Dec.{leb};
+ghost use lib.ListN.{length, take, drop};
+ghost use Rattle.grammar.specs.Names.{high, without-slots};
+ghost use Rattle.names.specs.Symbols.{Fronts};
+
+// The place behind _Z or __Z, or why there is none.
+pub enum Front {
+    Behind(usize),
+    Refused(u8),
+}
+
+// Whether a byte is 128 or more.
+pub fn has_high(s: &[u8]) -> bool
+    ensures { λ r. ⌜ r ≡ high (now (s .entry)) ⌝ }
+{
+    let mut i: usize = 0;
+    while i < s.len() {
+        if 128 <= s[i] {
+            return true;
+        }
+        i += 1;
+    }
+    false
+}
+
+pub fn behind_front(s: &[u8]) -> Front
+    ensures { λ r. ⌜ Fronts (now (s .entry)) r ⌝ }
+{
+    if 4096 < s.len() {
+        return Front::Refused(1);
+    }
+    if has_high(s) {
+        return Front::Refused(2);
+    }
+    if bytes::starts_with(s, 0, b"_Z") {
+        return Front::Behind(2);
+    }
+    if bytes::starts_with(s, 0, b"__Z") {
+        return Front::Behind(3);
+    }
+    Front::Refused(3)
+}
+
+// Whether the work slices are as long as they have to be.
+pub fn work_fits(text: usize, store: usize, ends: usize) -> bool
+    ensures { λ r. ⌜ r ≡ (leb 65536 text && leb 65536 store && leb 2048 ends) ⌝ }
+{
+    if text < 65536 {
+        return false;
+    }
+    if store < 65536 {
+        return false;
+    }
+    2048 <= ends
+}
+
+// text[from..to] without its slots, into the front of `out`.
+pub fn write_name(out: &mut [u8], text: &[u8], from: usize, to: usize)
+    requires { ⌜ (from ≤ to) × ((to ≤ length (now text)) × (length (without-slots (take (to - from) (drop from (now text)))) ≤ length (now out))) ⌝ }
+    ensures { λ _. ⌜ now (out .exit) ≡ without-slots (take (to - from) (drop from (now (text .entry))))
+        ++ drop (length (without-slots (take (to - from) (drop from (now (text .entry)))))) (now (out .entry)) ⌝ }
+{
+    let n = to - from;
+    let mut at: usize = 0;
+    let mut i: usize = 0;
+    while i < n {
+        let c = text[from + i];
+        if c != 1 {
+            out[at] = c;
+            at += 1;
+        }
+        i += 1;
+    }
+}
