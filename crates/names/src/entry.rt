@@ -81,9 +81,9 @@ fn read_behind(
     read(
         &s[at..],
         out,
-        &mut text[..65536],
-        &mut store[..65536],
-        &mut ends[..2048],
+        &mut text[..symbol::TEXT],
+        &mut store[..symbol::STORE],
+        &mut ends[..symbol::ENDS],
     )
 }
 

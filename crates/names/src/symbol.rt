@@ -9,6 +9,11 @@ ghost use lib.ListN.{length, take, drop};
 ghost use Rattle.grammar.specs.Names.{high, without-slots};
 ghost use Rattle.names.specs.Symbols.{Fronts};
 
+// The least lengths of the work slices.
+pub const TEXT: usize = 65536;
+pub const STORE: usize = 65536;
+pub const ENDS: usize = 2048;
+
 // The place behind _Z or __Z, or why there is none.
 pub enum Front {
     Behind(usize),
@@ -51,13 +56,13 @@ pub fn behind_front(s: &[u8]) -> Front
 pub fn work_fits(text: usize, store: usize, ends: usize) -> bool
     ensures { λ r. ⌜ r ≡ (leb 65536 text && leb 65536 store && leb 2048 ends) ⌝ }
 {
-    if text < 65536 {
+    if text < TEXT {
         return false;
     }
-    if store < 65536 {
+    if store < STORE {
         return false;
     }
-    2048 <= ends
+    ENDS <= ends
 }
 
 // text[from..to] without its slots, into the front of `out`.
