@@ -1,0 +1,91 @@
+-- The listing: for each line of the input a line with the number, the length and the name that the symbol gets.
+use mathlib.Core.Bool.{Bool, _&&_}
+use mathlib.Core.List.{List, [], _∷_, _++_}
+use mathlib.Core.Path.{_≡_}
+use Prim.Native.Nat.{ℕ, _+_, _-_}
+use Prim.Native.Char.{code}
+use lib.ListN.{length, drop}
+use lib.Dec.{eqb, leb}
+use Rattle.grammar.specs.Text.{Text, if_then_else_, decimal}
+use Rattle.grammar.specs.Names.{Answer, named, refusal, demangle, most-symbol-bytes, number-of, length-of, least-text, least-store, least-ends}
+use Rattle.store.specs.Stack.{zeros}
+use Rattle.names.specs.Outcome.{Slices}
+use Rattle.listing.specs.declared.listing.Listed.{Listed}
+
+abbrev pub line-feed : ℕ
+line-feed = 10
+
+-- five digits are enough: the entry tells the number in a byte, and no name has more than 16,384 bytes (ListingNames)
+unfoldable pub head : ℕ → ℕ → Text
+head number bytes = decimal 5 number ++ (code "," ∷ (decimal 5 bytes ++ (code "," ∷ [])))
+
+unfoldable pub line : ℕ → ℕ → Text → Text
+line number bytes name = head number bytes ++ (name ++ (line-feed ∷ []))
+
+unfoldable pub name-of : Answer → Text
+name-of (named t) = t
+name-of (refusal r) = []
+
+-- the line for a symbol
+unfoldable pub listing-line : Text → Text
+listing-line s = let a = demangle most-symbol-bytes s in line (number-of a) (length-of a) (name-of a)
+
+-- ---------------------------------------------------------------- lines
+
+-- a byte in front of the first line; where there is none, the line has no line feed and is left out
+unfoldable pub in-front : ℕ → List Text → List Text
+in-front x [] = []
+in-front x (s ∷ ss) = (x ∷ s) ∷ ss
+
+-- the lines that end with a line feed, without it
+unfoldable pub lines : Text → List Text
+lines [] = []
+lines (x ∷ t) = if eqb x line-feed then [] ∷ lines t else in-front x (lines t)
+
+-- the bytes of the lines, with their line feeds
+unfoldable pub bytes-taken : List Text → ℕ
+bytes-taken [] = 0
+bytes-taken (s ∷ ss) = length s + 1 + bytes-taken ss
+
+unfoldable pub listing : List Text → Text
+listing [] = []
+listing (s ∷ ss) = listing-line s ++ listing ss
+
+-- the first lines, as long as their listing has no more than so many bytes
+unfoldable pub fitting : ℕ → List Text → List Text
+fitting room [] = []
+fitting room (s ∷ ss) = if leb (length (listing-line s)) room then s ∷ fitting (room - length (listing-line s)) ss else []
+
+-- ---------------------------------------------------------------- the entry for listings, with its slices
+
+abbrev pub least-name : ℕ
+least-name = 16384
+
+-- the slices for a name and for the reading have their least lengths
+unfoldable pub sized : ℕ → ℕ → ℕ → ℕ → Bool
+sized name text store ends = leb least-name name && (leb least-text text && leb least-store store && leb least-ends ends)
+
+-- of the work slices `out` is the one for a name
+unfoldable pub work-sized : Slices → Bool
+work-sized l = sized (length (l .out)) (length (l .text)) (length (l .store)) (length (l .ends))
+
+pub record Outcome : Type 0 where
+  pub taken : ℕ
+  pub written : ℕ
+  pub out : Text
+  pub work : Slices
+
+unfoldable pub lists : List Text → Text → Slices → Outcome
+lists ss out work = record {
+  taken = bytes-taken ss;
+  written = length (listing ss);
+  out = listing ss ++ drop (length (listing ss)) out;
+  work = record { out = zeros (length (work .out)); text = zeros (length (work .text)); store = zeros (length (work .store)); ends = zeros (length (work .ends)) };
+}
+
+-- the definition of the entry: with work slices that are too short no line is taken
+unfoldable pub listed : Text → Text → Slices → Outcome
+listed input out work = lists (if work-sized work then fitting (length out) (lines input) else []) out work
+
+abbrev pub Lists : Text → Text → Text → Slices → Slices → Listed → Type 0
+Lists input out out' work work' r = _≡_ {A = Outcome} (record { taken = r .taken; written = r .written; out = out'; work = work' }) (listed input out work)

@@ -1,0 +1,125 @@
+-- Lines cut to 4,097 bytes, one more than a symbol has: their listing is the same. Assumes nothing.
+use mathlib.Core.Bool.{Bool, true, false}
+use mathlib.Core.List.{List, [], _∷_, _++_}
+use mathlib.Core.Path.{_≡_, refl, sym, ap, ap₂, _∙_}
+use Prim.Native.Nat.{ℕ, suc, _+_, _-_, _≤_, _<_}
+use native.Mathlib.Omega.{arith}
+use borrow.Author.Tests.{lt-ltb, ltb-true, ltb-false, leb-true, leb-false}
+use lib.Dec.{eqb, leb, ltb}
+use lib.ListN.{length, take}
+use lib.Seq.{take-all, take-nil, length-take-le}
+use Rattle.grammar.specs.Text.{Text, if_then_else_}
+use Rattle.grammar.specs.Names.{Answer, refusal, demangle, front, most-symbol-bytes, number-of, length-of}
+use Rattle.listing.specs.Listing.{line-feed, line, name-of, listing-line, in-front, lines, listing}
+
+abbrev pub most-kept : ℕ
+most-kept = 4097
+
+-- what is kept of a text, where n bytes are kept of the line that it goes on with
+unfoldable pub cut-lines : ℕ → Text → Text
+cut-lines n [] = []
+cut-lines n (x ∷ t) =
+    if eqb x line-feed then x ∷ cut-lines 0 t else if ltb n most-kept then x ∷ cut-lines (n + 1) t else cut-lines n t
+
+-- how many bytes are then kept of the line that it ends with
+unfoldable pub column : ℕ → Text → ℕ
+column n [] = n
+column n (x ∷ t) = if eqb x line-feed then column 0 t else if ltb n most-kept then column (n + 1) t else column n t
+
+-- ---------------------------------------------------------------- one byte more
+
+module _ (n x : ℕ) (t : Text) where
+  abbrev cut-by : Bool → Bool → Text
+  cut-by q r = if q then x ∷ cut-lines 0 t else if r then x ∷ cut-lines (n + 1) t else cut-lines n t
+
+  abbrev column-by : Bool → Bool → ℕ
+  column-by q r = if q then column 0 t else if r then column (n + 1) t else column n t
+
+  pub cut-feed : eqb x 10 ≡ true → (cut-lines n (x ∷ t) ≡ x ∷ cut-lines 0 t) × (column n (x ∷ t) ≡ column 0 t)
+  unfolding cut-lines column if_then_else_
+  cut-feed e = (ap (λ (q : Bool). cut-by q (ltb n 4097)) e, ap (λ (q : Bool). column-by q (ltb n 4097)) e)
+
+  pub cut-kept : eqb x 10 ≡ false → ltb n 4097 ≡ true → (cut-lines n (x ∷ t) ≡ x ∷ cut-lines (n + 1) t) × (column n (x ∷ t) ≡ column (n + 1) t)
+  unfolding cut-lines column if_then_else_
+  cut-kept e f = (ap₂ cut-by e f, ap₂ column-by e f)
+
+  pub cut-dropped : eqb x 10 ≡ false → ltb n 4097 ≡ false → (cut-lines n (x ∷ t) ≡ cut-lines n t) × (column n (x ∷ t) ≡ column n t)
+  unfolding cut-lines column if_then_else_
+  cut-dropped e f = (ap₂ cut-by e f, ap₂ column-by e f)
+
+-- ---------------------------------------------------------------- a text in parts
+
+pub cut-append : (n : ℕ) (s t : Text) → cut-lines n (s ++ t) ≡ cut-lines n s ++ cut-lines (column n s) t
+unfolding cut-lines column if_then_else_
+cut-append n [] t = refl
+cut-append n (x ∷ s) t = go (eqb x 10) (ltb n 4097) (cut-append 0 s t) (cut-append (n + 1) s t) (cut-append n s t) where
+  go : (q r : Bool) → cut-lines 0 (s ++ t) ≡ cut-lines 0 s ++ cut-lines (column 0 s) t → cut-lines (n + 1) (s ++ t) ≡ cut-lines (n + 1) s ++ cut-lines (column (n + 1) s) t
+      → cut-lines n (s ++ t) ≡ cut-lines n s ++ cut-lines (column n s) t
+      → cut-by n x (s ++ t) q r ≡ cut-by n x s q r ++ cut-lines (column-by n x s q r) t
+  go true r a c d = ap (λ (u : Text). x ∷ u) a
+  go false true a c d = ap (λ (u : Text). x ∷ u) c
+  go false false a c d = d
+
+-- ---------------------------------------------------------------- the lines that are kept
+
+unfoldable shortened : ℕ → List Text → List Text
+shortened k [] = []
+shortened k (s ∷ ss) = take k s ∷ shortened most-kept ss
+
+short-more : (k x : ℕ) (ss : List Text) → in-front x (shortened k ss) ≡ shortened (suc k) (in-front x ss)
+unfolding shortened in-front
+short-more k x [] = refl
+short-more k x (s ∷ ss) = refl
+
+short-none : (x : ℕ) (ss : List Text) → shortened 0 ss ≡ shortened 0 (in-front x ss)
+unfolding shortened in-front
+short-none x [] = refl
+short-none x (s ∷ ss) = refl
+
+cut-shortened : (n : ℕ) (t : Text) → n ≤ 4097 → lines (cut-lines n t) ≡ shortened (4097 - n) (lines t)
+unfolding lines cut-lines shortened if_then_else_
+cut-shortened n [] h = refl
+cut-shortened n (x ∷ t) h =
+    go (eqb x 10) refl (ltb n 4097) refl (cut-shortened 0 t (omega arith)) (λ k. cut-shortened (n + 1) t k) (cut-shortened n t h) where
+      by-feed : Bool → List Text → List Text
+      by-feed q ss = if q then [] ∷ ss else in-front x ss
+
+      go : (q : Bool) → eqb x 10 ≡ q → (r : Bool) → ltb n 4097 ≡ r → lines (cut-lines 0 t) ≡ shortened (4097 - 0) (lines t)
+          → (n + 1 ≤ 4097 → lines (cut-lines (n + 1) t) ≡ shortened (4097 - (n + 1)) (lines t)) → lines (cut-lines n t) ≡ shortened (4097 - n) (lines t)
+          → lines (cut-by n x t q r) ≡ shortened (4097 - n) (by-feed q (lines t))
+      go true e r f a c d =
+          ap (λ (q : Bool). by-feed q (lines (cut-lines 0 t))) e
+          ∙ ap₂ (λ (u : Text) (ss : List Text). u ∷ ss) (sym (take-nil (4097 - n))) a
+      go false e true f a c d =
+          ap (λ (q : Bool). by-feed q (lines (cut-lines (n + 1) t))) e
+          ∙ ap (in-front x) (c (omega (arith, ltb-true n 4097 f)))
+          ∙ short-more (4097 - (n + 1)) x (lines t)
+          ∙ ap (λ (k : ℕ). shortened k (in-front x (lines t))) {x = suc (4097 - (n + 1))} {y = 4097 - n} (omega (arith, ltb-true n 4097 f))
+      go false e false f a c d =
+          let z : 4097 - n ≡ 0 = omega (arith, ltb-false n 4097 f) in
+          d ∙ ap (λ (k : ℕ). shortened k (lines t)) z ∙ short-none x (lines t) ∙ ap (λ (k : ℕ). shortened k (in-front x (lines t))) (sym z)
+
+-- ---------------------------------------------------------------- their listing
+
+too-long : (s : Text) → 4096 < length s → demangle most-symbol-bytes s ≡ refusal 1
+unfolding demangle front if_then_else_
+too-long s h = rw (lt-ltb 4096 (length s) h)
+
+same-line : (s : Text) → listing-line (take 4097 s) ≡ listing-line s
+unfolding listing-line
+same-line s = go (leb (length s) 4097) refl where
+  go : (q : Bool) → leb (length s) 4097 ≡ q → listing-line (take 4097 s) ≡ listing-line s
+  go true e = ap listing-line (take-all 4097 s (leb-true (length s) 4097 e))
+  go false e =
+      let h : 4097 < length s = leb-false (length s) 4097 e in
+      ap (λ (a : Answer). line (number-of a) (length-of a) (name-of a))
+      (too-long (take 4097 s) (omega (arith, length-take-le 4097 s (omega arith))) ∙ sym (too-long s (omega arith)))
+
+same-listing : (ss : List Text) → listing (shortened 4097 ss) ≡ listing ss
+unfolding listing shortened
+same-listing [] = refl
+same-listing (s ∷ ss) = ap₂ (λ (u v : Text). u ++ v) (same-line s) (same-listing ss)
+
+-- cutting the lines does not change the listing
+pub cut-listing : (t : Text) → listing (lines (cut-lines 0 t)) ≡ listing (lines t)
+cut-listing t = ap listing (cut-shortened 0 t (omega arith)) ∙ same-listing (lines t)

@@ -1,0 +1,2 @@
+// The listing of lines.
+pub mod listing;

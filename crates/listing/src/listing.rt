@@ -1,0 +1,188 @@
+// The listing of lines: for each the number, the length and the name that the symbol gets.
+use names::entry;
+use names::entry::Answer;
+use store::stack;
+ghost use mathlib.Core.Path.{_≡_};
+ghost use Prim.Native.Nat.{_+_, _≤_, _<_};
+ghost use lib.ListN.{length};
+ghost use Rattle.names.specs.Outcome.{slices, number-in, bytes-in};
+ghost use Rattle.listing.specs.Listing.{line, listing-line, fitting, lines, sized, Lists};
+ghost use Rattle.listing.specs.ListingText.{Digits, Heads, Printed};
+ghost use Rattle.listing.specs.ListingLines.{Same, Goes};
+ghost use Rattle.listing.specs.ListingNames.{Idle};
+
+// How many bytes of the input were taken, and how many of the output written.
+pub struct Listed {
+    pub taken: usize,
+    pub written: usize,
+}
+
+// The digits of n, the last of them before `end`. Returned is the place of the first.
+fn write_decimal(out: &mut [u8], end: usize, n: usize) -> usize
+    requires { ⌜ (n < 100000) × ((5 ≤ end) × (end ≤ length (now out))) ⌝ }
+    ensures { λ r. ⌜ Digits n end (now (out .entry)) (now (out .exit)) r ⌝ }
+{
+    let mut from = end;
+    let mut rest = n;
+    while 10 <= rest {
+        from -= 1;
+        out[from] = 48 + (rest % 10) as u8;
+        rest = rest / 10;
+    }
+    let first = from - 1;
+    out[first] = 48 + rest as u8;
+    first
+}
+
+// Number and length, each with its comma, at the end of the 12 bytes. Returned is where they begin.
+fn write_head(out: &mut [u8], number: usize, bytes: usize) -> usize
+    requires { ⌜ (length (now out) ≡ 12) × ((number < 100000) × (bytes < 100000)) ⌝ }
+    ensures { λ r. ⌜ Heads number bytes (now (out .exit)) r ⌝ }
+{
+    out[11] = b',';
+    let second = write_decimal(out, 11, bytes);
+    let comma = second - 1;
+    out[comma] = b',';
+    write_decimal(out, comma, number)
+}
+
+// The line with the number and the name, into `out` from `at` on. Returned is its length, or 0 where it does not fit.
+fn print_line(out: &mut [u8], at: usize, number: usize, name: &[u8]) -> usize
+    requires { ⌜ (at ≤ length (now out)) × ((number < 100000) × (length (now name) < 100000)) ⌝ }
+    ensures { λ r. ⌜ Printed (line number (length (now (name .entry))) (now (name .entry))) at (now (out .entry)) (now (out .exit)) r ⌝ }
+{
+    let mut head = [0u8; 12];
+    let from = write_head(&mut head, number, name.len());
+    let n = 12 - from;
+    let last = n + name.len();
+    if out.len() - at <= last {
+        return 0;
+    }
+    stack::copy(out, at, &head[from..]);
+    stack::copy(out, at + n, name);
+    out[at + last] = b'\n';
+    last + 1
+}
+
+fn number_in(answer: Answer) -> usize
+    ensures { λ r. ⌜ (r ≡ number-in answer) × (r < 256) ⌝ }
+{
+    match answer {
+        Answer::Name(_) => 0,
+        Answer::Refused(k) => k as usize,
+    }
+}
+
+fn bytes_in(answer: Answer) -> usize
+    ensures { λ r. ⌜ r ≡ bytes-in answer ⌝ }
+{
+    match answer {
+        Answer::Name(n) => n,
+        Answer::Refused(_) => 0,
+    }
+}
+
+// The listing line of a symbol, the same way. The work slices are zero, and again at the end.
+fn write_line(
+    s: &[u8],
+    out: &mut [u8],
+    at: usize,
+    name: &mut [u8],
+    text: &mut [u8],
+    store: &mut [u8],
+    ends: &mut [u16],
+) -> usize
+    requires { ⌜ (at ≤ length (now out)) × Idle (slices (now name) (now text) (now store) (now ends)) ⌝ }
+    ensures { λ r. ⌜ (Printed (listing-line (now (s .entry))) at (now (out .entry)) (now (out .exit)) r)
+        × Same (slices (now (name .entry)) (now (text .entry)) (now (store .entry)) (now (ends .entry)))
+        (slices (now (name .exit)) (now (text .exit)) (now (store .exit)) (now (ends .exit))) ⌝ }
+{
+    let answer = entry::demangle_zeroed(s, name, text, store, ends);
+    let number = number_in(answer);
+    let bytes = bytes_in(answer);
+    let written = print_line(out, at, number, &name[..bytes]);
+    stack::clear(&mut name[..bytes]);
+    written
+}
+
+// The lines one after another, as long as their listing fits.
+fn write_lines(
+    input: &[u8],
+    out: &mut [u8],
+    name: &mut [u8],
+    text: &mut [u8],
+    store: &mut [u8],
+    ends: &mut [u16],
+) -> Listed
+    requires { ⌜ Idle (slices (now name) (now text) (now store) (now ends)) ⌝ }
+    ensures { λ r. ⌜ (Goes (now (out .entry)) (now (out .exit)) (fitting (length (now (out .entry))) (lines (now (input .entry)))) r)
+        × Same (slices (now (name .entry)) (now (text .entry)) (now (store .entry)) (now (ends .entry)))
+        (slices (now (name .exit)) (now (text .exit)) (now (store .exit)) (now (ends .exit))) ⌝ }
+{
+    let mut at: usize = 0;
+    let mut end: usize = 0;
+    while at < input.len() {
+        let feed = parser::names::before(input, at, b'\n');
+        if input.len() <= feed {
+            return Listed {
+                taken: at,
+                written: end,
+            };
+        }
+        let n = write_line(&input[at..feed], out, end, name, text, store, ends);
+        if n == 0 {
+            return Listed {
+                taken: at,
+                written: end,
+            };
+        }
+        at = feed + 1;
+        end += n;
+    }
+    Listed {
+        taken: at,
+        written: end,
+    }
+}
+
+fn long_enough(name: usize, text: usize, store: usize, ends: usize) -> bool
+    ensures { λ r. ⌜ r ≡ sized name text store ends ⌝ }
+{
+    if name < 16384 {
+        return false;
+    }
+    if text < 65536 {
+        return false;
+    }
+    if store < 65536 {
+        return false;
+    }
+    2048 <= ends
+}
+
+// The listing of the complete lines at the front of `input`, as many as fit into `out`. Work slices of any lengths and
+// contents; where one is too short, no line is taken.
+pub fn list_lines(
+    input: &[u8],
+    out: &mut [u8],
+    name: &mut [u8],
+    text: &mut [u8],
+    store: &mut [u8],
+    ends: &mut [u16],
+) -> Listed
+    ensures { λ r. ⌜ Lists (now (input .entry)) (now (out .entry)) (now (out .exit))
+        (slices (now (name .entry)) (now (text .entry)) (now (store .entry)) (now (ends .entry)))
+        (slices (now (name .exit)) (now (text .exit)) (now (store .exit)) (now (ends .exit))) r ⌝ }
+{
+    stack::clear(name);
+    stack::clear(text);
+    stack::clear(store);
+    stack::clear_ends(ends);
+    if !long_enough(name.len(), text.len(), store.len(), ends.len()) {
+        return Listed {
+            taken: 0,
+            written: 0,
+        };
+    }
+    write_lines(input, out, name, text, store, ends)
+}

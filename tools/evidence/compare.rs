@@ -1,0 +1,695 @@
+//! Compares a listing program with the Rust demangler on generated symbols.
+//!
+//! The Rust answers in a process of its own (this program with `--answer`): it recurses, and a short symbol can make it
+//! ask for more memory than there is. `itanium.rs` is the Rust, unchanged. `numbered.rs` is made from it by
+//! `build.py`: the same readings, with document 01's numbers and limits.
+
+#[path = "itanium.rs"]
+mod itanium;
+#[path = "numbered.rs"]
+mod numbered;
+#[path = "symbols.rs"]
+mod symbols;
+
+use std::alloc::{GlobalAlloc, Layout, System};
+use std::collections::{BTreeMap, HashSet};
+use std::io::{Read, Write};
+use std::process::{Command, ExitCode, Stdio};
+use std::sync::atomic::{AtomicUsize, Ordering::Relaxed};
+use std::time::{Duration, Instant};
+use symbols::{Grammar, Rng};
+
+// ---------------------------------------------------------------- memory
+
+/// Memory that the answering process may hold. No reading that meets no limit comes near it.
+const MOST_MEMORY: usize = 256 << 20;
+
+static CAP: AtomicUsize = AtomicUsize::new(usize::MAX);
+static HELD: AtomicUsize = AtomicUsize::new(0);
+
+/// The system's allocator, which fails past the cap. The process then ends.
+struct Capped;
+
+unsafe impl GlobalAlloc for Capped {
+    unsafe fn alloc(&self, layout: Layout) -> *mut u8 {
+        if HELD.fetch_add(layout.size(), Relaxed) + layout.size() > CAP.load(Relaxed) {
+            return std::ptr::null_mut();
+        }
+        unsafe { System.alloc(layout) }
+    }
+
+    unsafe fn dealloc(&self, at: *mut u8, layout: Layout) {
+        HELD.fetch_sub(layout.size(), Relaxed);
+        unsafe { System.dealloc(at, layout) }
+    }
+}
+
+#[global_allocator]
+static MEMORY: Capped = Capped;
+
+// ---------------------------------------------------------------- the Rust's answers
+
+/// A name past this length is never printed.
+const MOST_TEXT: usize = 16384;
+const MOST_SYMBOL: usize = 4096;
+
+enum Answer {
+    None,
+    /// The name, cut behind 16,385 bytes, and its whole length.
+    Name(Vec<u8>, usize),
+    /// It panicked: the number 2^64 - 1 behind S or T.
+    Overflow,
+    /// It asked for more memory than `MOST_MEMORY`.
+    TooLarge,
+    /// A byte of 128 or more, or a symbol that is too long: not asked.
+    NotAsked,
+}
+
+struct Reference {
+    answer: Answer,
+    /// The number by document 01, from the numbered copy.
+    number: Option<u8>,
+}
+
+/// Reads symbols from standard input and writes the answers: the process behind `Answers`.
+fn answer_all(careful: bool) {
+    std::panic::set_hook(Box::new(|_| {}));
+    CAP.store(MOST_MEMORY, Relaxed);
+    let run = move || {
+        let mut input = std::io::BufReader::with_capacity(1 << 16, std::io::stdin());
+        let mut output = std::io::BufWriter::with_capacity(1 << 16, std::io::stdout());
+        let mut head = [0; 4];
+        let mut bytes = vec![];
+        while input.read_exact(&mut head).is_ok() {
+            bytes.resize(u32::from_le_bytes(head) as usize, 0);
+            input.read_exact(&mut bytes).unwrap();
+            let symbol = std::str::from_utf8(&bytes).unwrap();
+            let number = match numbered::answer(symbol) {
+                Ok(_) => 0,
+                Err(k) => k,
+            };
+            output.write_all(&[number]).unwrap();
+            if careful {
+                output.flush().unwrap();
+            }
+            let answer = std::panic::catch_unwind(|| itanium::demangle(symbol));
+            let (tag, name) = match answer {
+                Ok(None) => (0, String::new()),
+                Ok(Some(name)) => (1, name),
+                Err(_) => (2, String::new()),
+            };
+            output.write_all(&[tag]).unwrap();
+            output.write_all(&(name.len() as u32).to_le_bytes()).unwrap();
+            output.write_all(&name.as_bytes()[..name.len().min(MOST_TEXT + 1)]).unwrap();
+            if careful {
+                output.flush().unwrap();
+            }
+        }
+        output.flush().unwrap();
+    };
+    std::thread::Builder::new().stack_size(1 << 30).spawn(run).unwrap().join().unwrap();
+}
+
+fn asked(symbol: &[u8]) -> bool {
+    symbol.len() <= MOST_SYMBOL && symbol.is_ascii()
+}
+
+/// Runs a program with the bytes given, and takes what it prints.
+fn piped(mut command: Command, given: &[u8]) -> (Vec<u8>, std::process::ExitStatus) {
+    let mut child = command.stdin(Stdio::piped()).stdout(Stdio::piped()).spawn().unwrap_or_else(|e| {
+        eprintln!("{command:?}: {e}");
+        std::process::exit(2)
+    });
+    let mut stdin = child.stdin.take().unwrap();
+    let mut printed = vec![];
+    std::thread::scope(|scope| {
+        // a program that ends early closes its end; that shows in what it printed
+        scope.spawn(move || stdin.write_all(given));
+        child.stdout.take().unwrap().read_to_end(&mut printed).unwrap();
+    });
+    (printed, child.wait().unwrap())
+}
+
+/// The answers, and the number of a symbol that has no answer.
+fn read_answers(mut printed: &[u8]) -> (Vec<Reference>, Option<u8>) {
+    let mut out = vec![];
+    while printed.len() >= 6 {
+        let (number, tag) = (printed[0], printed[1]);
+        let length = u32::from_le_bytes(printed[2..6].try_into().unwrap()) as usize;
+        let kept = length.min(MOST_TEXT + 1);
+        if printed.len() < 6 + kept {
+            break;
+        }
+        let answer = match tag {
+            0 => Answer::None,
+            1 => Answer::Name(printed[6..6 + kept].to_vec(), length),
+            _ => Answer::Overflow,
+        };
+        out.push(Reference { answer, number: Some(number) });
+        printed = &printed[6 + kept..];
+    }
+    (out, printed.first().copied())
+}
+
+/// The Rust's answers. Where the process ends before its time, the symbol that ended it is too large for it, and the
+/// rest is asked anew.
+fn references(batch: &[Vec<u8>]) -> Vec<Reference> {
+    let wanted: Vec<&Vec<u8>> = batch.iter().filter(|s| asked(s)).collect();
+    let mut found: Vec<Reference> = vec![];
+    let mut careful = false;
+    while found.len() < wanted.len() {
+        let mut given = vec![];
+        for symbol in &wanted[found.len()..] {
+            given.extend_from_slice(&(symbol.len() as u32).to_le_bytes());
+            given.extend_from_slice(symbol);
+        }
+        let mut command = Command::new(std::env::current_exe().unwrap());
+        command.arg(if careful { "--answer-carefully" } else { "--answer" }).stderr(Stdio::null());
+        let (printed, _) = piped(command, &given);
+        let (answers, number) = read_answers(&printed);
+        found.extend(answers);
+        if careful && found.len() < wanted.len() {
+            found.push(Reference { answer: Answer::TooLarge, number });
+        }
+        careful = true;
+    }
+    let mut found = found.into_iter();
+    let unasked = || Reference { answer: Answer::NotAsked, number: None };
+    batch.iter().map(|s| if asked(s) { found.next().unwrap() } else { unasked() }).collect()
+}
+
+// ---------------------------------------------------------------- the listing program
+
+struct Listing {
+    program: String,
+    /// The program's machine stack in KiB, if it is set.
+    stack: Option<usize>,
+    /// How long it may take for a batch.
+    seconds: usize,
+    /// Where to keep a batch for which the program fails.
+    failing: Option<String>,
+    failures: usize,
+}
+
+const HEADER: &[u8] = b"code,bytes,name";
+
+impl Listing {
+    fn command(&self) -> Command {
+        // a program that doesn't end for a batch is ended
+        let mut command = Command::new("timeout");
+        command.args(["-s", "KILL", &self.seconds.to_string()]);
+        match self.stack {
+            None => command.arg(&self.program),
+            Some(kib) => command.args(["sh", "-c", &format!("ulimit -s {kib} && exec \"$0\""), &self.program]),
+        };
+        command
+    }
+
+    /// The lines behind the header, or what went wrong.
+    fn lines(&self, batch: &[Vec<u8>], last_feed: bool, again: bool) -> Result<Vec<Vec<u8>>, String> {
+        let mut command = self.command();
+        if again {
+            command.stderr(Stdio::null());
+        }
+        let (printed, status) = piped(command, &joined(batch, last_feed));
+        if !status.success() {
+            return Err(format!("the program ended with {status}"));
+        }
+        let Some(body) = printed.strip_suffix(b"\n") else {
+            return Err("the last line has no line feed".into());
+        };
+        let mut lines: Vec<Vec<u8>> = body.split(|b| *b == b'\n').map(|l| l.to_vec()).collect();
+        if lines[0] != HEADER {
+            return Err(format!("the first line is {:?}", shown(&lines[0])));
+        }
+        lines.remove(0);
+        if lines.len() != batch.len() {
+            return Err(format!("{} lines for {} symbols", lines.len(), batch.len()));
+        }
+        Ok(lines)
+    }
+
+    fn answers(&mut self, batch: &[Vec<u8>], last_feed: bool) -> Vec<Result<Vec<u8>, String>> {
+        match self.lines(batch, last_feed, false) {
+            Ok(lines) => lines.into_iter().map(Ok).collect(),
+            Err(why) => self.parted(batch, last_feed, why),
+        }
+    }
+
+    /// The lines for a batch that fails: it is halved until what fails stands alone, or has two halves that don't fail.
+    fn parted(&mut self, batch: &[Vec<u8>], last_feed: bool, why: String) -> Vec<Result<Vec<u8>, String>> {
+        let mut failing = |this: &mut Listing| {
+            this.failures += 1;
+            if let Some(file) = this.failing.take() {
+                let _ = std::fs::write(file, joined(batch, last_feed));
+            }
+        };
+        if batch.len() == 1 || self.failures >= MOST_SHOWN {
+            failing(self);
+            return vec![Err(why); batch.len()];
+        }
+        let (first, second) = batch.split_at(batch.len() / 2);
+        let parts = [self.lines(first, last_feed, true), self.lines(second, last_feed, true)];
+        let both_pass = parts.iter().all(|p| p.is_ok());
+        let mut out = vec![];
+        for (part, lines) in [first, second].into_iter().zip(parts) {
+            match lines {
+                Ok(lines) => out.extend(lines.into_iter().map(Ok)),
+                Err(why) => out.extend(self.parted(part, last_feed, why)),
+            }
+        }
+        if both_pass {
+            failing(self);
+            out.pop();
+            out.push(Err(format!("{why}, for {} symbols together, of which this is the last; the halves pass", batch.len())));
+        }
+        out
+    }
+}
+
+/// The lines of a batch. A last line without line feed counts if it has bytes.
+fn joined(batch: &[Vec<u8>], last_feed: bool) -> Vec<u8> {
+    let mut given = batch.join(&b'\n');
+    if last_feed || batch.last().is_some_and(|s| s.is_empty()) {
+        given.push(b'\n');
+    }
+    given
+}
+
+/// Code and name of a line `CODE,LENGTH,NAME`.
+fn taken_apart(line: &[u8]) -> Result<(u8, &[u8]), String> {
+    let mut parts = line.splitn(3, |b| *b == b',');
+    let number = |part: Option<&[u8]>| -> Option<usize> {
+        let text = std::str::from_utf8(part?).ok()?;
+        let plain = !text.is_empty() && text.bytes().all(|b| b.is_ascii_digit()) && (text == "0" || !text.starts_with('0'));
+        if plain { text.parse().ok() } else { None }
+    };
+    let (code, length, name) = (number(parts.next()), number(parts.next()), parts.next());
+    let (Some(code), Some(length), Some(name)) = (code, length, name) else {
+        return Err("the line isn't code, length, name".into());
+    };
+    if length != name.len() {
+        return Err(format!("the length is {length}, the name has {} bytes", name.len()));
+    }
+    if code != 0 && length != 0 {
+        return Err("a refusal with a name".into());
+    }
+    u8::try_from(code).map(|code| (code, name)).map_err(|_| format!("the code {code}"))
+}
+
+// ---------------------------------------------------------------- the comparison
+
+/// Refusals of a reading that the Rust has as None.
+const NONE: &[u8] = &[4, 5, 7, 8];
+/// Limits that the Rust doesn't have.
+const LIMITS: &[u8] = &[9, 10, 11];
+
+/// Whether a symbol is so short that it meets no limit. The shortest found that meet one are `_Z1fVVMM5`, five bytes 1,
+/// `S_S0_` (19 bytes) and `_Z1fMMMMFvES_S0_S1_S2_` (22 bytes): a type with slots that is a member of itself grows by its
+/// square. Without slots a reference doubles a text at best, and without references a text can't repeat.
+fn below_limits(symbol: &[u8]) -> bool {
+    let has = |bytes: &[u8]| symbol.iter().any(|b| bytes.contains(b));
+    symbol.len() <= if has(b"\x01") { 16 } else if has(b"F") { 18 } else if has(b"ST") { 32 } else { 40 }
+}
+
+/// What is wrong with a line, if anything. `numbers` asks for the very number too.
+fn wrong(symbol: &[u8], reference: &Reference, line: &[u8], numbers: bool) -> Option<String> {
+    let (code, name) = match taken_apart(line) {
+        Ok(parts) => parts,
+        Err(why) => return Some(why),
+    };
+    let must = |number: u8, why: &str| if code == number { None } else { Some(format!("{why}: must be {number}, is {code}")) };
+    if symbol.len() > MOST_SYMBOL {
+        return must(1, "longer than 4,096 bytes");
+    }
+    if !symbol.is_ascii() {
+        return must(2, "a byte of 128 or more");
+    }
+    if !symbol.starts_with(b"_Z") && !symbol.starts_with(b"__Z") {
+        return must(3, "no _Z or __Z in front");
+    }
+    let limit = LIMITS.contains(&code);
+    let fits = match &reference.answer {
+        Answer::Name(expected, length) => {
+            if code == 0 && *length > MOST_TEXT {
+                return Some("the name has more than 16,384 bytes".into());
+            }
+            if code == 0 && name != expected {
+                return Some("another name".into());
+            }
+            if limit && below_limits(symbol) {
+                return Some("too short for a limit".into());
+            }
+            code == 0 || limit
+        }
+        Answer::None => {
+            if limit && below_limits(symbol) {
+                return Some("too short for a limit".into());
+            }
+            limit || NONE.contains(&code)
+        }
+        Answer::Overflow => {
+            let text = symbol.to_ascii_lowercase();
+            let has = |digits: &[u8]| text.windows(digits.len()).any(|w| w == digits);
+            let (s, t) = (has(b"3w5e11264sgsf_"), has(b"18446744073709551615_"));
+            limit || s && code == 7 || t && code == 4
+        }
+        Answer::TooLarge => limit,
+        Answer::NotAsked => unreachable!(),
+    };
+    if !fits {
+        return Some("a code that doesn't fit the Rust's answer".into());
+    }
+    match reference.number {
+        Some(number) if numbers && number != code => Some(format!("the number is {number} by document 01")),
+        _ => None,
+    }
+}
+
+const MOST_SHOWN: usize = 20;
+
+fn shown(bytes: &[u8]) -> String {
+    let text: String = bytes.iter().take(200).flat_map(|b| std::ascii::escape_default(*b)).map(char::from).collect();
+    if bytes.len() > 200 { format!("{text}.. ({} bytes)", bytes.len()) } else { text }
+}
+
+fn hex(bytes: &[u8]) -> String {
+    bytes.iter().map(|b| format!("{b:02x}")).collect()
+}
+
+fn unhex(text: &str) -> Vec<u8> {
+    (0..text.len() / 2).map(|i| u8::from_str_radix(&text[2 * i..2 * i + 2], 16).expect("hex digits")).collect()
+}
+
+#[derive(Default)]
+struct Counts {
+    codes: BTreeMap<u8, usize>,
+    names: usize,
+    nones: usize,
+    overflows: usize,
+    too_large: usize,
+    not_asked: usize,
+    short_limits: usize,
+    bytes: usize,
+    generating: Duration,
+    rust: Duration,
+    listing: Duration,
+}
+
+impl Counts {
+    fn symbols(&self) -> usize {
+        self.names + self.nones + self.overflows + self.too_large + self.not_asked
+    }
+}
+
+struct Comparison {
+    listing: Listing,
+    numbers: bool,
+    counts: Vec<(String, Counts)>,
+    differences: usize,
+    batches: usize,
+}
+
+const BATCH: usize = 20_000;
+const BATCH_BYTES: usize = 4 << 20;
+
+impl Comparison {
+    /// Compares one kind of symbols, in batches.
+    fn kind(&mut self, kind: &str, symbols: impl Iterator<Item = Vec<u8>>) {
+        self.counts.push((kind.to_string(), Counts::default()));
+        let (mut batch, mut bytes) = (vec![], 0);
+        let mut began = Instant::now();
+        for symbol in symbols {
+            bytes += symbol.len() + 1;
+            batch.push(symbol);
+            if batch.len() == BATCH || bytes >= BATCH_BYTES {
+                self.counts.last_mut().unwrap().1.generating += began.elapsed();
+                self.batch(&batch);
+                batch.clear();
+                bytes = 0;
+                began = Instant::now();
+            }
+        }
+        self.counts.last_mut().unwrap().1.generating += began.elapsed();
+        if !batch.is_empty() {
+            self.batch(&batch);
+        }
+        let (kind, counts) = self.counts.last().unwrap();
+        report(kind, counts);
+    }
+
+    fn batch(&mut self, batch: &[Vec<u8>]) {
+        let began = Instant::now();
+        let references = references(batch);
+        let between = Instant::now();
+        let lines = self.listing.answers(batch, self.batches % 2 == 0);
+        let (kind, counts) = self.counts.last_mut().unwrap();
+        counts.rust += between - began;
+        counts.listing += between.elapsed();
+        self.batches += 1;
+        for ((symbol, reference), line) in batch.iter().zip(&references).zip(&lines) {
+            counts.bytes += symbol.len();
+            match reference.answer {
+                Answer::Name(..) => counts.names += 1,
+                Answer::None => counts.nones += 1,
+                Answer::Overflow => counts.overflows += 1,
+                Answer::TooLarge => counts.too_large += 1,
+                Answer::NotAsked => counts.not_asked += 1,
+            }
+            let why = match line {
+                Err(why) => Some(why.clone()),
+                Ok(line) => {
+                    if let Ok((code, _)) = taken_apart(line) {
+                        *counts.codes.entry(code).or_default() += 1;
+                        if LIMITS.contains(&code) && symbol.len() <= 200 {
+                            counts.short_limits += 1;
+                        }
+                    }
+                    wrong(symbol, reference, line, self.numbers)
+                }
+            };
+            if let Some(why) = why {
+                self.differences += 1;
+                if self.differences <= MOST_SHOWN {
+                    difference(kind, symbol, reference, line, &why);
+                }
+            }
+        }
+    }
+}
+
+fn difference(kind: &str, symbol: &[u8], reference: &Reference, line: &Result<Vec<u8>, String>, why: &str) {
+    println!("difference ({kind}): {why}");
+    println!("    symbol:      {}", shown(symbol));
+    println!("    in hex:      {}", hex(symbol));
+    let rust = match &reference.answer {
+        Answer::None => "None".into(),
+        Answer::Name(name, length) => format!("{length} bytes: {}", shown(name)),
+        Answer::Overflow => "overflow".into(),
+        Answer::TooLarge => "past the memory that it may have".into(),
+        Answer::NotAsked => "not asked".into(),
+    };
+    let number = reference.number.map_or("none".into(), |k| k.to_string());
+    println!("    the Rust:    {rust} (number by the numbered copy: {number})");
+    println!("    the program: {}", line.as_ref().map_or("no line".into(), |l| shown(l)));
+}
+
+fn report(kind: &str, counts: &Counts) {
+    let n = counts.symbols();
+    let codes: Vec<String> = counts.codes.iter().map(|(code, n)| format!("{code}: {n}")).collect();
+    println!("{kind}: {n} symbols, {} bytes", counts.bytes);
+    println!("    the program's codes: {}", codes.join(", "));
+    println!(
+        "    the Rust: names {}, None {}, overflow {}, too large {}, not asked {}",
+        counts.names, counts.nones, counts.overflows, counts.too_large, counts.not_asked
+    );
+    if counts.short_limits > 0 {
+        println!("    9, 10 or 11 for a symbol of at most 200 bytes: {}", counts.short_limits);
+    }
+    let seconds = |d: Duration| d.as_secs_f64();
+    println!(
+        "    seconds: generating {:.1}, the Rust {:.1}, the program {:.1} ({:.0} symbols a second)",
+        seconds(counts.generating),
+        seconds(counts.rust),
+        seconds(counts.listing),
+        n as f64 / seconds(counts.listing).max(0.001)
+    );
+    let _ = std::io::stdout().flush();
+}
+
+// ---------------------------------------------------------------- kinds
+
+const KINDS: &[&str] = &["systematic", "short", "grammar", "grown", "damaged", "high", "limits", "chains-small-stack", "real"];
+
+struct Options {
+    list: String,
+    seed: u64,
+    count: Option<usize>,
+    kinds: Vec<String>,
+    real: Option<String>,
+    symbols: Option<String>,
+    hex: Vec<String>,
+    stack: Option<usize>,
+    small_stack: usize,
+    numbers: bool,
+    failing: Option<String>,
+    seconds: usize,
+}
+
+fn options() -> Options {
+    let mut o = Options {
+        list: "target/bin/list".into(),
+        seed: 1,
+        count: None,
+        kinds: vec![],
+        real: None,
+        symbols: None,
+        hex: vec![],
+        stack: None,
+        small_stack: 2048,
+        numbers: false,
+        failing: None,
+        seconds: 120,
+    };
+    let mut words = std::env::args().skip(1);
+    while let Some(word) = words.next() {
+        let mut value = || words.next().unwrap_or_else(|| usage(&format!("{word} takes a value")));
+        let number = |text: String| text.parse().unwrap_or_else(|_| usage(&format!("{text}: no number")));
+        match word.as_str() {
+            "--list" => o.list = value(),
+            "--seed" => o.seed = number(value()) as u64,
+            "--count" => o.count = Some(number(value())),
+            "--kind" => o.kinds.extend(value().split(',').map(String::from)),
+            "--real" => o.real = Some(value()),
+            "--symbols" => o.symbols = Some(value()),
+            "--hex" => o.hex.push(value()),
+            "--stack" => o.stack = Some(number(value())),
+            "--small-stack" => o.small_stack = number(value()),
+            "--numbers" => o.numbers = true,
+            "--failing" => o.failing = Some(value()),
+            "--seconds" => o.seconds = number(value()),
+            _ => usage(&format!("{word}: no such option")),
+        }
+    }
+    if let Some(kind) = o.kinds.iter().find(|k| !KINDS.contains(&k.as_str())) {
+        usage(&format!("{kind}: no such kind"));
+    }
+    o
+}
+
+fn usage(why: &str) -> ! {
+    eprintln!("{why}");
+    eprintln!("options: --list PROGRAM --seed N --count N --kind {} --real FILE", KINDS.join(","));
+    eprintln!("         --symbols FILE --hex SYMBOL --stack KIB --small-stack KIB --numbers --failing FILE --seconds N");
+    std::process::exit(2)
+}
+
+fn lines_of(file: &str) -> Vec<Vec<u8>> {
+    let bytes = std::fs::read(file).unwrap_or_else(|e| usage(&format!("{file}: {e}")));
+    let body = bytes.strip_suffix(b"\n").unwrap_or(&bytes);
+    body.split(|b| *b == b'\n').map(|l| l.to_vec()).collect()
+}
+
+/// At most `count` of all short symbols, evenly spread, from a place that the seed gives.
+fn short(seed: u64, count: Option<usize>) -> impl Iterator<Item = Vec<u8>> {
+    let total: usize = symbols::SHORT.iter().map(|s| s.total()).sum();
+    let step = count.map_or(1, |n| total.div_ceil(n.max(1)));
+    let from = Rng::new(seed).below(step);
+    let spread = symbols::SHORT.iter().flat_map(|s| s.all());
+    spread.skip(from).step_by(step).chain(symbols::any_two_bytes().into_iter().take(count.unwrap_or(usize::MAX)))
+}
+
+fn distinct(symbols: impl Iterator<Item = Vec<u8>>) -> impl Iterator<Item = Vec<u8>> {
+    let mut seen: HashSet<u64> = HashSet::new();
+    symbols.filter(move |s| {
+        use std::hash::{DefaultHasher, Hasher};
+        let mut hasher = DefaultHasher::new();
+        hasher.write(s);
+        seen.insert(hasher.finish())
+    })
+}
+
+fn main() -> ExitCode {
+    match std::env::args().nth(1).as_deref() {
+        Some("--answer") => {
+            answer_all(false);
+            return ExitCode::SUCCESS;
+        }
+        Some("--answer-carefully") => {
+            answer_all(true);
+            return ExitCode::SUCCESS;
+        }
+        _ => {}
+    }
+    let o = options();
+    let mut comparison = Comparison {
+        listing: Listing { program: o.list.clone(), stack: o.stack, seconds: o.seconds, failing: o.failing, failures: 0 },
+        numbers: o.numbers,
+        counts: vec![],
+        differences: 0,
+        batches: 0,
+    };
+    if let Some(file) = &o.symbols {
+        comparison.kind("given", lines_of(file).into_iter());
+    }
+    if !o.hex.is_empty() {
+        comparison.kind("in hex", o.hex.iter().map(|h| unhex(h)));
+    }
+    let real = o.real.as_deref().map(lines_of).unwrap_or_default();
+    let all = o.kinds.is_empty() && o.symbols.is_none() && o.hex.is_empty();
+    for kind in KINDS.iter().filter(|k| all || o.kinds.iter().any(|chosen| chosen == *k)) {
+        let count = |usual: usize| o.count.unwrap_or(usual);
+        match *kind {
+            "systematic" => comparison.kind(kind, distinct(symbols::systematic().into_iter()).take(count(usize::MAX))),
+            "short" => comparison.kind(kind, distinct(short(o.seed, o.count))),
+            "grammar" => {
+                let mut grammar = Grammar::new(o.seed);
+                comparison.kind(kind, distinct((0..count(1_000_000)).map(|_| grammar.any())));
+            }
+            "grown" => {
+                let mut grammar = Grammar::grown(o.seed);
+                comparison.kind(kind, distinct((0..count(100_000)).map(|_| grammar.any())));
+            }
+            "damaged" => {
+                let mut grammar = Grammar::new(o.seed ^ 0x5eed);
+                let mut rng = Rng::new(o.seed ^ 0xda3a);
+                let made = (0..count(1_000_000)).map(|i| {
+                    let mut one = || if i % 3 == 0 && !real.is_empty() { real[rng.below(real.len())].clone() } else { grammar.any() };
+                    let (symbol, other) = (one(), one());
+                    symbols::damaged(&mut rng, &symbol, &other)
+                });
+                comparison.kind(kind, distinct(made));
+            }
+            "high" => {
+                let mut grammar = Grammar::new(o.seed ^ 0x41f);
+                let mut rng = Rng::new(o.seed ^ 0x80);
+                let made = (0..count(20_000)).map(|_| {
+                    let symbol = grammar.any();
+                    symbols::high(&mut rng, &symbol)
+                });
+                comparison.kind(kind, distinct(made));
+            }
+            "limits" => {
+                for (family, made) in symbols::limits(&mut Rng::new(o.seed)) {
+                    comparison.kind(&format!("limits, {family}"), distinct(made.into_iter().map(String::into_bytes)));
+                }
+            }
+            "chains-small-stack" => {
+                comparison.listing.stack = Some(o.small_stack);
+                let made = symbols::long_chains().into_iter().chain(symbols::opened(&mut Rng::new(o.seed), 40));
+                let kind = format!("chains and open readings, machine stack of {} KiB", o.small_stack);
+                comparison.kind(&kind, distinct(made.map(String::into_bytes)));
+                comparison.listing.stack = o.stack;
+            }
+            _ => comparison.kind(kind, distinct(real.iter().cloned()).take(count(usize::MAX))),
+        }
+    }
+    let total: usize = comparison.counts.iter().map(|(_, c)| c.symbols()).sum();
+    let mut codes: BTreeMap<u8, usize> = BTreeMap::new();
+    for (code, n) in comparison.counts.iter().flat_map(|(_, c)| &c.codes) {
+        *codes.entry(*code).or_default() += n;
+    }
+    let codes: Vec<String> = codes.iter().map(|(code, n)| format!("{code}: {n}")).collect();
+    println!("seed {}: {total} symbols, {} differences; codes {}", o.seed, comparison.differences, codes.join(", "));
+    if comparison.differences > 0 { ExitCode::FAILURE } else { ExitCode::SUCCESS }
+}
