@@ -87,7 +87,7 @@ at-has (suc i) (u ∷ us) t h = rw (at-has i us t h) (or-true (sameTy t u))
 pub seek-has : (t : Ty) (us : List Ty) (i : ℕ) → seek t us ≡ some i → has t us ≡ true
 seek-has t us i h = at-has i us t (seek-at t us i h)
 
-last-has : (t : Ty) (us : List Ty) → lastIs t us ≡ true → has t us ≡ true
+pub last-has : (t : Ty) (us : List Ty) → lastIs t us ≡ true → has t us ≡ true
 unfolding lastIs has
 last-has t [] h = h
 last-has t (u ∷ []) h = rw h refl

@@ -32,13 +32,13 @@ unfoldable mutual
   sizeArgs (also t xs) = size t + sizeArgs xs
 
 -- what is new in a table is no larger than a number
-abbrev NewUpTo : List Ty → List Ty → ℕ → Type 0
+abbrev pub NewUpTo : List Ty → List Ty → ℕ → Type 0
 NewUpTo us ws n = (x : Ty) → has x ws ≡ true → (has x us ≡ true) ⊎ (size x ≤ n)
 
 new-refl : (us : List Ty) (n : ℕ) → NewUpTo us us n
 new-refl us n x h = inl h
 
-new-trans : (us vs ws : List Ty) (m n : ℕ) → NewUpTo us vs m → NewUpTo vs ws n → NewUpTo us ws (m + n)
+pub new-trans : (us vs ws : List Ty) (m n : ℕ) → NewUpTo us vs m → NewUpTo vs ws n → NewUpTo us ws (m + n)
 new-trans us vs ws m n a b x h = go (b x h)
   where
     left : (has x us ≡ true) ⊎ (size x ≤ m) → (has x us ≡ true) ⊎ (size x ≤ m + n)
@@ -66,7 +66,7 @@ new-one none t us ws vs n m a e p q x h = go (or-cases (has x ws) (sameTy x t) (
 mutual
   unfolding after size
 
-  after-new : (t : Ty) (us : List Ty) → NewUpTo us (after t us) (size t)
+  pub after-new : (t : Ty) (us : List Ty) → NewUpTo us (after t us) (size t)
   after-new (letter l) us = new-refl us 1
   after-new (wrap c t) us =
       new-one (seek (wrap c t) us) (wrap c t) us (after t us) (push (wrap c t) (after t us)) (size t) (suc (size t)) (after-new t us)
@@ -83,7 +83,7 @@ mutual
       (λ x. has-push x (app t xs) (afterArgs xs (afterPre t us))) (omega arith) (omega arith)
   after-new (lit k g v) us = new-refl us 1
 
-  afterPre-new : (t : Ty) (us : List Ty) → NewUpTo us (afterPre t us) (size t)
+  pub afterPre-new : (t : Ty) (us : List Ty) → NewUpTo us (afterPre t us) (size t)
   afterPre-new (letter l) us = new-refl us 1
   afterPre-new (wrap c t) us = new-refl us (suc (size t))
   afterPre-new (root n) us =
@@ -98,7 +98,7 @@ mutual
       (λ x. has-push x (app t xs) (afterArgs xs (afterPre t us))) (omega arith) (omega arith)
   afterPre-new (lit k g v) us = new-refl us 1
 
-  afterArgs-new : (xs : Args) (us : List Ty) → NewUpTo us (afterArgs xs us) (sizeArgs xs)
+  pub afterArgs-new : (xs : Args) (us : List Ty) → NewUpTo us (afterArgs xs us) (sizeArgs xs)
   afterArgs-new (one t) us = after-new t us
   afterArgs-new (also t xs) us = new-trans us (after t us) (afterArgs xs (after t us)) (size t) (sizeArgs xs) (after-new t us) (afterArgs-new xs (after t us))
 
@@ -125,7 +125,7 @@ nodup-pushNew t us h d = go (lastIs t us)
     go true = d
     go false = nodup-push t us h d
 
-fresh : (t : Ty) (us ws : List Ty) (n : ℕ) → NewUpTo us ws n → n < size t → has t us ≡ false → has t ws ≡ false
+pub fresh : (t : Ty) (us ws : List Ty) (n : ℕ) → NewUpTo us ws n → n < size t → has t us ≡ false → has t ws ≡ false
 fresh t us ws n a p h = go (has t ws) refl
   where
     bad : (has t us ≡ true) ⊎ (size t ≤ n) → ⊥

@@ -62,7 +62,7 @@ use Rattle.catalogue.specs.Normal.{
 }
 use Rattle.catalogue.specs.WellFormed.{Wf, WfArgs, WfParams, WfName, WfEnc, bare-class}
 
-later-some : (o : Option ℕ) (i : ℕ) → later o ≡ some i → (j : ℕ) × (i ≡ suc j) × (o ≡ some j)
+pub later-some : (o : Option ℕ) (i : ℕ) → later o ≡ some i → (j : ℕ) × (i ≡ suc j) × (o ≡ some j)
 later-some none i h = absurd (Option·none-ne-some i h)
 later-some (some j) i h = (j, (cc), refl)
 

@@ -113,10 +113,10 @@ cut-at n r =
     rw (le-leb (length n) (length (n ++ r)) (rw (length-append n r) (omega arith)))
     (rw (take-append-seam n r, drop-append-seam n r) refl)
 
-digits-all : (n : Text) → all (digit 10) (lengthDigits n) ≡ true
+pub digits-all : (n : Text) → all (digit 10) (lengthDigits n) ≡ true
 digits-all n = decimal-all (suc (length n)) (length n)
 
-digits-some : (n : Text) → Some (lengthDigits n)
+pub digits-some : (n : Text) → Some (lengthDigits n)
 digits-some n = decimal-some (length n) (length n)
 
 pub name-read : (n r : Text) → nameOk n ≡ true → readName (lengthDigits n ++ (n ++ r)) ≡ rd n r
@@ -133,11 +133,11 @@ unfolding readRef digit digit-value if_then_else_
 ref-read i r =
     rw (past-of (digit 36) (refDigits i) (code "_" ∷ r) (ref-all i) refl, run-of (digit 36) (refDigits i) (code "_" ∷ r) (ref-all i) refl, ref-index i) refl
 
-lead-digit : (c : ℕ) → digit 10 c ≡ true → lead c ≡ leadDigit
+pub lead-digit : (c : ℕ) → digit 10 c ≡ true → lead c ≡ leadDigit
 unfolding lead if_then_else_
 lead-digit c h = rw h refl
 
-lead-letter : (l : Letter) → lead (letterCode l) ≡ leadLetter l
+pub lead-letter : (l : Letter) → lead (letterCode l) ≡ leadLetter l
 unfolding lead digit digit-value if_then_else_ choose withCode
 lead-letter lv = refl
 lead-letter lw = refl
@@ -161,7 +161,7 @@ lead-letter le = refl
 lead-letter lg = refl
 lead-letter lz = refl
 
-lead-wrap : (w : Wrap) → lead (wrapCode w) ≡ leadWrap w
+pub lead-wrap : (w : Wrap) → lead (wrapCode w) ≡ leadWrap w
 unfolding lead digit digit-value if_then_else_ choose withCode
 lead-wrap wP = refl
 lead-wrap wR = refl
@@ -174,7 +174,7 @@ lead-wrap wV = refl
 abbrev pub isIE : ℕ → Bool
 isIE c = eqb c (code "I") || eqb c (code "E")
 
-digit-IE : (c : ℕ) → digit 10 c ≡ true → isIE c ≡ false
+pub digit-IE : (c : ℕ) → digit 10 c ≡ true → isIE c ≡ false
 digit-IE c h =
     let k = digit-low c h in
     let z : eqb c 73 ≡ false = ne-eqb c 73 (λ e. (omega arith)) in
@@ -241,11 +241,11 @@ pub no-I : (r : Text) → first isIE r ≡ false → first (λ c. eqb c (code "I
 no-I [] h = refl
 no-I (c ∷ r) h = or-left (eqb c 73) (eqb c 69) h
 
-no-E : (r : Text) → first isIE r ≡ false → first (λ c. eqb c (code "E")) r ≡ false
+pub no-E : (r : Text) → first isIE r ≡ false → first (λ c. eqb c (code "E")) r ≡ false
 no-E [] h = refl
 no-E (c ∷ r) h = or-right (eqb c 73) (eqb c 69) h
 
-next-no : {A : Type 0} (c : ℕ) (r : Text) (g : Text → A) (x : A) → first (λ d. eqb d c) r ≡ false → ifNext c r g x ≡ x
+pub next-no : {A : Type 0} (c : ℕ) (r : Text) (g : Text → A) (x : A) → first (λ d. eqb d c) r ≡ false → ifNext c r g x ≡ x
 unfolding if_then_else_
 next-no c [] g x h = refl
 next-no c (d ∷ r) g x h = rw h refl
@@ -304,7 +304,7 @@ some-long : (d : Text) → Some d → 1 ≤ length d
 some-long [] h = absurd h
 some-long (c ∷ d) h = omega arith
 
-name-some : (n : Text) → nameOk n ≡ true → 1 ≤ length n
+pub name-some : (n : Text) → nameOk n ≡ true → 1 ≤ length n
 unfolding nameOk
 name-some [] h = let z : _≡_ {A = ℕ} 0 1 = cc in omega arith
 name-some (c ∷ n) h = omega arith
@@ -329,7 +329,7 @@ ref-long i r = simp length-append (omega arith)
 
 -- ---------------------------------------------------------------- literals
 
-kind-at : (k : Kind) → withCode kindCode (kindCode k) allKinds ≡ some k
+pub kind-at : (k : Kind) → withCode kindCode (kindCode k) allKinds ≡ some k
 unfolding withCode if_then_else_
 kind-at kb = refl
 kind-at ki = refl
@@ -337,7 +337,7 @@ kind-at kj = refl
 kind-at kl = refl
 kind-at km = refl
 
-no-n : (v r : Text) → all (digit 10) v ≡ true → first (λ c. eqb c (code "n")) (v ++ (69 ∷ r)) ≡ false
+pub no-n : (v r : Text) → all (digit 10) v ≡ true → first (λ c. eqb c (code "n")) (v ++ (69 ∷ r)) ≡ false
 no-n [] r h = refl
 no-n (c ∷ v) r h = let k = digit-low c (and-left (digit 10 c) (all (digit 10) v) h) in ne-eqb c 110 (λ e. (omega arith))
 
@@ -392,13 +392,13 @@ unfolding parse
 more-args f q ss r h e = ap (λ k. parseMore k q (73 ∷ (spellArgs ss ++ (69 ∷ r)))) (pre-step f h) ∙ rw e refl
 
 -- the brackets of ++ moved to the right
-front : (x y r : Text) → (x ++ (73 ∷ (y ++ (69 ∷ [])))) ++ r ≡ x ++ (73 ∷ (y ++ (69 ∷ r)))
+pub front : (x y r : Text) → (x ++ (73 ∷ (y ++ (69 ∷ [])))) ++ r ≡ x ++ (73 ∷ (y ++ (69 ∷ r)))
 front x y r = simp append-assoc
 
-inner : (x y r : Text) → (x ++ (y ++ (69 ∷ []))) ++ r ≡ x ++ (y ++ (69 ∷ r))
+pub inner : (x y r : Text) → (x ++ (y ++ (69 ∷ []))) ++ r ≡ x ++ (y ++ (69 ∷ r))
 inner x y r = simp append-assoc
 
-inner′ : (x y r : Text) → (x ++ (73 ∷ (y ++ (69 ∷ 69 ∷ [])))) ++ r ≡ x ++ (73 ∷ (y ++ (69 ∷ 69 ∷ r)))
+pub inner′ : (x y r : Text) → (x ++ (73 ∷ (y ++ (69 ∷ 69 ∷ [])))) ++ r ≡ x ++ (73 ∷ (y ++ (69 ∷ 69 ∷ r)))
 inner′ x y r = simp append-assoc
 
 pub spell-long : (s : Sp) → OkSp s → (r : Text) → length r + 1 ≤ length (spell s ++ r)

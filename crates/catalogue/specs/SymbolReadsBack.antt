@@ -83,7 +83,7 @@ use Rattle.catalogue.specs.ReadsBack.{
 
 -- ---------------------------------------------------------------- what resolves has permitted names and values
 
-lit-digits : (k : Kind) (g : Bool) (v : Text) → litOk k g v ≡ true → all (digit 10) v ≡ true
+pub lit-digits : (k : Kind) (g : Bool) (v : Text) → litOk k g v ≡ true → all (digit 10) v ≡ true
 unfolding litOk digit digit-value if_then_else_ b
 lit-digits kb g v h = truth (same v (b "0")) refl (and-right (not g) (same v (b "0") || same v (b "1")) h)
   where
@@ -231,10 +231,10 @@ params-spell m (some ss) o f h = go (spellArgs ss) (args-long ss o) (types-spell
 not-K : (c : ℕ) → digit 10 c ≡ true → eqb c (code "K") ≡ false
 not-K c h = let k = digit-low c h in ne-eqb c 75 (λ e. (omega arith))
 
-not-N : (c : ℕ) → digit 10 c ≡ true → eqb c (code "N") ≡ false
+pub not-N : (c : ℕ) → digit 10 c ≡ true → eqb c (code "N") ≡ false
 not-N c h = let k = digit-low c h in ne-eqb c 78 (λ e. (omega arith))
 
-pre-K : (q : Pre) (r : Text) → first (λ c. eqb c (code "K")) (spellPre q ++ r) ≡ false
+pub pre-K : (q : Pre) (r : Text) → first (λ c. eqb c (code "K")) (spellPre q ++ r) ≡ false
 unfolding spell
 pre-K (pRef i) r = refl
 pre-K (pRoot n) r = name-first (λ c. eqb c 75) not-K n r
