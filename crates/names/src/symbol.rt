@@ -11,7 +11,9 @@ ghost use Rattle.names.specs.Symbols.{Fronts};
 
 // The least lengths of the work slices.
 pub const TEXT: usize = 65536;
+
 pub const STORE: usize = 65536;
+
 pub const ENDS: usize = 2048;
 
 // The place behind _Z or __Z, or why there is none.
