@@ -1,0 +1,43 @@
+-- `normal::marks::truth_ok` tells 0 and 1 without minus. Assumes nothing.
+use mathlib.Core.Path.{refl, sym, _∙_}
+use Rattle.grammar.specs.Text.{b}
+use Rattle.catalogue.specs.Class.{litOk}
+use borrow.Author.Needs.{needs}
+use Rattle.normal.proofs.marks.truth_ok.Statement.{statement}
+use Rattle.normal.proofs.marks.truth_ok.Tie as tie
+
+returns : tie.Need-returns
+unfolding litOk
+returns c = rw (c .if1 .taken) refl
+
+slice-aggregate-is-word : tie.Need-slice-aggregate-is-word
+slice-aggregate-is-word c = search needs
+
+is-word-requires : tie.Need-is-word-requires
+is-word-requires c κs = search needs
+
+returns-2 : tie.Need-returns-2
+unfolding litOk b
+returns-2 c = rw (c .before .before .before .if1 .left, sym (c .before .is-word .ensures) ∙ c .if2 .taken) refl
+
+slice-aggregate-is-word-2 : tie.Need-slice-aggregate-is-word-2
+slice-aggregate-is-word-2 c = search needs
+
+is-word-requires-2 : tie.Need-is-word-requires-2
+is-word-requires-2 c κs = search needs
+
+returns-3 : tie.Need-returns-3
+unfolding litOk b
+returns-3 c = rw (c .before .before .before .before .before .if1 .left, sym (c .before .before .before .is-word .ensures) ∙ c .before .before .if2 .left) (c .is-word2 .ensures)
+
+pub truth-ok-spec : {M : Type 1} → statement M
+truth-ok-spec =
+    tie.close
+    (tie.spec
+    returns
+    slice-aggregate-is-word
+    is-word-requires
+    returns-2
+    slice-aggregate-is-word-2
+    is-word-requires-2
+    returns-3)

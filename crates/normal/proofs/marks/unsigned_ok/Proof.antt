@@ -1,0 +1,25 @@
+-- `normal::marks::unsigned_ok` tells the values of j and m. Assumes nothing.
+use mathlib.Core.Path.{refl}
+use Rattle.catalogue.specs.Class.{litOk}
+use borrow.Author.Needs.{needs}
+use Rattle.normal.proofs.marks.unsigned_ok.Statement.{statement}
+use Rattle.normal.proofs.marks.unsigned_ok.Tie as tie
+
+returns : tie.Need-returns
+unfolding litOk
+returns c = rw (c .if1 .taken) refl
+
+numeral-requires : tie.Need-numeral-requires
+numeral-requires c κs = search needs
+
+returns-2 : tie.Need-returns-2
+unfolding litOk
+returns-2 c = rw (c .before .if1 .left) (c .numeral .ensures)
+
+pub unsigned-ok-spec : {M : Type 1} → statement M
+unsigned-ok-spec =
+    tie.close
+    (tie.spec
+    returns
+    numeral-requires
+    returns-2)

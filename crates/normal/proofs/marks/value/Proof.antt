@@ -1,0 +1,71 @@
+-- `normal::marks::value` reads digits and E. Assumes nothing.
+use mathlib.Core.Path.{sym, ap, _∙_}
+use Rattle.grammar.specs.Text.{digit}
+use lib.ListN.{drop}
+use borrow.Author.Tests.{not-true, not-false}
+use Rattle.normal.specs.Places.{run-is, run-all}
+use Rattle.normal.specs.Tests.{inside}
+use Rattle.catalogue.specs.Bytes.{all}
+use Rattle.normal.specs.Leaves.{value-open, value-wrong, value-right}
+use borrow.Author.Needs.{needs}
+use native.Mathlib.Omega.{arith}
+use Rattle.normal.proofs.marks.value.Statement.{statement}
+use Rattle.normal.proofs.marks.value.Tie as tie
+
+decimal-requires : tie.Need-decimal-requires
+decimal-requires c κs = search needs
+
+slice-aggregate-starts-with : tie.Need-slice-aggregate-starts-with
+slice-aggregate-starts-with c = search needs
+
+starts-with-requires : tie.Need-starts-with-requires
+starts-with-requires c κs = search needs
+
+returns : tie.Need-returns
+returns c =
+    let a = c .before .before .before .before .before .args in
+    value-open (a .s .now) (a .kind) (a .minus) (a .from) _ (c .before .before .before .decimal .ensures .behind) (sym (c .before .starts-with .ensures) ∙ not-true _ (c .if1 .taken))
+
+value-ok-requires : tie.Need-value-ok-requires
+value-ok-requires c κs =
+    let a = c .before .before .before .before .before .args in
+    let d = c .before .before .before .decimal .ensures in
+    let h = sym (c .before .starts-with .ensures) ∙ not-false _ (c .if1 .left) in
+    let i = inside 69 (a .s .now) (c .before .before .before .decimal .result .next) h in
+    let e = run-is (digit 10) (a .s .now) (a .from) _ (d .behind) in
+    (omega (arith, d .behind), (omega arith, ap (all (digit 10)) (sym e) ∙ run-all (digit 10) (drop (a .from) (a .s .now))))
+
+returns-2 : tie.Need-returns-2
+returns-2 c =
+    let a = c .before .before .before .before .before .before .before .args in
+    let d = c .before .before .before .before .before .decimal .ensures in
+    let h = sym (c .before .before .before .starts-with .ensures) ∙ not-false _ (c .before .before .if1 .left) in
+    value-wrong (a .s .now) (a .kind) (a .minus) (a .from) _ (d .behind) h (sym (c .before .value-ok .ensures) ∙ not-true _ (c .if2 .taken))
+
+add-t12 : tie.Need-add-t12
+add-t12 c =
+    let a = c .before .before .before .before .before .before .before .args in
+    let d = c .before .before .before .before .before .decimal .ensures in
+    let h = sym (c .before .before .before .starts-with .ensures) ∙ not-false _ (c .before .before .if1 .left) in
+    let i = inside 69 (a .s .now) (c .before .before .before .before .before .decimal .result .next) h in
+    omega arith
+
+returns-3 : tie.Need-returns-3
+returns-3 c =
+    let a = c .before .before .before .before .before .before .before .args in
+    let d = c .before .before .before .before .before .decimal .ensures in
+    let h = sym (c .before .before .before .starts-with .ensures) ∙ not-false _ (c .before .before .if1 .left) in
+    (value-right (a .s .now) (a .kind) (a .minus) (a .from) _ (d .behind) h (sym (c .before .value-ok .ensures) ∙ not-false _ (c .if2 .left)), omega arith)
+
+pub value-spec : {M : Type 1} → statement M
+value-spec =
+    tie.close
+    (tie.spec
+    decimal-requires
+    slice-aggregate-starts-with
+    starts-with-requires
+    returns
+    value-ok-requires
+    returns-2
+    add-t12
+    returns-3)

@@ -1,0 +1,71 @@
+-- `normal::marks::value_ok` tells the values of a kind: an arm for each, and `_` has none. Assumes nothing.
+use mathlib.Core.Path.{sym, ap}
+use mathlib.Core.Bool.{false}
+use mathlib.Core.Option.{Option}
+use Rattle.grammar.specs.Text.{if_then_else_, choose}
+use Rattle.catalogue.specs.Tree.{Kind, kindCode}
+use Rattle.catalogue.specs.Class.{litOk}
+use Rattle.catalogue.specs.Recogniser.{withCode, allKinds}
+use Rattle.normal.specs.Places.{part}
+use Rattle.normal.specs.Answers.{valid-by}
+use Rattle.normal.specs.Leads.{uncoded}
+use borrow.Author.Needs.{needs}
+use Rattle.normal.proofs.marks.value_ok.Statement.{statement}
+use Rattle.normal.proofs.marks.value_ok.Tie as tie
+
+truth-ok-requires : tie.Need-truth-ok-requires
+truth-ok-requires c κs = search needs
+
+signed-ok-requires : tie.Need-signed-ok-requires
+signed-ok-requires c κs = search needs
+
+unsigned-ok-requires : tie.Need-unsigned-ok-requires
+unsigned-ok-requires c κs = search needs
+
+signed-ok-requires-2 : tie.Need-signed-ok-requires-2
+signed-ok-requires-2 c κs = search needs
+
+unsigned-ok-requires-2 : tie.Need-unsigned-ok-requires-2
+unsigned-ok-requires-2 c κs = search needs
+
+returns : tie.Need-returns
+unfolding valid-by withCode choose if_then_else_ litOk
+returns c = rw (c .before .match .keys1) (c .truth-ok .ensures)
+
+returns-2 : tie.Need-returns-2
+unfolding valid-by withCode choose if_then_else_ litOk
+returns-2 c = rw (c .before .match .keys2) (c .signed-ok .ensures)
+
+returns-3 : tie.Need-returns-3
+unfolding valid-by withCode choose if_then_else_ litOk
+returns-3 c = rw (c .before .match .keys3) (c .unsigned-ok .ensures)
+
+returns-4 : tie.Need-returns-4
+unfolding valid-by withCode choose if_then_else_ litOk
+returns-4 c = rw (c .before .match .keys4) (c .signed-ok2 .ensures)
+
+returns-5 : tie.Need-returns-5
+unfolding valid-by withCode choose if_then_else_ litOk
+returns-5 c = rw (c .before .match .keys5) (c .unsigned-ok2 .ensures)
+
+returns-6 : tie.Need-returns-6
+unfolding valid-by choose
+returns-6 c =
+    let a = c .before .before .args in
+    sym (ap (λ (o : Option Kind). choose o (λ k. litOk k (a .minus) (part (a .s .now) (a .from) (a .to))) false) (uncoded kindCode _ allKinds (c .match .rest)))
+
+pub value-ok-spec : {M : Type 1} → statement M
+value-ok-spec =
+    tie.close
+    (tie.spec
+    truth-ok-requires
+    signed-ok-requires
+    unsigned-ok-requires
+    signed-ok-requires-2
+    unsigned-ok-requires-2
+    returns
+    returns-2
+    returns-3
+    returns-4
+    returns-5
+    returns-6)

@@ -1,0 +1,39 @@
+-- `normal::words::is_word` tells whether a part is a word: by the length, and by how the text goes on. Assumes nothing.
+use mathlib.Core.Path.{sym, ap, _∙_}
+use Prim.Native.Nat.{ℕ}
+use lib.ListN.{take, drop, length-drop}
+use Rattle.grammar.specs.Text.{same}
+use Rattle.normal.specs.Places.{part-length}
+use Rattle.normal.specs.Tests.{same-no, starts-same}
+use borrow.Author.Needs.{needs}
+use native.Mathlib.Omega.{arith}
+use Rattle.normal.proofs.words.is_word.Statement.{statement}
+use Rattle.normal.proofs.words.is_word.Tie as tie
+
+sub-if1 : tie.Need-sub-if1
+sub-if1 c = search needs
+
+returns : tie.Need-returns
+returns c =
+    let a = c .before .before .before .args in
+    sym (same-no _ _ (λ e. c .if1 .taken (sym (part-length (a .s .now) (a .from) (a .to) (omega arith)) ∙ e)))
+
+starts-with-requires : tie.Need-starts-with-requires
+starts-with-requires c κs = search needs
+
+returns-2 : tie.Need-returns-2
+returns-2 c =
+    let a = c .before .before .before .before .args in
+    let t = drop (a .from) (a .s .now) in
+    c .starts-with .ensures
+    ∙ starts-same t (a .word .now) (omega (arith, length-drop (a .from) (a .s .now), c .before .if1 .left))
+    ∙ ap (λ (k : ℕ). same (take k t) (a .word .now)) (sym (c .before .if1 .left))
+
+pub is-word-spec : {M : Type 1} → statement M
+is-word-spec =
+    tie.close
+    (tie.spec
+    sub-if1
+    returns
+    starts-with-requires
+    returns-2)

@@ -1,0 +1,64 @@
+-- `normal::words::word_ok` tests the rules of an identifier. Assumes nothing.
+use mathlib.Core.Path.{refl, sym, ap, _∙_}
+use mathlib.Core.Bool.{not}
+use lib.ListN.{getD}
+use borrow.Author.Tests.{lt-ltb, le-ltb, not-true, not-false}
+use Rattle.grammar.specs.Text.{digit, digit-value}
+use Rattle.catalogue.specs.Class.{nameOk}
+use Rattle.normal.specs.Places.{part-none}
+use Rattle.normal.specs.Leaves.{name-rules}
+use borrow.Author.Needs.{needs}
+use native.Mathlib.Omega.{arith}
+use Rattle.normal.proofs.words.word_ok.Statement.{statement}
+use Rattle.normal.proofs.words.word_ok.Tie as tie
+
+returns : tie.Need-returns
+unfolding nameOk
+returns c = let a = c .before .before .args in rw (part-none (a .s .now) (a .from) (a .to) (omega arith)) refl
+
+shared-slice-read-digit-value : tie.Need-shared-slice-read-digit-value
+shared-slice-read-digit-value c = search needs
+
+digit-value-requires : tie.Need-digit-value-requires
+digit-value-requires c κs = search needs
+
+returns-2 : tie.Need-returns-2
+unfolding digit
+returns-2 c =
+    let a = c .before .before .before .before .before .args in
+    let k = getD (a .s .now) (a .from) 0 in
+    rw (name-rules (a .s .now) (a .from) (a .to) (omega arith) (omega arith), lt-ltb (digit-value k) 10 (omega (arith, c .before .digit-value .ensures))) refl
+
+word-bytes-requires : tie.Need-word-bytes-requires
+word-bytes-requires c κs = search needs
+
+returns-3 : tie.Need-returns-3
+unfolding digit
+returns-3 c =
+    let a = c .before .before .before .before .before .before .before .args in
+    let k = getD (a .s .now) (a .from) 0 in
+    rw (name-rules (a .s .now) (a .from) (a .to) (omega arith) (omega arith), le-ltb (digit-value k) 10 (omega (arith, c .before .before .before .digit-value .ensures)), sym (c .before .word-bytes .ensures) ∙ not-true _ (c .if3 .taken)) refl
+
+is-reserved-requires : tie.Need-is-reserved-requires
+is-reserved-requires c κs = search needs
+
+returns-4 : tie.Need-returns-4
+unfolding digit
+returns-4 c =
+    let a = c .before .before .before .before .before .before .before .before .args in
+    let k = getD (a .s .now) (a .from) 0 in
+    rw (name-rules (a .s .now) (a .from) (a .to) (omega arith) (omega arith), le-ltb (digit-value k) 10 (omega (arith, c .before .before .before .before .digit-value .ensures)), sym (c .before .before .word-bytes .ensures) ∙ not-false _ (c .before .if3 .left))
+    (ap not (c .is-reserved .ensures))
+
+pub word-ok-spec : {M : Type 1} → statement M
+word-ok-spec =
+    tie.close
+    (tie.spec
+    returns
+    shared-slice-read-digit-value
+    digit-value-requires
+    returns-2
+    word-bytes-requires
+    returns-3
+    is-reserved-requires
+    returns-4)

@@ -1,0 +1,40 @@
+-- `normal::write::digit_of` gives a digit or a capital. Assumes nothing.
+use mathlib.Core.Path.{refl}
+use borrow.Author.Tests.{lt-ltb, le-ltb}
+use Rattle.grammar.specs.Text.{if_then_else_}
+use Rattle.catalogue.specs.Spelling.{digitOf}
+use borrow.Author.Needs.{needs}
+use native.Mathlib.Omega.{arith}
+use Rattle.normal.proofs.write.digit_of.Statement.{statement}
+use Rattle.normal.proofs.write.digit_of.Tie as tie
+
+cast-result : tie.Need-cast-result
+cast-result c = search needs
+
+add-result : tie.Need-add-result
+add-result c = search needs
+
+cast-result-2 : tie.Need-cast-result-2
+cast-result-2 c = search needs
+
+add-result-2 : tie.Need-add-result-2
+add-result-2 c = search needs
+
+returns : tie.Need-returns
+unfolding digitOf if_then_else_
+returns c = rw (lt-ltb (c .before .args .d) 10 (omega arith)) refl
+
+returns-2 : tie.Need-returns-2
+unfolding digitOf if_then_else_
+returns-2 c = rw (le-ltb (c .before .args .d) 10 (omega arith)) refl
+
+pub digit-of-spec : {M : Type 1} → statement M
+digit-of-spec =
+    tie.close
+    (tie.spec
+    cast-result
+    add-result
+    cast-result-2
+    add-result-2
+    returns
+    returns-2)

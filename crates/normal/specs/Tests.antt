@@ -1,0 +1,85 @@
+-- Tests of bytes at a place, and of parts. Assumes nothing.
+use mathlib.Core.Bool.{Bool, true, false, false≢true, not, _&&_}
+use mathlib.Core.List.{[], _∷_}
+use mathlib.Core.Logic.{_⊎_, inl, inr}
+use mathlib.Core.Path.{_≡_, refl, sym, ap, _∙_}
+use Prim.Native.Nat.{ℕ, _+_, _≤_, _<_}
+use native.Mathlib.Omega.{arith}
+use borrow.Author.Tests.{ltb-true, ltb-false}
+use lib.Dec.{eqb, ltb}
+use lib.ListN.{length, take, drop, length-drop}
+use lib.Seq.{drop-drop}
+use Rattle.grammar.specs.Text.{Text, if_then_else_, same, starts, digit}
+use Rattle.grammar.specs.Laws.{starts-nothing}
+use Rattle.catalogue.specs.Bytes.{all, first, and-left, and-right, same-eq}
+use Rattle.catalogue.specs.Class.{leadingZero, numeral}
+use Rattle.catalogue.specs.Recogniser.{ifNext}
+
+-- ---------------------------------------------------------------- a byte at a place
+
+module _ (c : ℕ) where
+  some-there : (t : Text) → starts t (c ∷ []) ≡ true → 0 < length t
+  unfolding starts
+  some-there [] h = absurd (false≢true h)
+  some-there (d ∷ t) h = omega arith
+
+  pub inside : (s : Text) (at : ℕ) → starts (drop at s) (c ∷ []) ≡ true → at < length s
+  inside s at h = omega (arith, some-there (drop at s) h, length-drop at s)
+
+  first-is : (d : ℕ) (t : Text) → starts (d ∷ t) (c ∷ []) ≡ eqb d c
+  unfolding starts
+  first-is d t = rw (starts-nothing t) (go (eqb d c))
+    where
+      go : (q : Bool) → (q && true) ≡ q
+      go true = refl
+      go false = refl
+
+  module _ {A : Type 0} (f : Text → A) (x : A) where
+    next-yes : (t : Text) → starts t (c ∷ []) ≡ true → ifNext c t f x ≡ f (drop 1 t)
+    unfolding starts if_then_else_
+    next-yes [] h = absurd (false≢true h)
+    next-yes (d ∷ t) h = rw (sym (first-is d t) ∙ h) refl
+
+    pub next-not : (t : Text) → starts t (c ∷ []) ≡ false → ifNext c t f x ≡ x
+    unfolding if_then_else_
+    next-not [] h = refl
+    next-not (d ∷ t) h = rw (sym (first-is d t) ∙ h) refl
+
+    pub next-here : (s : Text) (at : ℕ) → starts (drop at s) (c ∷ []) ≡ true → ifNext c (drop at s) f x ≡ f (drop (at + 1) s)
+    next-here s at h = next-yes (drop at s) h ∙ ap f (drop-drop 1 at s)
+
+  pub first-zero : (t : Text) → first (λ d. eqb d c) t ≡ starts t (c ∷ [])
+  unfolding starts
+  first-zero [] = refl
+  first-zero (d ∷ t) = sym (first-is d t)
+
+-- ---------------------------------------------------------------- a part and a word
+
+pub same-no : (s t : Text) → (length s ≡ length t → ⊥) → same s t ≡ false
+same-no s t d = go (same s t) refl
+  where
+    go : (q : Bool) → same s t ≡ q → q ≡ false
+    go true e = absurd (d (ap length (same-eq s t e)))
+    go false e = refl
+
+pub starts-same : (t w : Text) → length w ≤ length t → starts t w ≡ same (take (length w) t) w
+unfolding starts same
+starts-same t [] h = starts-nothing t
+starts-same [] (y ∷ w) h = absurd (omega arith)
+starts-same (x ∷ t) (y ∷ w) h = ap (λ (q : Bool). eqb x y && q) (starts-same t w (omega arith))
+
+-- ---------------------------------------------------------------- digits
+
+pub numeral-is : (v : Text) → 0 < length v → all (digit 10) v ≡ true → numeral v ≡ not (leadingZero v)
+unfolding numeral
+numeral-is [] l h = absurd (omega arith)
+numeral-is (x ∷ v) l h = rw (and-left (digit 10 x) (all (digit 10) v) h, and-right (digit 10 x) (all (digit 10) v) h) refl
+
+-- ---------------------------------------------------------------- numbers
+
+pub lt-or-le : (m n : ℕ) → (m < n) ⊎ (n ≤ m)
+lt-or-le m n = go (ltb m n) refl
+  where
+    go : (q : Bool) → ltb m n ≡ q → (m < n) ⊎ (n ≤ m)
+    go true e = inl (ltb-true m n e)
+    go false e = inr (ltb-false m n e)

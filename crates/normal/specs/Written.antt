@@ -1,0 +1,173 @@
+-- A text written into another from a place on, and the digits of small numbers. Assumes nothing.
+use mathlib.Core.Path.{_≡_, refl, sym, ap, subst, _∙_}
+use mathlib.Core.Logic.{⊎-elim}
+use mathlib.Core.List.{[], _∷_, _++_, append-assoc}
+use Prim.Native.Nat.{ℕ, zero, suc, _+_, _-_, _/_, _%_, _≤_, _<_}
+use native.Mathlib.Nat.{eq-zero-or-pos}
+use native.Mathlib.Omega.{arith}
+use borrow.Author.Tests.{lt-ltb, le-ltb}
+use lib.ListN.{length, take, drop, set, length-append}
+use lib.Seq.{sets-eq, take-at, drop-at, drop-drop, length-take-le}
+use Rattle.grammar.specs.Text.{Text, if_then_else_, decimal}
+use Rattle.catalogue.specs.Spelling.{digitOf, base36, refDigits, refBytes, lengthDigits, nameBytes}
+use Rattle.walk.specs.Walk.{most-reference}
+use Rattle.normal.specs.Tests.{lt-or-le}
+
+pub record Wrote (out out' : Text) (at r : ℕ) (w : Text) : Type 0 where
+  pub is : out' ≡ take at out ++ w ++ drop (at + length w) out
+  pub end : r ≡ at + length w
+
+pub wrote-as : {out out' v w : Text} {at r : ℕ} → v ≡ w → Wrote out out' at r v → Wrote out out' at r w
+wrote-as {out} {out'} {v} {w} {at} {r} e h = subst (λ (t : Text). Wrote out out' at r t) e h
+
+-- ---------------------------------------------------------------- byte by byte
+
+module _ (out : Text) (at a : ℕ) where
+  pub wrote-one : at + 1 ≤ length out → Wrote out (set out at a) at (at + 1) (a ∷ [])
+  wrote-one h = record { is = sets-eq (a ∷ []) out at h; end = refl }
+
+  module _ (b : ℕ) where
+    pub wrote-two : at + 2 ≤ length out → Wrote out (set (set out at a) (at + 1) b) at (at + 2) (a ∷ b ∷ [])
+    wrote-two h =
+        let e : at + 1 ≡ suc at = omega arith in
+        record { is = ap (λ (j : ℕ). set (set out at a) j b) e ∙ sets-eq (a ∷ b ∷ []) out at h; end = refl }
+
+    module _ (c : ℕ) where
+      pub wrote-three : at + 3 ≤ length out → Wrote out (set (set (set out at a) (at + 1) b) (at + 2) c) at (at + 3) (a ∷ b ∷ c ∷ [])
+      wrote-three h =
+          let e : at + 1 ≡ suc at = omega arith in
+          let f : at + 2 ≡ suc (suc at) = omega arith in
+          record {
+            is = ap (λ (j : ℕ). set (set (set out at a) j b) (at + 2) c) e ∙ ap (λ (j : ℕ). set (set (set out at a) (suc at) b) j c) f ∙ sets-eq (a ∷ b ∷ c ∷ []) out at h;
+            end = refl;
+          }
+
+      pub wrote-four : (d : ℕ) → at + 4 ≤ length out
+          → Wrote out (set (set (set (set out at a) (at + 1) b) (at + 2) c) (at + 3) d) at (at + 4) (a ∷ b ∷ c ∷ d ∷ [])
+      wrote-four d h =
+          let e : at + 1 ≡ suc at = omega arith in
+          let f : at + 2 ≡ suc (suc at) = omega arith in
+          let g : at + 3 ≡ suc (suc (suc at)) = omega arith in
+          record {
+            is =
+                ap (λ (j : ℕ). set (set (set (set out at a) j b) (at + 2) c) (at + 3) d) e
+                ∙ ap (λ (j : ℕ). set (set (set (set out at a) (suc at) b) j c) (at + 3) d) f
+                ∙ ap (λ (j : ℕ). set (set (set (set out at a) (suc at) b) (suc (suc at)) c) j d) g
+                ∙ sets-eq (a ∷ b ∷ c ∷ d ∷ []) out at h;
+            end = refl;
+          }
+
+-- one text behind another
+pub wrote-both : {o o' o'' v w : Text} {at m r : ℕ} → at + length v ≤ length o → Wrote o o' at m v → Wrote o' o'' m r w → Wrote o o'' at r (v ++ w)
+wrote-both {o} {o'} {o''} {v} {w} {at} {m} {r} h p q =
+    let l : length (take at o) ≡ at = length-take-le at o (omega arith) in
+    let f : length (take at o ++ v) ≡ m = length-append (take at o) v ∙ omega (arith, p .end) in
+    let t : take m o' ≡ take at o ++ v = ap (take m) (p .is) ∙ take-at (take at o ++ v) (drop (at + length v) o) m f in
+    let d : drop m o' ≡ drop (at + length v) o = ap (drop m) (p .is) ∙ drop-at (take at o ++ v) (drop (at + length v) o) m f in
+    let n : length (v ++ w) ≡ length v + length w = length-append v w in
+    let k : drop (m + length w) o' ≡ drop (at + length (v ++ w)) o =
+    sym (drop-drop (length w) m o')
+    ∙ ap (drop (length w)) d
+    ∙ drop-drop (length w) (at + length v) o
+    ∙ ap (λ (j : ℕ). drop j o) {x = at + length v + length w} {y = at + length (v ++ w)} (omega arith) in
+    record {
+      is =
+          q .is
+          ∙ ap (λ (x : Text). x ++ w ++ drop (m + length w) o') t
+          ∙ ap (λ (x : Text). take at o ++ v ++ w ++ x) k
+          ∙ ap (λ (x : Text). x ++ drop (at + length (v ++ w)) o) (append-assoc (take at o) v w);
+      end = omega (arith, p .end, q .end);
+    }
+
+-- ---------------------------------------------------------------- decimal
+
+decimal-last : (k n : ℕ) → n < 10 → 1 ≤ k → decimal k n ≡ (48 + n) ∷ []
+unfolding decimal if_then_else_
+decimal-last zero n h l = absurd (omega arith)
+decimal-last (suc k) n h l = rw (lt-ltb n 10 h) refl
+
+decimal-more : (k n : ℕ) → 10 ≤ n → decimal (suc k) n ≡ decimal k (n / 10) ++ ((48 + n % 10) ∷ [])
+unfolding decimal if_then_else_
+decimal-more k n h = rw (le-ltb n 10 h) refl
+
+pub decimal-one : (n : ℕ) → n < 10 → decimal (suc n) n ≡ (48 + n) ∷ []
+decimal-one n h = decimal-last (suc n) n h (omega arith)
+
+two-digits : (k n : ℕ) → 10 ≤ n → n < 100 → decimal (suc (suc k)) n ≡ (48 + n / 10) ∷ (48 + n % 10) ∷ []
+two-digits k n l h = decimal-more (suc k) n l ∙ ap (λ (t : Text). t ++ ((48 + n % 10) ∷ [])) (decimal-last (suc k) (n / 10) (omega arith) (omega arith))
+
+three-digits : (k n : ℕ) → 100 ≤ n → n < 1000 → decimal (suc (suc (suc k))) n ≡ (48 + n / 10 / 10) ∷ (48 + n / 10 % 10) ∷ (48 + n % 10) ∷ []
+three-digits k n l h =
+    decimal-more (suc (suc k)) n (omega arith) ∙ ap (λ (t : Text). t ++ ((48 + n % 10) ∷ [])) (two-digits k (n / 10) (omega arith) (omega arith))
+
+four-digits : (k n : ℕ) → 1000 ≤ n → n < 10000
+    → decimal (suc (suc (suc (suc k)))) n ≡ (48 + n / 10 / 10 / 10) ∷ (48 + n / 10 / 10 % 10) ∷ (48 + n / 10 % 10) ∷ (48 + n % 10) ∷ []
+four-digits k n l h =
+    decimal-more (suc (suc (suc k))) n (omega arith) ∙ ap (λ (t : Text). t ++ ((48 + n % 10) ∷ [])) (three-digits k (n / 10) (omega arith) (omega arith))
+
+module _ (n : ℕ) where
+  pub decimal-two : 10 ≤ n → n < 100 → decimal (suc n) n ≡ (48 + n / 10) ∷ (48 + n % 10) ∷ []
+  decimal-two l h = ap (λ (k : ℕ). decimal k n) {x = suc n} {y = suc (suc (n - 1))} (omega arith) ∙ two-digits (n - 1) n l h
+
+  pub decimal-three : 100 ≤ n → n < 1000 → decimal (suc n) n ≡ (48 + n / 10 / 10) ∷ (48 + n / 10 % 10) ∷ (48 + n % 10) ∷ []
+  decimal-three l h = ap (λ (k : ℕ). decimal k n) {x = suc n} {y = suc (suc (suc (n - 2)))} (omega arith) ∙ three-digits (n - 2) n l h
+
+  pub decimal-four : 1000 ≤ n → n < 10000
+      → decimal (suc n) n ≡ (48 + n / 10 / 10 / 10) ∷ (48 + n / 10 / 10 % 10) ∷ (48 + n / 10 % 10) ∷ (48 + n % 10) ∷ []
+  decimal-four l h = ap (λ (k : ℕ). decimal k n) {x = suc n} {y = suc (suc (suc (suc (n - 3))))} (omega arith) ∙ four-digits (n - 3) n l h
+
+-- ---------------------------------------------------------------- references
+
+base36-last : (k n : ℕ) → n < 36 → base36 k n ≡ digitOf n ∷ []
+unfolding base36 if_then_else_
+base36-last zero n h = refl
+base36-last (suc k) n h = rw (lt-ltb n 36 h) refl
+
+base36-more : (k n : ℕ) → 36 ≤ n → base36 (suc k) n ≡ base36 k (n / 36) ++ (digitOf (n % 36) ∷ [])
+unfolding base36 if_then_else_
+base36-more k n h = rw (le-ltb n 36 h) refl
+
+pub ref-none : (i : ℕ) → i ≡ 0 → refBytes i ≡ 83 ∷ 95 ∷ []
+unfolding refDigits
+ref-none zero e = refl
+ref-none (suc i) e = absurd (omega arith)
+
+ref-digits : (i : ℕ) → 0 < i → refDigits i ≡ base36 (i - 1) (i - 1)
+unfolding refDigits
+ref-digits zero h = absurd (omega arith)
+ref-digits (suc i) h = ap (λ (j : ℕ). base36 j j) {x = i} {y = suc i - 1} (omega arith)
+
+module _ (i : ℕ) (some : 0 < i) where
+  pub ref-one : i - 1 < 36 → refBytes i ≡ 83 ∷ digitOf (i - 1) ∷ 95 ∷ []
+  ref-one h = ap (λ (d : Text). 83 ∷ (d ++ (95 ∷ []))) (ref-digits i some ∙ base36-last (i - 1) (i - 1) h)
+
+  pub ref-two : 36 ≤ i - 1 → i < 1024 → refBytes i ≡ 83 ∷ digitOf ((i - 1) / 36) ∷ digitOf ((i - 1) % 36) ∷ 95 ∷ []
+  ref-two h l =
+      ap (λ (d : Text). 83 ∷ (d ++ (95 ∷ [])))
+      (ref-digits i some
+      ∙ ap (λ (k : ℕ). base36 k (i - 1)) {x = i - 1} {y = suc (i - 2)} (omega arith)
+      ∙ base36-more (i - 2) (i - 1) h
+      ∙ ap (λ (d : Text). d ++ (digitOf ((i - 1) % 36) ∷ [])) (base36-last (i - 2) ((i - 1) / 36) (omega arith)))
+
+-- ---------------------------------------------------------------- how long they are
+
+pub ref-short : (i : ℕ) → i < 1024 → length (refBytes i) ≤ most-reference
+ref-short i h = ⊎-elim
+    (λ (z : i ≡ 0). omega (arith, ap length (ref-none i z)))
+    (λ (z : 0 < i). ⊎-elim
+    (λ (l : i - 1 < 36). omega (arith, ap length (ref-one i z l)))
+    (λ (l : 36 ≤ i - 1). omega (arith, ap length (ref-two i z l h)))
+    (lt-or-le (i - 1) 36))
+    (eq-zero-or-pos i)
+
+pub name-short : (n : Text) → length n < 10000 → length (nameBytes n) ≤ length n + 4
+name-short n h = let e = length-append (lengthDigits n) n in ⊎-elim
+    (λ (l : length n < 10). omega (arith, ap length (decimal-one (length n) l)))
+    (λ (l : 10 ≤ length n). ⊎-elim
+    (λ (m : length n < 100). omega (arith, ap length (decimal-two (length n) l m)))
+    (λ (m : 100 ≤ length n). ⊎-elim
+    (λ (k : length n < 1000). omega (arith, ap length (decimal-three (length n) m k)))
+    (λ (k : 1000 ≤ length n). omega (arith, ap length (decimal-four (length n) k h)))
+    (lt-or-le (length n) 1000))
+    (lt-or-le (length n) 100))
+    (lt-or-le (length n) 10)
