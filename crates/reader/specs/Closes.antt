@@ -28,7 +28,7 @@ use Rattle.parser.specs.declared.state.Parser.{Parser}
 use Rattle.parser.specs.declared.state.Read.{Read}
 use Rattle.parser.specs.declared.state.Read.the-variants.{Refused}
 use Rattle.reader.specs.declared.lists.Kind.{Kind}
-use Rattle.reader.specs.declared.lists.Kind.the-variants.{Types, Arguments, Pack}
+use Rattle.reader.specs.declared.lists.Kind.the-variants.{Types, Arguments}
 use Rattle.reader.specs.declared.lists.Texts.{Texts}
 use Rattle.reader.specs.declared.lists.Texts.the-variants as items-as
 use Rattle.reader.specs.Lists.{Lists, listed, unlisted, refused-of, kept-by, ReadsItems}
@@ -65,9 +65,6 @@ refuses-list {k} {d} {s} {base} {from} {m} {r} {list} {j} e f = subst (λ (x : R
 
 pub up-types : (σ : State) → up-to-E (one-more (reading ⟨type⟩)) [] σ ≡ onto closed (looped Types [] σ)
 up-types σ = up-to-E-is (one-more (reading ⟨type⟩)) (λ x u. bind (reading-ends ⟨type⟩ u) λ t v h. agree.reads h) [] σ
-
-pub up-pack : (σ : State) → up-to-E (one-more (reading ⟨template-arg⟩)) [] σ ≡ onto closed (looped Pack [] σ)
-up-pack σ = up-to-E-is (one-more (reading ⟨template-arg⟩)) (λ x u. bind (reading-ends ⟨template-arg⟩ u) λ t v h. agree.reads h) [] σ
 
 pub up-arguments : (σ : State) → up-to-E (one-more argument) [] σ ≡ onto closed (looped Arguments [] σ)
 up-arguments σ =
@@ -113,12 +110,9 @@ module _ (s : Text) (at : ℕ) (σ : State) (e : σ .rest ≡ drop at s) where
   unfolding g.expression onto choose go-to
   arg-open h f = arg-skips h ∙ ap (λ (o : Option Text). choose {B = Reader Text} o (λ u. λ (v : State). onto (λ _. give (b "...")) (go-to u v)) (λ _. refused 4) (moved (drop (at + 1) s) σ)) f
 
-  pub arg-pack : starts (σ .rest) (74 ∷ []) ≡ true → reading ⟨template-arg⟩ σ ≡ onto (λ ts. give (join (b ", ") ts)) (onto closed (looped Pack [] (moved (drop (at + 1) s) σ)))
-  unfolding b g.pack
-  arg-pack h =
-      from-text (reading ⟨template-arg⟩) σ (starts-one (σ .rest) (code "J") h) (arg-J (drop 1 (σ .rest)) σ)
-      ∙ ap (g.pack reading) (behind-is s at σ e)
-      ∙ ap (onto (λ ts. give (join (b ", ") ts))) (up-pack (moved (drop (at + 1) s) σ))
+  pub arg-pack : starts (σ .rest) (74 ∷ []) ≡ true → reading ⟨template-arg⟩ σ ≡ g.pack reading (moved (drop (at + 1) s) σ)
+  unfolding b
+  arg-pack h = from-text (reading ⟨template-arg⟩) σ (starts-one (σ .rest) (code "J") h) (arg-J (drop 1 (σ .rest)) σ) ∙ ap (g.pack reading) (behind-is s at σ e)
 
 pub arg-other :
     (σ : State) → starts (σ .rest) (76 ∷ []) ≡ false → starts (σ .rest) (88 ∷ []) ≡ false → starts (σ .rest) (74 ∷ []) ≡ false →

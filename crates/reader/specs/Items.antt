@@ -23,10 +23,10 @@ use Rattle.parser.specs.declared.state.Peeked.the-variants as peeked-as
 use Rattle.parser.specs.declared.state.Read.{Read}
 use Rattle.parser.specs.declared.state.Read.the-variants.{Text as read, Refused}
 use Rattle.reader.specs.declared.lists.Kind.{Kind}
-use Rattle.reader.specs.declared.lists.Kind.the-variants.{Parameters, Types, Arguments, Pack}
+use Rattle.reader.specs.declared.lists.Kind.the-variants.{Parameters, Types, Arguments}
 use Rattle.reader.specs.declared.lists.Texts.{Texts}
 use Rattle.reader.specs.declared.lists.Texts.the-variants as items-as
-use Rattle.reader.specs.Lists.{goes-on, item-of, kept-by, stops-at, Lists, listed, unlisted, unlisted-of}
+use Rattle.reader.specs.Lists.{goes-on, item-of, kept-by, stops-at, Lists, listed, unlisted, unlisted-of, before-text}
 
 -- ---------------------------------------------------------------- the next byte
 
@@ -47,7 +47,6 @@ loop-is : (kind : Kind) (l : List Text) (σ : State) → looped kind l σ ≡ St
 loop-is Parameters l σ = items-loop ⟨type⟩ (goes-on Parameters) l σ
 loop-is Types l σ = items-loop ⟨type⟩ (goes-on Types) l σ
 loop-is Arguments l σ = args-loop (goes-on Arguments) l σ
-loop-is Pack l σ = items-loop ⟨template-arg⟩ (goes-on Pack) l σ
 
 module _ (kind : Kind) (l : List Text) (σ : State) where
   abbrev stepped : Bool → Result (List Text)
@@ -70,7 +69,6 @@ unfolding ended before-E same
 ends-on Parameters e = rw e
 ends-on Types e = rw e
 ends-on Arguments e = rw e
-ends-on Pack e = rw e
 
 pub one-byte : (c x : ℕ) (u : Text) → starts (c ∷ u) (x ∷ []) ≡ eqb c x
 unfolding starts
@@ -81,21 +79,15 @@ unfolding ended before-E same b
 on-byte Parameters c {t} {u} e f = rw e (ap not (one-byte c 46 u ∙ f))
 on-byte Types c {t} {u} e f = rw e (ap not (one-byte c 69 u ∙ f))
 on-byte Arguments c {t} {u} e f = rw e (ap not (one-byte c 69 u ∙ f))
-on-byte Pack c {t} {u} e f = rw e (ap not (one-byte c 69 u ∙ f))
 
 -- ---------------------------------------------------------------- texts with ", " between them
 
--- what stands before another text of a list that has so many
-abbrev pub comma : ℕ → Text
-comma zero = []
-comma (suc n) = b ", "
-
-comma-size : (n : ℕ) → length (comma n) ≡ 2 * min n 1
+comma-size : (n : ℕ) → length (before-text n) ≡ 2 * min n 1
 unfolding b
 comma-size zero = refl
 comma-size (suc n) = omega arith
 
-join-more : (ts : List Text) (t : Text) → join (b ", ") (ts ++ (t ∷ [])) ≡ (join (b ", ") ts ++ comma (length ts)) ++ t
+pub join-more : (ts : List Text) (t : Text) → join (b ", ") (ts ++ (t ∷ [])) ≡ (join (b ", ") ts ++ before-text (length ts)) ++ t
 unfolding join
 join-more [] t = refl
 join-more (x ∷ []) t = sym (append-assoc x (b ", ") t)
@@ -107,7 +99,6 @@ pub kept-bounds : (kind : Kind) (d : ℕ) → d ≤ 96 → (32768 ≤ kept-by ki
 kept-bounds Parameters d h = (omega arith, omega arith)
 kept-bounds Types d h = (omega arith, omega arith)
 kept-bounds Arguments d h = (omega arith, omega arith)
-kept-bounds Pack d h = (omega arith, omega arith)
 
 -- so many texts were read since the state σ₀, and stand above what stood there
 pub record Listed (kind : Kind) (s : Text) (m₀ : Memory) (p₀ : Parser) (m : Memory) (p : Parser) (n count : ℕ) (σ₀ : State) : Type 0 where
@@ -135,7 +126,7 @@ listed-start kind {s} {m} {p} {σ} h = record {
   same = refl;
 }
 
-refused-is : {k d : ℕ} {s base : Text} {from : ℕ} {m : Memory} {r : Read} {f : Result Text} {j : ℕ} → r ≡ Refused j → Refines k d s base from m r f → f ≡ refused j
+pub refused-is : {k d : ℕ} {s base : Text} {from : ℕ} {m : Memory} {r : Read} {f : Result Text} {j : ℕ} → r ≡ Refused j → Refines k d s base from m r f → f ≡ refused j
 refused-is {k} {d} {s} {base} {from} {m} {r} {f} {j} e h = told (subst (λ (x : Read). Refines k d s base from m x f) e h)
   where
     told : {f : Result Text} → Refines k d s base from m (Refused j) f → f ≡ refused j
@@ -165,7 +156,7 @@ module _ {kind : Kind} {s : Text} {m₀ : Memory} {p₀ : Parser} {m : Memory} {
 -- one text more, behind a comma if it is not the first
 pub listed-more :
     {kind : Kind} {s : Text} {m₀ : Memory} {p₀ : Parser} {text text' store ends : List ℕ} {m'' : Memory} {p q p'' : Parser} {n count x n' : ℕ} {σ₀ : State}
-    (l : Listed kind s m₀ p₀ (mem text store ends) p n count σ₀) → Puts text text' p q (comma count) → goes-on kind (l .state .rest) ≡ true →
+    (l : Listed kind s m₀ p₀ (mem text store ends) p n count σ₀) → Puts text text' p q (before-text count) → goes-on kind (l .state .rest) ≡ true →
     Got (kept-by kind (q .depth)) (q .depth) s (take (q .top) text') (q .at + 1) m'' p'' x (item-of kind (l .state)) →
     n' ≡ min (n + (2 * min count 1 + x)) 65536 → Listed kind s m₀ p₀ m'' p'' n' (count + 1) σ₀
 listed-more {kind} {s} {m₀} {p₀} {text} {text'} {store} {ends} {m''} {p} {q} {p''} {n} {count} {x} {n'} {σ₀} l u i h e =
@@ -173,20 +164,20 @@ listed-more {kind} {s} {m₀} {p₀} {text} {text'} {store} {ends} {m''} {p} {q}
     let w = h .wrote in
     let t : Text = h .said in
     let j : Text = join (b ", ") (l .texts) in
-    let a : Tail (kept-by kind (p₀ .depth)) (take (q .top) text') (window m₀ p₀ ++ (j ++ comma count)) =
+    let a : Tail (kept-by kind (p₀ .depth)) (take (q .top) text') (window m₀ p₀ ++ (j ++ before-text count)) =
     tail-puts u (window m₀ p₀) j (l .stands .holds) (l .stands .most) (l .stands .tail) in
     let v : Tail (kept-by kind (p₀ .depth)) (take (p'' .top) (m'' .text)) (take (q .top) text' ++ t) =
     subst (λ (z : ℕ). Tail (kept-by kind z) (take (p'' .top) (m'' .text)) (take (q .top) text' ++ t)) d (w .tail) in
-    let f : join (b ", ") (l .texts ++ (t ∷ [])) ≡ (j ++ comma count) ++ t =
-    join-more (l .texts) t ∙ ap (λ (z : ℕ). (j ++ comma z) ++ t) (sym (l .count-is)) in
-    let y : length ((j ++ comma count) ++ t) ≡ length j + length (comma count) + length t =
-    length-append (j ++ comma count) t ∙ ap (λ (z : ℕ). z + length t) (length-append j (comma count)) in
+    let f : join (b ", ") (l .texts ++ (t ∷ [])) ≡ (j ++ before-text count) ++ t =
+    join-more (l .texts) t ∙ ap (λ (z : ℕ). (j ++ before-text z) ++ t) (sym (l .count-is)) in
+    let y : length ((j ++ before-text count) ++ t) ≡ length j + length (before-text count) + length t =
+    length-append (j ++ before-text count) t ∙ ap (λ (z : ℕ). z + length t) (length-append j (before-text count)) in
     record {
       texts = l .texts ++ (t ∷ []);
       state = h .state;
       stands = record {
         holds = w .holds;
-        tail = rw f (both (window m₀ p₀) (j ++ comma count) t a v);
+        tail = rw f (both (window m₀ p₀) (j ++ before-text count) t a v);
         size = rw f (omega (arith, e, y, l .stands .size, w .size, comma-size count));
         level = w .level ∙ d;
         more = omega (arith, w .more, l .stands .more, ap (λ (z : Parser). z .at) (u .same));
@@ -201,29 +192,35 @@ listed-more {kind} {s} {m₀} {p₀} {text} {text'} {store} {ends} {m''} {p} {q}
 
 -- a comma was put behind n bytes, if there was a text before
 pub record Spaced (text text' : Text) (p p' : Parser) (n n' count : ℕ) : Type 0 where
-  pub puts : Puts text text' p p' (comma count)
+  pub puts : Puts text text' p p' (before-text count)
   pub size : n' ≡ min (n + 2 * min count 1) 65536
 
-comma-some : (n : ℕ) → 0 < n → comma n ≡ 44 ∷ 32 ∷ []
+comma-some : (n : ℕ) → 0 < n → before-text n ≡ 44 ∷ 32 ∷ []
 unfolding b
 comma-some zero h = absurd (omega arith)
 comma-some (suc n) h = refl
 
-comma-none : (n : ℕ) → n ≤ 0 → comma n ≡ []
+comma-none : (n : ℕ) → n ≤ 0 → before-text n ≡ []
 comma-none zero h = refl
 comma-none (suc n) h = absurd (omega arith)
+
+pub puts-comma : {text text' : Text} {p q : Parser} (n : ℕ) → 0 < n → Puts text text' p q (44 ∷ 32 ∷ []) → Puts text text' p q (before-text n)
+puts-comma n l u = rw (comma-some n l) u
+
+pub puts-no-comma : {text : Text} {p : Parser} (n : ℕ) → n ≤ 0 → Clean text (p .top) → Puts text text p p (before-text n)
+puts-no-comma {text} {p} n l c = rw (comma-none n l) (record { same = refl; put = record { lost = 0; most = omega arith; is = sym (append-nil (take (p .top) text)); clean = c } })
 
 pub spaced-some :
     {text text' text'' : Text} {p p' p'' : Parser} {n n' n'' count : ℕ} → 0 < count → Puts text text' p p' (44 ∷ 32 ∷ []) → n' ≡ min (n + 2) 65536 →
     text'' ≡ text' → p'' ≡ p' → n'' ≡ n' → Spaced text text'' p p'' n n'' count
-spaced-some {count = count} l u e f g h = rw (f, g, h) (record { puts = rw (comma-some count l) u; size = omega arith })
+spaced-some {count = count} l u e f g h = rw (f, g, h) (record { puts = puts-comma count l u; size = omega arith })
 
 pub spaced-none :
     {text text'' : Text} {p p'' : Parser} {n n'' count : ℕ} → count ≤ 0 → Clean text (p .top) → n ≤ 65536 →
     text'' ≡ text → p'' ≡ p → n'' ≡ n → Spaced text text'' p p'' n n'' count
 spaced-none {text} {p = p} {count = count} l c e f g h =
     rw (f, g, h) (record {
-      puts = rw (comma-none count l) (record { same = refl; put = record { lost = 0; most = omega arith; is = sym (append-nil (take (p .top) text)); clean = c } });
+      puts = puts-no-comma count l c;
       size = omega arith;
     })
 

@@ -14,3 +14,4 @@ pub mod LocFns
 pub mod Funcs
 pub mod Structors
 pub mod Nested
+pub mod Packs

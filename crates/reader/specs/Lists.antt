@@ -1,11 +1,11 @@
 -- Lists of texts, and the parts of a nested name, as the cycle keeps them.
-use mathlib.Core.Bool.{Bool, true, false, not}
+use mathlib.Core.Bool.{Bool, true, false, not, _&&_}
 use mathlib.Core.List.{List, [], _∷_, _++_}
 use mathlib.Core.Option.{Option, none, some}
 use mathlib.Core.Path.{_≡_}
 use Prim.Native.Nat.{ℕ, zero, suc, _+_, _*_, _≤_, _<_, min}
 use Prim.Native.Char.{code}
-use lib.Dec.{eqb}
+use lib.Dec.{eqb, ltb}
 use lib.ListN.{length, drop}
 use Rattle.grammar.specs.Text.{Text, b, choose, join, if_then_else_}
 use Rattle.grammar.specs.Reader.{State, Result, ok, refused, Reader, while, one-more}
@@ -17,7 +17,7 @@ use Rattle.parser.specs.declared.state.Parser.{Parser}
 use Rattle.parser.specs.declared.state.Read.{Read}
 use Rattle.parser.specs.declared.state.Read.the-variants.{Text as read, Refused}
 use Rattle.reader.specs.declared.lists.Kind.{Kind}
-use Rattle.reader.specs.declared.lists.Kind.the-variants.{Parameters, Types, Arguments, Pack}
+use Rattle.reader.specs.declared.lists.Kind.the-variants.{Parameters, Types, Arguments}
 use Rattle.reader.specs.declared.lists.Texts.{Texts}
 use Rattle.reader.specs.declared.lists.Texts.the-variants as items-as
 use Rattle.reader.specs.declared.lists.Parts.{Parts}
@@ -29,19 +29,16 @@ abbrev pub goes-on : Kind → Text → Bool
 goes-on Parameters t = not (ended t)
 goes-on Types t = before-E t
 goes-on Arguments t = before-E t
-goes-on Pack t = before-E t
 
 abbrev pub item-of : Kind → Reader Text
 item-of Parameters = reading ⟨type⟩
 item-of Types = reading ⟨type⟩
 item-of Arguments = argument
-item-of Pack = reading ⟨template-arg⟩
 
 abbrev pub kept-by : Kind → ℕ → ℕ
 kept-by Parameters d = keep (d + 1)
 kept-by Types d = keep (d + 1)
 kept-by Arguments d = keep d
-kept-by Pack d = keep d
 
 -- the code's list is the grammar's: its texts stand on the stack with ", " between them
 pub data Lists (k d : ℕ) (s base : Text) (from : ℕ) (m : Memory) : Texts → Result (List Text) → Type 0 where
@@ -98,10 +95,23 @@ abbrev pub stops-at : Kind → ℕ → Bool
 stops-at Parameters c = eqb c 46
 stops-at Types c = eqb c 69
 stops-at Arguments c = eqb c 69
-stops-at Pack c = eqb c 69
 
 abbrev pub ReadsItem : Kind → Text → Memory → Memory → Parser → Read → Type 0
 ReadsItem kind s m m' p r = Reads (item-of kind) (kept-by kind (p .depth)) (p .at + 1) s m m' p r
+
+-- what stands before another text, where those so far have so many bytes with two more for each
+abbrev pub before-text : ℕ → Text
+before-text zero = []
+before-text (suc n) = b ", "
+
+-- at an E: the outermost pack ends, or one that is too long
+abbrev pub ends-pack : ℕ → ℕ → Bool
+ends-pack zero n = true
+ends-pack (suc level) n = ltb 16386 n
+
+-- one of the packs that are read in one loop opens
+abbrev pub opens-pack : ℕ → ℕ → Bool
+opens-pack level c = eqb c 74 && ltb level 64
 
 -- what stands before another part
 abbrev pub before-part : ℕ → Text

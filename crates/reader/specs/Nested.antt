@@ -153,7 +153,7 @@ module _ {s : Text} {m₀ : Memory} {p₀ : Parser} {m : Memory} {p : Parser} {q
 
 -- ---------------------------------------------------------------- the E
 
-long-text : (t : Text) (σ : State) → 16384 < length t → give t σ ≡ refused 11
+pub long-text : (t : Text) (σ : State) → 16384 < length t → give t σ ≡ refused 11
 unfolding give if_then_else_
 long-text t σ l = rw (lt-leb (length t) 16384 l)
 

@@ -46,6 +46,7 @@ ghost use Rattle.grammar.specs.Grammar.{
   local-encoding,
   prefix,
   prefix-args,
+  pack,
 };
 ghost use Rattle.parser.specs.Holds.{mem, Ready, Reads, keep};
 ghost use Rattle.reader.specs.Cycle.{ReadsWrapped, ReadsInstance, ReadsTypeInstance};
@@ -300,7 +301,6 @@ fn item(
 {
     match kind {
         Kind::Parameters | Kind::Types => ty(s, text, store, ends, p),
-        Kind::Pack => arg(s, text, store, ends, p),
         Kind::Arguments => {
             let got = arg(s, text, store, ends, p);
             let Read::Text(next, n) = got else {
@@ -361,17 +361,51 @@ pub fn arg(s: &[u8], text: &mut [u8], store: &mut [u8], ends: &mut [u16], p: Par
         return Read::Text(memory::put(text, p.moved(end), b"..."), 3);
     }
     if names::here(s, at, b'J') {
-        let list = items(s, text, store, ends, p.moved(at + 1), Kind::Pack);
-        let Texts::Listed(last, n, _) = list else {
-            return lists::refused(list);
-        };
-        let end = last.at;
-        if !names::here(s, end, b'E') {
-            return Read::Refused(4);
-        }
-        return memory::given(last.moved(end + 1), n);
+        return pack(s, text, store, ends, p.moved(at + 1));
     }
     ty(s, text, store, ends, p)
+}
+
+// J <template-arg>* E, behind J. Packs inside one another are read in one loop, up to 64 in the outermost: `outer` has, for
+// each that is open around the innermost, what n has for that: the bytes of its texts so far, with two more for each text.
+fn pack(s: &[u8], text: &mut [u8], store: &mut [u8], ends: &mut [u16], p: Parser) -> Read
+    requires { ⌜ Ready (now s) (mem (now text) (now store) (now ends)) p ⌝ }
+    ensures { λ r. ⌜ Reads (pack reading) (keep (p .depth)) (p .at + 1) (now (s .entry))
+        (mem (now (text .entry)) (now (store .entry)) (now (ends .entry))) (mem (now (text .exit)) (now (store .exit)) (now (ends .exit))) p r ⌝ }
+{
+    let mut next = p;
+    let mut outer = [0usize; 64];
+    let mut level: usize = 0;
+    let mut n: usize = 0;
+    loop {
+        let Peeked::Byte(c) = next.peek(s) else {
+            return Read::Refused(4);
+        };
+        let at = next.at;
+        if c == b'E' {
+            next = next.moved(at + 1);
+            if lists::pack_ends(level, n) {
+                return memory::given(next, lists::joined_size(n));
+            }
+            level -= 1;
+            n = memory::sum(outer[level], lists::joined_size(n) + 2);
+            continue;
+        }
+        next = lists::comma(text, next, n);
+        if lists::pack_opens(level, c) {
+            outer[level] = n;
+            level += 1;
+            n = 0;
+            next = next.moved(at + 1);
+            continue;
+        }
+        let got = arg(s, text, store, ends, next);
+        let Read::Text(after, m) = got else {
+            return got;
+        };
+        next = after;
+        n = memory::sum(n, m + 2);
+    }
 }
 
 // <expr-primary> ::= L <type> <value number> E | L _ <name> E

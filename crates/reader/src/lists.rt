@@ -12,7 +12,7 @@ ghost use Rattle.store.specs.Stack.{Clean};
 ghost use Rattle.parser.specs.Holds.{mem, Ready, Puts};
 ghost use Rattle.reader.specs.Funcs.{FuncEnd};
 ghost use Rattle.reader.specs.Structors.{tilde-of};
-ghost use Rattle.reader.specs.Lists.{refused-of, unlisted-of, unprefixed-of, unread-of, stops-at, Separates, longer-of, CtorDtor};
+ghost use Rattle.reader.specs.Lists.{refused-of, unlisted-of, unprefixed-of, unread-of, stops-at, Separates, longer-of, before-text, ends-pack, opens-pack, CtorDtor};
 
 // What a list is made of, and where it stops.
 pub enum Kind {
@@ -22,8 +22,6 @@ pub enum Kind {
     Types,
     // template arguments, each of which is pushed, up to an E or the end
     Arguments,
-    // the arguments of a pack, up to an E or the end
-    Pack,
 }
 
 // The texts of a list, with ", " between them: so many bytes and so many texts.
@@ -59,7 +57,7 @@ pub fn stops(kind: Kind, c: u8) -> bool
 {
     match kind {
         Kind::Parameters => c == b'.',
-        Kind::Types | Kind::Arguments | Kind::Pack => c == b'E',
+        Kind::Types | Kind::Arguments => c == b'E',
     }
 }
 
@@ -130,6 +128,44 @@ pub fn longer(parts: Parts, m: usize) -> Parts
         count: 1,
         structor,
     }
+}
+
+// ", " behind the texts so far, if there are any: n is their bytes, with two more for each of them.
+pub fn comma(text: &mut [u8], p: Parser, n: usize) -> Parser
+    requires { ⌜ Clean (now text) (p .top) ⌝ }
+    ensures { λ r. ⌜ Puts (now (text .entry)) (now (text .exit)) p r (before-text n) ⌝ }
+{
+    if n == 0 {
+        return p;
+    }
+    memory::put(text, p, b", ")
+}
+
+// The bytes of such texts with ", " between them.
+pub fn joined_size(n: usize) -> usize
+    ensures { λ r. ⌜ r ≡ n - 2 ⌝ }
+{
+    if n < 2 { 0 } else { n - 2 }
+}
+
+// At an E: whether it ends the outermost pack, or a pack that is too long.
+pub fn pack_ends(level: usize, n: usize) -> bool
+    ensures { λ r. ⌜ r ≡ ends-pack level n ⌝ }
+{
+    if level == 0 {
+        return true;
+    }
+    Parser::TEXT + 2 < n
+}
+
+// Whether c opens one of the 64 packs that are read in one loop.
+pub fn pack_opens(level: usize, c: u8) -> bool
+    ensures { λ r. ⌜ r ≡ opens-pack level c ⌝ }
+{
+    if c != b'J' {
+        return false;
+    }
+    level < 64
 }
 
 // ~ for a destructor, at D.

@@ -1,0 +1,98 @@
+-- The answers of `array`. Assumes nothing.
+use Prim.Native.Nat.{ℕ}
+use mathlib.Core.Path.{_∙_}
+use Rattle.parser.specs.Holds.{refuses}
+use Rattle.parser.specs.Laws.{by, got, refused-on}
+use Rattle.parser.specs.Adds.{ready-moved}
+use Rattle.reader.specs.Opens.{at-of, on-got, stands-at, type-at}
+use Rattle.reader.specs.Arrays.{array-4, array-in, array-given, part-size}
+use borrow.Author.Needs.{needs}
+use native.Mathlib.Omega.{arith}
+use Rattle.reader.proofs.cycle.array.Reads as array
+use Rattle.reader.proofs.cycle.+arg+args+array+class+func+inst_n+inst_t+item+items+lit+loc_fn+local+memb+name+nest_ty+nested+nm_in+oper+pack+part+plain+px+px_arg+px_new+s_nm+s_ty+std+ty+ty_in+unq+wrap.Lts-array as lts
+use Rattle.reader.proofs.cycle.+arg+args+array+class+func+inst_n+inst_t+item+items+lit+loc_fn+local+memb+name+nest_ty+nested+nm_in+oper+pack+part+plain+px+px_arg+px_new+s_nm+s_ty+std+ty+ty_in+unq+wrap.Proof.Cycle.{array-at, array-calls}
+
+pub before-requires : (t : ℕ) → lts.Need-before-requires (array-calls t) (array-at t) array.Post
+before-requires t c κs = search needs
+
+pub returns : (t : ℕ) → lts.Need-returns (array-calls t) (array-at t) array.Post
+returns t c = λ σ h. by (array-4 _ _ σ (h .rest) (c .before .before2 .ensures .0) (c .if1 .taken)) refuses
+
+pub add-moved : (t : ℕ) → lts.Need-add-moved (array-calls t) (array-at t) array.Post
+add-moved t c = search needs
+
+pub moved-requires : (t : ℕ) → lts.Need-moved-requires (array-calls t) (array-at t) array.Post
+moved-requires t c κs = search needs
+
+pub ty-requires : (t : ℕ) → lts.Need-ty-requires (array-calls t) (array-at t) array.Post
+ty-requires t c κs = (omega (arith, at-of (c .moved .ensures), c .before .before .before .before .before .before .before .before .before .before .pre .0, c .before .before .before .before .if1 .left, c .before .before .before .before .before .before2 .ensures .0), ready-moved _ (c .moved .ensures) (c .before .before .before .before .before .before .before .before .before .before .pre .1 .1) (omega (arith, c .before .before .before .before .if1 .left)))
+
+pub enum-known-got : (t : ℕ) → lts.Need-enum-known-got (array-calls t) (array-at t) array.Post
+enum-known-got t c = search needs
+
+pub enum-told : (t : ℕ) → lts.Need-enum-told (array-calls t) (array-at t) array.Post
+enum-told t c = search needs
+
+pub same-length : (t : ℕ) → lts.Need-same-length (array-calls t) (array-at t) array.Post
+same-length t c = search needs
+
+pub same-length-2 : (t : ℕ) → lts.Need-same-length-2 (array-calls t) (array-at t) array.Post
+same-length-2 t c = search needs
+
+pub same-length-3 : (t : ℕ) → lts.Need-same-length-3 (array-calls t) (array-at t) array.Post
+same-length-3 t c = search needs
+
+pub returns-2 : (t : ℕ) → lts.Need-returns-2 (array-calls t) (array-at t) array.Post
+returns-2 t c = λ σ h. by (array-in _ _ σ (h .rest) (c .before .before .before .before .before .before .before .before .before .before .before .before .before .before .before2 .ensures .0) (c .before .before .before .before .before .before .before .before .before .before .before .before .before .if1 .left)) (refused-on _ (c .enum-told .given .1) (type-at (c .before .before .before .before .before .before .before .before .before .moved .ensures) (c .before .before .before .before .before .before .before .before .ty .ensures) h (omega (arith, c .before .before .before .before .before .before .before .before .before .before .before .before .before .if1 .left))))
+
+pub slice-aggregate-put : (t : ℕ) → lts.Need-slice-aggregate-put (array-calls t) (array-at t) array.Post
+slice-aggregate-put t c = search needs
+
+pub put-requires : (t : ℕ) → lts.Need-put-requires (array-calls t) (array-at t) array.Post
+put-requires t c κs =
+    let h = c .before .before .before .before .before .before .before .before .before .before .before .before .before .before .before .before .before .before .before .before .before .before .pre .1 .1 in
+    let w = got (c .before .before .before .got .given .1) (type-at (c .before .before .before .before .before .before .before .before .before .before .before .before .moved .ensures) (c .before .before .before .before .before .before .before .before .before .before .before .ty .ensures) h (omega (arith, c .before .before .before .before .before .before .before .before .before .before .before .before .before .before .before .before .if1 .left))) in
+    (w .wrote .holds .text, omega arith)
+
+pub put-part-requires : (t : ℕ) → lts.Need-put-part-requires (array-calls t) (array-at t) array.Post
+put-part-requires t c κs = (c .before .before .before .put .ensures .put .clean, (omega (arith, c .before .before .before .before .before .before .before .before .before .before .before .before .before .before .before .before .before .before .before .before .before .before2 .ensures .0), (omega (arith, c .before .before .before .before .before .before .before .before .before .before .before .before .before .before .before .before .before .before .before .before .if1 .left), omega (arith, c .before .before .before .before .before .before .before .before .before .before .before .before .before .before .before .before .before .before .before .before .if1 .left, c .before .before .before .before .before .before .before .before .before .before .before .before .before .before .before .before .before .before .before .before .before .before .before .before .before .before .pre .1 .1 .source))))
+
+pub slice-aggregate-put-2 : (t : ℕ) → lts.Need-slice-aggregate-put-2 (array-calls t) (array-at t) array.Post
+slice-aggregate-put-2 t c = search needs
+
+pub put-requires-2 : (t : ℕ) → lts.Need-put-requires-2 (array-calls t) (array-at t) array.Post
+put-requires-2 t c κs = search needs
+
+pub add-given : (t : ℕ) → lts.Need-add-given (array-calls t) (array-at t) array.Post
+add-given t c =
+    let h = c .before .before .before .before .before .before .before .before .before .before .before .before .before .before .before .before .before .before .before .before .before .before .before .before .before .before .before .before .before .before .before .before .before .before .pre .1 .1 in
+    let w = got (c .before .before .before .before .before .before .before .before .before .before .before .before .before .before .before .got .given .1) (type-at (c .before .before .before .before .before .before .before .before .before .before .before .before .before .before .before .before .before .before .before .before .before .before .before .before .moved .ensures) (c .before .before .before .before .before .before .before .before .before .before .before .before .before .before .before .before .before .before .before .before .before .before .before .ty .ensures) h (omega (arith, c .before .before .before .before .before .before .before .before .before .before .before .before .before .before .before .before .before .before .before .before .before .before .before .before .before .before .before .before .if1 .left))) in
+    omega (arith, w .wrote .size, w .wrote .short)
+
+pub sub-given : (t : ℕ) → lts.Need-sub-given (array-calls t) (array-at t) array.Post
+sub-given t c = omega (arith, c .before .before .before .before .before .before .before .before .before .before .before .before .before .before .before .before .before .before .before .before .before .before .before .before .before .before .before .before .before .before2 .ensures .0)
+
+pub add-given-2 : (t : ℕ) → lts.Need-add-given-2 (array-calls t) (array-at t) array.Post
+add-given-2 t c =
+    let h = c .before .before .before .before .before .before .before .before .before .before .before .before .before .before .before .before .before .before .before .before .before .before .before .before .before .before .before .before .before .before .before .before .before .before .pre .1 .1 in
+    let w = got (c .before .before .before .before .before .before .before .before .before .before .before .before .before .before .before .got .given .1) (type-at (c .before .before .before .before .before .before .before .before .before .before .before .before .before .before .before .before .before .before .before .before .before .before .before .before .moved .ensures) (c .before .before .before .before .before .before .before .before .before .before .before .before .before .before .before .before .before .before .before .before .before .before .before .ty .ensures) h (omega (arith, c .before .before .before .before .before .before .before .before .before .before .before .before .before .before .before .before .before .before .before .before .before .before .before .before .before .before .before .before .if1 .left))) in
+    omega (arith, w .wrote .size, w .wrote .short, c .before .before .before .before .before .before .before .before .before .before .before .before .before .before .before .before .before .before .before .before .before .before .before .before .before .before .before .before .if1 .left, h .source)
+
+pub given-requires : (t : ℕ) → lts.Need-given-requires (array-calls t) (array-at t) array.Post
+given-requires t c κs = search needs
+
+pub same-length-4 : (t : ℕ) → lts.Need-same-length-4 (array-calls t) (array-at t) array.Post
+same-length-4 t c = omega (arith, c .before .before .before .put2 .kept, c .before .before .before .before .before .before .before .before .put-part .kept, c .before .before .before .before .before .before .before .before .before .before .before .before .put .kept, c .before .before .before .before .before .before .before .before .before .before .before .before .before .before .before .before .before .before .before .before .before .before .before .before .ty .kept)
+
+pub same-length-5 : (t : ℕ) → lts.Need-same-length-5 (array-calls t) (array-at t) array.Post
+same-length-5 t c = omega (arith, c .before .before .before .put2 .kept, c .before .before .before .before .before .before .before .before .put-part .kept, c .before .before .before .before .before .before .before .before .before .before .before .before .put .kept, c .before .before .before .before .before .before .before .before .before .before .before .before .before .before .before .before .before .before .before .before .before .before .before .before .ty .kept)
+
+pub same-length-6 : (t : ℕ) → lts.Need-same-length-6 (array-calls t) (array-at t) array.Post
+same-length-6 t c = omega (arith, c .before .before .before .put2 .kept, c .before .before .before .before .before .before .before .before .put-part .kept, c .before .before .before .before .before .before .before .before .before .before .before .before .put .kept, c .before .before .before .before .before .before .before .before .before .before .before .before .before .before .before .before .before .before .before .before .before .before .before .before .ty .kept)
+
+pub returns-3 : (t : ℕ) → lts.Need-returns-3 (array-calls t) (array-at t) array.Post
+returns-3 t c = λ σ h.
+    let w = got (c .before .before .before .before .before .before .before .before .before .before .before .before .before .before .before .before .got .given .1) (type-at (c .before .before .before .before .before .before .before .before .before .before .before .before .before .before .before .before .before .before .before .before .before .before .before .before .before .moved .ensures) (c .before .before .before .before .before .before .before .before .before .before .before .before .before .before .before .before .before .before .before .before .before .before .before .before .ty .ensures) h (omega (arith, c .before .before .before .before .before .before .before .before .before .before .before .before .before .before .before .before .before .before .before .before .before .before .before .before .before .before .before .before .before .if1 .left))) in
+    let l = part-size h _ (c .before .before .before .before .before .before .before .before .before .before .before .before .before .before .before .before .before .before .before .before .before .before .before .before .before .before .before .before .before .before .before2 .ensures .1) in
+    by (array-in _ _ σ (h .rest) (c .before .before .before .before .before .before .before .before .before .before .before .before .before .before .before .before .before .before .before .before .before .before .before .before .before .before .before .before .before .before .before2 .ensures .0) (c .before .before .before .before .before .before .before .before .before .before .before .before .before .before .before .before .before .before .before .before .before .before .before .before .before .before .before .before .before .if1 .left) ∙ on-got _ w)
+    (array-given _ (stands-at _ _ (w .wrote) (omega arith) (omega (arith, c .before .before .before .before .before .before .before .before .before .before .before .before .before .before .before .before .before .before .before .before .before .before .before .before .before .before .before .before .before .before .before2 .ensures .0)) (omega arith) (omega (arith, h .deep))) (w .wrote .short) (omega (arith, l, c .before .before .before .before .before .before .before .before .before .before .before .before .before .before .before .before .before .before .before .before .before .before .before .before .before .before .before .before .before .if1 .left, h .source)) (c .before .before .before .before .before .before .before .before .before .before .before .before .put .ensures) (c .before .before .before .before .before .before .before .before .put-part .ensures) (c .before .before .before .put2 .ensures) (omega (arith, l)) (c .given .ensures))

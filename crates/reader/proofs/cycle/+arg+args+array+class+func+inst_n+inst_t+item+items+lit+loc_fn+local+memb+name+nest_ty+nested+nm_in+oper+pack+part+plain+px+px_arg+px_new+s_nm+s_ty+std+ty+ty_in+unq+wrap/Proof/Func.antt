@@ -1,0 +1,125 @@
+-- The answers of `reader::cycle::func`.
+-- Assumes nothing.
+use mathlib.Core.Path.{_≡_, refl, sym, ap, _∙_}
+use Prim.Native.Nat.{ℕ}
+use borrow.Author.Needs.{needs}
+use borrow.Author.Tests.{not-true, not-false}
+use native.Mathlib.Omega.{arith}
+use Rattle.grammar.specs.Reader.{recorded}
+use Rattle.parser.specs.declared.state.Parser.{Parser}
+use Rattle.parser.specs.Holds.{refuses}
+use Rattle.parser.specs.Laws.{by, got, refused-on, holds-puts}
+use Rattle.parser.specs.Runs.{starts-inside}
+use Rattle.reader.specs.Closes.{got-list, list-refused, refuses-list, closed-refused, closed-no, closed-yes, ahead-is, behind-is, then-refused, then-ok, stands-moved}
+use Rattle.reader.specs.Funcs.{function-open, function-of, func-stands, func-ended, stands-least}
+use Rattle.reader.proofs.cycle.func.Reads as func
+use Rattle.reader.proofs.cycle.+arg+args+array+class+func+inst_n+inst_t+item+items+lit+loc_fn+local+memb+name+nest_ty+nested+nm_in+oper+pack+part+plain+px+px_arg+px_new+s_nm+s_ty+std+ty+ty_in+unq+wrap.Lts-func as lts
+use Rattle.reader.proofs.cycle.+arg+args+array+class+func+inst_n+inst_t+item+items+lit+loc_fn+local+memb+name+nest_ty+nested+nm_in+oper+pack+part+plain+px+px_arg+px_new+s_nm+s_ty+std+ty+ty_in+unq+wrap.Proof.Cycle.{func-at, func-calls}
+
+pub ty-requires : (t : ℕ) → lts.Need-ty-requires (func-calls t) (func-at t) func.Post
+ty-requires t c κs = (omega (arith, c .before .before .before .before .before .before .before .pre .0), c .before .before .before .before .before .before .before .pre .1)
+
+pub enum-known-got : (t : ℕ) → lts.Need-enum-known-got (func-calls t) (func-at t) func.Post
+enum-known-got t c = search needs
+
+pub enum-told : (t : ℕ) → lts.Need-enum-told (func-calls t) (func-at t) func.Post
+enum-told t c = search needs
+
+pub same-length : (t : ℕ) → lts.Need-same-length (func-calls t) (func-at t) func.Post
+same-length t c = search needs
+
+pub same-length-2 : (t : ℕ) → lts.Need-same-length-2 (func-calls t) (func-at t) func.Post
+same-length-2 t c = search needs
+
+pub same-length-3 : (t : ℕ) → lts.Need-same-length-3 (func-calls t) (func-at t) func.Post
+same-length-3 t c = search needs
+
+pub returns : (t : ℕ) → lts.Need-returns (func-calls t) (func-at t) func.Post
+returns t c = λ σ h. by (function-open σ) (refused-on _ (c .enum-told .given .1) (c .before .before .before .before .before .before .before .before .ty .ensures σ h))
+
+pub slice-aggregate-put : (t : ℕ) → lts.Need-slice-aggregate-put (func-calls t) (func-at t) func.Post
+slice-aggregate-put t c = search needs
+
+pub put-requires : (t : ℕ) → lts.Need-put-requires (func-calls t) (func-at t) func.Post
+put-requires t c κs = ((got (c .before .before .before .got .given .1) (c .before .before .before .before .before .before .before .before .before .before .before .ty .ensures _ (c .before .before .before .before .before .before .before .before .before .before .before .before .before .before .before .before .before .before .before .pre .1 .1))) .wrote .holds .text, omega arith)
+
+pub items-requires : (t : ℕ) → lts.Need-items-requires (func-calls t) (func-at t) func.Post
+items-requires t c κs =
+    let g = got (c .before .before .before .before .before .before .before .before .before .got .given .1) (c .before .before .before .before .before .before .before .before .before .before .before .before .before .before .before .before .before .ty .ensures _ (c .before .before .before .before .before .before .before .before .before .before .before .before .before .before .before .before .before .before .before .before .before .before .before .before .before .pre .1 .1)) in
+    (omega (arith, c .before .before .before .before .before .before .before .before .before .before .before .before .before .before .before .before .before .before .before .before .before .before .before .before .before .pre .0, g .wrote .more, ap (λ (z : Parser). z .at) (c .before .before .before .before .before .put .ensures .same)), (_, holds-puts (c .before .before .before .before .before .put .ensures) (g .wrote .holds)))
+
+pub enum-known-list : (t : ℕ) → lts.Need-enum-known-list (func-calls t) (func-at t) func.Post
+enum-known-list t c = search needs
+
+pub enum-told-2 : (t : ℕ) → lts.Need-enum-told-2 (func-calls t) (func-at t) func.Post
+enum-told-2 t c = search needs
+
+pub refused-requires : (t : ℕ) → lts.Need-refused-requires (func-calls t) (func-at t) func.Post
+refused-requires t c κs = search needs
+
+pub same-length-4 : (t : ℕ) → lts.Need-same-length-4 (func-calls t) (func-at t) func.Post
+same-length-4 t c = omega (arith, c .before .before .before .before .before .before .before .before .before .items .kept, c .before .before .before .before .before .before .before .before .before .before .before .before .before .before .before .put .kept, c .before .before .before .before .before .before .before .before .before .before .before .before .before .before .before .before .before .before .before .before .before .before .before .before .before .before .before .ty .kept)
+
+pub same-length-5 : (t : ℕ) → lts.Need-same-length-5 (func-calls t) (func-at t) func.Post
+same-length-5 t c = omega (arith, c .before .before .before .before .before .before .before .before .before .items .kept, c .before .before .before .before .before .before .before .before .before .before .before .before .before .before .before .put .kept, c .before .before .before .before .before .before .before .before .before .before .before .before .before .before .before .before .before .before .before .before .before .before .before .before .before .before .before .ty .kept)
+
+pub same-length-6 : (t : ℕ) → lts.Need-same-length-6 (func-calls t) (func-at t) func.Post
+same-length-6 t c = omega (arith, c .before .before .before .before .before .before .before .before .before .items .kept, c .before .before .before .before .before .before .before .before .before .before .before .before .before .before .before .put .kept, c .before .before .before .before .before .before .before .before .before .before .before .before .before .before .before .before .before .before .before .before .before .before .before .before .before .before .before .ty .kept)
+
+pub returns-2 : (t : ℕ) → lts.Need-returns-2 (func-calls t) (func-at t) func.Post
+returns-2 t c = λ σ h.
+    let g = got (c .before .before .before .before .before .before .before .before .before .before .before .before .before .before .before .before .before .before .before .got .given .1) (c .before .before .before .before .before .before .before .before .before .before .before .before .before .before .before .before .before .before .before .before .before .before .before .before .before .before .before .ty .ensures _ h) in
+    by (function-of σ (g .is) ∙ then-refused _ (closed-refused (list-refused (c .before .enum-told2 .given .1) (c .before .before .before .before .before .before .before .before .before .items .ensures _ (holds-puts (c .before .before .before .before .before .before .before .before .before .before .before .before .before .before .before .put .ensures) (g .wrote .holds))))))
+    (refuses-list (c .before .enum-told2 .given .1) (c .refused .ensures))
+
+pub here-requires : (t : ℕ) → lts.Need-here-requires (func-calls t) (func-at t) func.Post
+here-requires t c κs = search needs
+
+pub same-length-7 : (t : ℕ) → lts.Need-same-length-7 (func-calls t) (func-at t) func.Post
+same-length-7 t c = omega (arith, c .before .before .before .before .before .before .before .before .before .before .before .items .kept, c .before .before .before .before .before .before .before .before .before .before .before .before .before .before .before .before .before .put .kept, c .before .before .before .before .before .before .before .before .before .before .before .before .before .before .before .before .before .before .before .before .before .before .before .before .before .before .before .before .before .ty .kept)
+
+pub same-length-8 : (t : ℕ) → lts.Need-same-length-8 (func-calls t) (func-at t) func.Post
+same-length-8 t c = omega (arith, c .before .before .before .before .before .before .before .before .before .before .before .items .kept, c .before .before .before .before .before .before .before .before .before .before .before .before .before .before .before .before .before .put .kept, c .before .before .before .before .before .before .before .before .before .before .before .before .before .before .before .before .before .before .before .before .before .before .before .before .before .before .before .before .before .ty .kept)
+
+pub same-length-9 : (t : ℕ) → lts.Need-same-length-9 (func-calls t) (func-at t) func.Post
+same-length-9 t c = omega (arith, c .before .before .before .before .before .before .before .before .before .before .before .items .kept, c .before .before .before .before .before .before .before .before .before .before .before .before .before .before .before .before .before .put .kept, c .before .before .before .before .before .before .before .before .before .before .before .before .before .before .before .before .before .before .before .before .before .before .before .before .before .before .before .before .before .ty .kept)
+
+pub returns-3 : (t : ℕ) → lts.Need-returns-3 (func-calls t) (func-at t) func.Post
+returns-3 t c = λ σ h.
+    let g = got (c .before .before .before .before .before .before .before .before .before .before .before .before .before .before .before .before .before .before .before .before .before .got .given .1) (c .before .before .before .before .before .before .before .before .before .before .before .before .before .before .before .before .before .before .before .before .before .before .before .before .before .before .before .before .before .ty .ensures _ h) in
+    let w = got-list (c .before .before .before .list .given .1) (c .before .before .before .before .before .before .before .before .before .before .before .items .ensures _ (holds-puts (c .before .before .before .before .before .before .before .before .before .before .before .before .before .before .before .before .before .put .ensures) (g .wrote .holds))) in
+    by (function-of σ (g .is) ∙ then-refused _ (closed-no (w .is) (ahead-is _ _ _ (w .stands .holds .rest) (c .before .here .ensures) (not-true _ (c .if1 .taken))))) refuses
+
+pub add-moved : (t : ℕ) → lts.Need-add-moved (func-calls t) (func-at t) func.Post
+add-moved t c =
+    let g = got (c .before .before .before .before .before .before .before .before .before .before .before .before .before .before .before .before .before .before .before .before .before .got .given .1) (c .before .before .before .before .before .before .before .before .before .before .before .before .before .before .before .before .before .before .before .before .before .before .before .before .before .before .before .before .before .ty .ensures _ (c .before .before .before .before .before .before .before .before .before .before .before .before .before .before .before .before .before .before .before .before .before .before .before .before .before .before .before .before .before .before .before .before .before .before .before .before .before .pre .1 .1)) in
+    let w = got-list (c .before .before .before .list .given .1) (c .before .before .before .before .before .before .before .before .before .before .before .items .ensures _ (holds-puts (c .before .before .before .before .before .before .before .before .before .before .before .before .before .before .before .before .before .put .ensures) (g .wrote .holds))) in
+    omega (arith, starts-inside (c .before .before .before .before .before .before .before .before .before .before .before .before .before .before .before .before .before .before .before .before .before .before .before .before .before .before .before .before .before .before .before .before .before .before .before .before .before .args .s .now) (c .before .before .before .list .given .0 .0 .at) 69 (sym (c .before .here .ensures) ∙ not-false _ (c .if1 .left)), w .stands .holds .source)
+
+pub moved-requires : (t : ℕ) → lts.Need-moved-requires (func-calls t) (func-at t) func.Post
+moved-requires t c κs = search needs
+
+pub func-end-requires : (t : ℕ) → lts.Need-func-end-requires (func-calls t) (func-at t) func.Post
+func-end-requires t c κs =
+    let g = got (c .before .before .before .before .before .before .before .before .before .before .before .before .before .before .before .before .before .before .before .before .before .before .before .before .before .got .given .1) (c .before .before .before .before .before .before .before .before .before .before .before .before .before .before .before .before .before .before .before .before .before .before .before .before .before .before .before .before .before .before .before .before .before .ty .ensures _ (c .before .before .before .before .before .before .before .before .before .before .before .before .before .before .before .before .before .before .before .before .before .before .before .before .before .before .before .before .before .before .before .before .before .before .before .before .before .before .before .before .before .pre .1 .1)) in
+    let w = got-list (c .before .before .before .before .before .before .before .list .given .1) (c .before .before .before .before .before .before .before .before .before .before .before .before .before .before .before .items .ensures _ (holds-puts (c .before .before .before .before .before .before .before .before .before .before .before .before .before .before .before .before .before .before .before .before .before .put .ensures) (g .wrote .holds))) in
+    let i = starts-inside (c .before .before .before .before .before .before .before .before .before .before .before .before .before .before .before .before .before .before .before .before .before .before .before .before .before .before .before .before .before .before .before .before .before .before .before .before .before .before .before .before .before .args .s .now) (c .before .before .before .before .before .before .before .list .given .0 .0 .at) 69 (sym (c .before .before .before .before .before .here .ensures) ∙ not-false _ (c .before .before .before .before .if1 .left)) in
+    let v = stands-moved _ (c .before .before .before .moved .ensures) (func-stands (g .wrote) (c .before .before .before .before .before .before .before .before .before .before .before .before .before .before .before .before .before .before .before .before .before .put .ensures) (c .before .before .before .before .before .before .before .before .before .before .before .before .before .before .before .before .before .before .before .before .before .before .before .before .before .before .before .before .before .before .before .before .before .before .before .before .before .before .before .before .before .pre .1 .1 .deep) (w .stands)) (omega arith) (omega (arith, i)) in
+    ((_, (_, v .holds)), (omega (arith, g .wrote .size, g .wrote .short), (omega (arith, w .stands .size), omega (arith, stands-least v))))
+
+pub same-length-10 : (t : ℕ) → lts.Need-same-length-10 (func-calls t) (func-at t) func.Post
+same-length-10 t c = omega (arith, c .before .before .before .before .before .before .func-end .kept, c .before .before .before .before .before .before .before .before .before .before .before .before .before .before .before .before .before .before .before .before .before .before .items .kept, c .before .before .before .before .before .before .before .before .before .before .before .before .before .before .before .before .before .before .before .before .before .before .before .before .before .before .before .before .put .kept, c .before .before .before .before .before .before .before .before .before .before .before .before .before .before .before .before .before .before .before .before .before .before .before .before .before .before .before .before .before .before .before .before .before .before .before .before .before .before .before .before .ty .kept)
+
+pub same-length-11 : (t : ℕ) → lts.Need-same-length-11 (func-calls t) (func-at t) func.Post
+same-length-11 t c = omega (arith, c .before .before .before .before .before .before .func-end .kept, c .before .before .before .before .before .before .before .before .before .before .before .before .before .before .before .before .before .before .before .before .before .before .items .kept, c .before .before .before .before .before .before .before .before .before .before .before .before .before .before .before .before .before .before .before .before .before .before .before .before .before .before .before .before .put .kept, c .before .before .before .before .before .before .before .before .before .before .before .before .before .before .before .before .before .before .before .before .before .before .before .before .before .before .before .before .before .before .before .before .before .before .before .before .before .before .before .before .ty .kept)
+
+pub same-length-12 : (t : ℕ) → lts.Need-same-length-12 (func-calls t) (func-at t) func.Post
+same-length-12 t c = omega (arith, c .before .before .before .before .before .before .func-end .kept, c .before .before .before .before .before .before .before .before .before .before .before .before .before .before .before .before .before .before .before .before .before .before .items .kept, c .before .before .before .before .before .before .before .before .before .before .before .before .before .before .before .before .before .before .before .before .before .before .before .before .before .before .before .before .put .kept, c .before .before .before .before .before .before .before .before .before .before .before .before .before .before .before .before .before .before .before .before .before .before .before .before .before .before .before .before .before .before .before .before .before .before .before .before .before .before .before .before .ty .kept)
+
+pub returns-4 : (t : ℕ) → lts.Need-returns-4 (func-calls t) (func-at t) func.Post
+returns-4 t c = λ σ h.
+    let g = got (c .before .before .before .before .before .before .before .before .before .before .before .before .before .before .before .before .before .before .before .before .before .before .before .before .before .before .before .before .before .before .before .before .got .given .1) (c .before .before .before .before .before .before .before .before .before .before .before .before .before .before .before .before .before .before .before .before .before .before .before .before .before .before .before .before .before .before .before .before .before .before .before .before .before .before .before .before .ty .ensures _ h) in
+    let w = got-list (c .before .before .before .before .before .before .before .before .before .before .before .before .before .before .list .given .1) (c .before .before .before .before .before .before .before .before .before .before .before .before .before .before .before .before .before .before .before .before .before .before .items .ensures _ (holds-puts (c .before .before .before .before .before .before .before .before .before .before .before .before .before .before .before .before .before .before .before .before .before .before .before .before .before .before .before .before .put .ensures) (g .wrote .holds))) in
+    let i = starts-inside (c .before .before .before .before .before .before .before .before .before .before .before .before .before .before .before .before .before .before .before .before .before .before .before .before .before .before .before .before .before .before .before .before .before .before .before .before .before .before .before .before .before .before .before .before .before .before .before .before .args .s .now) (c .before .before .before .before .before .before .before .before .before .before .before .before .before .before .list .given .0 .0 .at) 69 (sym (c .before .before .before .before .before .before .before .before .before .before .before .before .here .ensures) ∙ not-false _ (c .before .before .before .before .before .before .before .before .before .before .before .if1 .left)) in
+    by (function-of σ (g .is) ∙ then-ok _ (closed-yes (w .is) (ahead-is _ _ _ (w .stands .holds .rest) (c .before .before .before .before .before .before .before .before .before .before .before .before .here .ensures) (not-false _ (c .before .before .before .before .before .before .before .before .before .before .before .if1 .left)))) ∙ ap (recorded _) (behind-is (c .before .before .before .before .before .before .before .before .before .before .before .before .before .before .before .before .before .before .before .before .before .before .before .before .before .before .before .before .before .before .before .before .before .before .before .before .before .before .before .before .before .before .before .before .before .before .before .before .args .s .now) (c .before .before .before .before .before .before .before .before .before .before .before .before .before .before .list .given .0 .0 .at) (w .state) (w .stands .holds .rest)))
+    (func-ended (g .said) (w .texts) (c .before .before .before .before .before .before .func-end .ensures) (stands-moved _ (c .before .before .before .before .before .before .before .before .before .before .moved .ensures) (func-stands (g .wrote) (c .before .before .before .before .before .before .before .before .before .before .before .before .before .before .before .before .before .before .before .before .before .before .before .before .before .before .before .before .put .ensures) (h .deep) (w .stands)) (omega arith) (omega (arith, i))) (g .wrote .size) (w .stands .size) (w .count-is))

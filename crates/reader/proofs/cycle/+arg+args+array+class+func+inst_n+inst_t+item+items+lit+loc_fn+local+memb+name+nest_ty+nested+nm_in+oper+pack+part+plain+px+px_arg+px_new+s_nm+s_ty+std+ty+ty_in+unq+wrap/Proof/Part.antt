@@ -1,0 +1,44 @@
+-- Answers for `part`: an unqualified name or a template parameter, by its first byte. Assumes nothing.
+use mathlib.Core.Path.{_≡_, ap}
+use Prim.Native.Nat.{ℕ}
+use borrow.Author.Needs.{needs}
+use native.Mathlib.Omega.{arith}
+use Rattle.grammar.specs.Grammar.{Production, reading}
+use Rattle.parser.specs.Laws.{by, less}
+use Rattle.reader.specs.Joined.{part-T, part-other}
+use Rattle.reader.proofs.cycle.part.Reads as part
+use Rattle.reader.proofs.cycle.+arg+args+array+class+func+inst_n+inst_t+item+items+lit+loc_fn+local+memb+name+nest_ty+nested+nm_in+oper+pack+part+plain+px+px_arg+px_new+s_nm+s_ty+std+ty+ty_in+unq+wrap.Lts-part as lts
+use Rattle.reader.proofs.cycle.+arg+args+array+class+func+inst_n+inst_t+item+items+lit+loc_fn+local+memb+name+nest_ty+nested+nm_in+oper+pack+part+plain+px+px_arg+px_new+s_nm+s_ty+std+ty+ty_in+unq+wrap.Proof.Cycle.{part-at, part-calls}
+
+pub template-param-requires : (t : ℕ) → lts.Need-template-param-requires (part-calls t) (part-at t) part.Post
+template-param-requires t c κs = search needs
+
+pub same-length : (t : ℕ) → lts.Need-same-length (part-calls t) (part-at t) part.Post
+same-length t c = search needs
+
+pub same-length-2 : (t : ℕ) → lts.Need-same-length-2 (part-calls t) (part-at t) part.Post
+same-length-2 t c = search needs
+
+pub same-length-3 : (t : ℕ) → lts.Need-same-length-3 (part-calls t) (part-at t) part.Post
+same-length-3 t c = search needs
+
+pub returns : (t : ℕ) → lts.Need-returns (part-calls t) (part-at t) part.Post
+returns t c σ h =
+    let e : c .before .before .before .before .before .before .before .before .before .before .before .args .c ≡ 84 = omega arith in
+    by (ap (λ (k : Production). reading k σ) (part-T (c .before .before .before .before .before .before .before .before .before .before .before .args .c) e)) (less (omega (arith, h .deep)) (c .before .before .template-param .ensures σ h))
+
+pub unq-requires : (t : ℕ) → lts.Need-unq-requires (part-calls t) (part-at t) part.Post
+unq-requires t c κs = (omega (arith, c .before .before .before .before .before .before .before .before .pre .0), c .before .before .before .before .before .before .before .before .pre .1)
+
+pub same-length-4 : (t : ℕ) → lts.Need-same-length-4 (part-calls t) (part-at t) part.Post
+same-length-4 t c = search needs
+
+pub same-length-5 : (t : ℕ) → lts.Need-same-length-5 (part-calls t) (part-at t) part.Post
+same-length-5 t c = search needs
+
+pub same-length-6 : (t : ℕ) → lts.Need-same-length-6 (part-calls t) (part-at t) part.Post
+same-length-6 t c = search needs
+
+pub returns-2 : (t : ℕ) → lts.Need-returns-2 (part-calls t) (part-at t) part.Post
+returns-2 t c σ h =
+    by (ap (λ (k : Production). reading k σ) (part-other (c .before .before .before .before .before .before .before .before .before .before .before .before .before .before .before .args .c) (λ e. omega (arith, e)))) (c .before .before .before .before .before .before .unq .ensures σ h)

@@ -1,0 +1,174 @@
+-- The answers of `reader::cycle::std`.
+-- Assumes nothing.
+use mathlib.Core.Bool.{Bool, true, false, _&&_, false≢true}
+use mathlib.Core.List.{[], _∷_, _++_}
+use mathlib.Core.Path.{_≡_, refl, ap, sym, _∙_}
+use Prim.Native.Nat.{_+_, _≤_}
+use lib.ListN.{length, drop, length-drop}
+use Rattle.grammar.specs.Text.{Text, b, starts}
+use Rattle.grammar.specs.Tables.{_⇒_}
+use Rattle.grammar.specs.Reader.{State, Reader, onto, push-sub, give, at-code}
+use Rattle.grammar.specs.Grammar.{reading, ⟨unqualified-name⟩, std-ahead, std-name, name-instance}
+use Rattle.grammar.specs.Agree.{moved}
+use Rattle.grammar.specs.Steps.{at-code-yes, at-code-no}
+use Rattle.parser.specs.Laws.{by, got, refused-on}
+use Rattle.parser.specs.Adds.{clean-by, puts-at}
+use Rattle.parser.specs.Runs.{need-here}
+use Rattle.reader.proofs.cycle.+arg+args+array+class+func+inst_n+inst_t+item+items+lit+loc_fn+local+memb+name+nest_ty+nested+nm_in+oper+pack+part+plain+px+px_arg+px_new+s_nm+s_ty+std+ty+ty_in+unq+wrap.Proof.LawsJoin.{kept, push-refused, stands-top, instance-at, word-holds, word-joined, given-as}
+use Prim.Native.Nat.{ℕ}
+use borrow.Author.Needs.{needs}
+use native.Mathlib.Omega.{arith}
+use Rattle.reader.proofs.cycle.std.Reads as std
+use Rattle.reader.proofs.cycle.+arg+args+array+class+func+inst_n+inst_t+item+items+lit+loc_fn+local+memb+name+nest_ty+nested+nm_in+oper+pack+part+plain+px+px_arg+px_new+s_nm+s_ty+std+ty+ty_in+unq+wrap.Lts-std as lts
+use Rattle.reader.proofs.cycle.+arg+args+array+class+func+inst_n+inst_t+item+items+lit+loc_fn+local+memb+name+nest_ty+nested+nm_in+oper+pack+part+plain+px+px_arg+px_new+s_nm+s_ty+std+ty+ty_in+unq+wrap.Proof.Cycle.{std-at, std-calls}
+
+-- what is done with the name behind St
+abbrev std-rest : Text → Reader Text
+std-rest x u = onto (λ _. at-code ("I" ⇒ name-instance reading (b "std::" ++ x) ∷ []) (give (b "std::" ++ x))) (push-sub (b "std::" ++ x) u)
+
+and-first : (p q : Bool) → (p && q) ≡ true → p ≡ true
+and-first true q e = refl
+and-first false q e = e
+
+-- St stands ahead
+std-starts : (t : Text) → std-ahead t ≡ true → starts t (b "St") ≡ true
+unfolding std-ahead starts b
+std-starts [] h = absurd (false≢true h)
+std-starts (x ∷ []) h = absurd (false≢true h)
+std-starts (x ∷ y ∷ []) h = absurd (false≢true h)
+std-starts (x ∷ y ∷ z ∷ t) h = and-first _ _ h
+
+std-long : (t : Text) → std-ahead t ≡ true → 2 ≤ length t
+unfolding std-ahead
+std-long [] h = absurd (false≢true h)
+std-long (x ∷ []) h = absurd (false≢true h)
+std-long (x ∷ y ∷ t) h = omega arith
+
+std-inside : (s : Text) (at : ℕ) → std-ahead (drop at s) ≡ true → at + 2 ≤ length s
+std-inside s at h = omega (arith, std-long (drop at s) h, length-drop at s)
+
+std-open : (s : Text) (at : ℕ) (σ : State) → σ .rest ≡ drop at s → std-ahead (drop at s) ≡ true → std-name reading σ ≡ onto std-rest (reading ⟨unqualified-name⟩ (moved (drop (at + 2) s) σ))
+unfolding std-name onto b
+std-open s at σ e h = ap (onto (λ _ u. onto std-rest (reading ⟨unqualified-name⟩ u))) (need-here "St" s at σ e (std-starts (drop at s) h))
+
+pub add-moved : (t : ℕ) → lts.Need-add-moved (std-calls t) (std-at t) std.Post
+add-moved t c = search needs
+
+pub moved-requires : (t : ℕ) → lts.Need-moved-requires (std-calls t) (std-at t) std.Post
+moved-requires t c κs = search needs
+
+pub slice-aggregate-put : (t : ℕ) → lts.Need-slice-aggregate-put (std-calls t) (std-at t) std.Post
+slice-aggregate-put t c = search needs
+
+pub put-requires : (t : ℕ) → lts.Need-put-requires (std-calls t) (std-at t) std.Post
+put-requires t c κs = (clean-by (c .before .moved .ensures) (c .before .before .before .before .before .before .before .pre .1 .0 .1 .text), omega arith)
+
+pub unq-requires : (t : ℕ) → lts.Need-unq-requires (std-calls t) (std-at t) std.Post
+unq-requires t c κs = (omega (arith, c .before .before .before .before .before .before .before .before .before .before .before .before .before .pre .0, puts-at (c .before .before .before .before .before .before .before .moved .ensures) (c .before .before .before .before .before .put .ensures)), (_, word-holds (c .before .before .before .before .before .before .before .moved .ensures) (c .before .before .before .before .before .put .ensures) (c .before .before .before .before .before .before .before .before .before .before .before .before .before .pre .1 .0 .1) (std-inside _ _ (c .before .before .before .before .before .before .before .before .before .before .before .before .before .pre .1 .1))))
+
+pub enum-known-got : (t : ℕ) → lts.Need-enum-known-got (std-calls t) (std-at t) std.Post
+enum-known-got t c = search needs
+
+pub enum-told : (t : ℕ) → lts.Need-enum-told (std-calls t) (std-at t) std.Post
+enum-told t c = search needs
+
+pub same-length : (t : ℕ) → lts.Need-same-length (std-calls t) (std-at t) std.Post
+same-length t c = search needs
+
+pub same-length-2 : (t : ℕ) → lts.Need-same-length-2 (std-calls t) (std-at t) std.Post
+same-length-2 t c = search needs
+
+pub same-length-3 : (t : ℕ) → lts.Need-same-length-3 (std-calls t) (std-at t) std.Post
+same-length-3 t c = search needs
+
+pub returns : (t : ℕ) → lts.Need-returns (std-calls t) (std-at t) std.Post
+unfolding b
+returns t c = λ σ h. by (std-open (c .before .before .before .before .before .before .before .before .before .before .before .before .before .before .before .before .before .before .before .before .before .before .args .s .now) (c .before .before .before .before .before .before .before .before .before .before .before .before .before .before .before .before .before .before .before .before .before .before .args .p .at) σ (h .rest) (c .before .before .before .before .before .before .before .before .before .before .before .before .before .before .before .before .before .before .before .before .before .before .pre .1 .1)) (refused-on _ (c .enum-told .given .1) (c .before .before .before .before .before .before .before .before .unq .ensures _ (word-holds (c .before .before .before .before .before .before .before .before .before .before .before .before .before .before .before .before .moved .ensures) (c .before .before .before .before .before .before .before .before .before .before .before .before .before .before .put .ensures) h (std-inside _ _ (c .before .before .before .before .before .before .before .before .before .before .before .before .before .before .before .before .before .before .before .before .before .before .pre .1 .1)))))
+
+pub add-n : (t : ℕ) → lts.Need-add-n (std-calls t) (std-at t) std.Post
+add-n t c = let w = got (c .before .got .given .1) (c .before .before .before .before .before .before .before .before .before .unq .ensures _ (word-holds (c .before .before .before .before .before .before .before .before .before .before .before .before .before .before .before .before .before .moved .ensures) (c .before .before .before .before .before .before .before .before .before .before .before .before .before .before .before .put .ensures) (c .before .before .before .before .before .before .before .before .before .before .before .before .before .before .before .before .before .before .before .before .before .before .before .pre .1 .0 .1) (std-inside _ _ (c .before .before .before .before .before .before .before .before .before .before .before .before .before .before .before .before .before .before .before .before .before .before .before .pre .1 .1)))) .wrote in
+    let a = w .size in
+    let d = w .short in
+    search needs
+
+pub push-sub-requires : (t : ℕ) → lts.Need-push-sub-requires (std-calls t) (std-at t) std.Post
+unfolding b
+push-sub-requires t c κs = let h = c .before .before .before .before .before .before .before .before .before .before .before .before .before .before .before .before .before .before .before .before .before .before .before .before .before .before .pre .1 .0 .1 in
+    let l = std-inside _ _ (c .before .before .before .before .before .before .before .before .before .before .before .before .before .before .before .before .before .before .before .before .before .before .before .before .before .before .pre .1 .1) in
+    let w = got (c .before .before .before .before .got .given .1) (c .before .before .before .before .before .before .before .before .before .before .before .before .unq .ensures _ (word-holds (c .before .before .before .before .before .before .before .before .before .before .before .before .before .before .before .before .before .before .before .before .moved .ensures) (c .before .before .before .before .before .before .before .before .before .before .before .before .before .before .before .before .before .before .put .ensures) h l)) .wrote in
+    let u = word-joined (c .before .before .before .before .before .before .before .before .before .before .before .before .before .before .before .before .before .before .before .before .moved .ensures) (c .before .before .before .before .before .before .before .before .before .before .before .before .before .before .before .before .before .before .put .ensures) h l (omega arith) (omega arith) refl w in
+    ((_, (_, w .holds)), omega (arith, stands-top u (omega (arith, u .size, w .size, w .short))))
+
+pub enum-known-kept : (t : ℕ) → lts.Need-enum-known-kept (std-calls t) (std-at t) std.Post
+enum-known-kept t c = search needs
+
+pub enum-told-2 : (t : ℕ) → lts.Need-enum-told-2 (std-calls t) (std-at t) std.Post
+enum-told-2 t c = search needs
+
+pub same-length-4 : (t : ℕ) → lts.Need-same-length-4 (std-calls t) (std-at t) std.Post
+same-length-4 t c = omega (arith, c .before .before .before .before .before .before .before .before .before .before .before .before .before .before .before .before .before .before .before .unq .kept, c .before .before .before .before .before .before .before .before .before .before .before .before .before .before .before .before .before .before .before .before .before .before .before .before .before .put .kept)
+
+pub same-length-5 : (t : ℕ) → lts.Need-same-length-5 (std-calls t) (std-at t) std.Post
+same-length-5 t c = search needs
+
+pub same-length-6 : (t : ℕ) → lts.Need-same-length-6 (std-calls t) (std-at t) std.Post
+same-length-6 t c = search needs
+
+pub returns-2 : (t : ℕ) → lts.Need-returns-2 (std-calls t) (std-at t) std.Post
+unfolding b onto
+returns-2 t c = λ σ h. let l = std-inside _ _ (c .before .before .before .before .before .before .before .before .before .before .before .before .before .before .before .before .before .before .before .before .before .before .before .before .before .before .before .before .before .before .before .before .before .pre .1 .1) in
+    let g = got (c .before .before .before .before .before .before .before .before .before .before .before .got .given .1) (c .before .before .before .before .before .before .before .before .before .before .before .before .before .before .before .before .before .before .before .unq .ensures _ (word-holds (c .before .before .before .before .before .before .before .before .before .before .before .before .before .before .before .before .before .before .before .before .before .before .before .before .before .before .before .moved .ensures) (c .before .before .before .before .before .before .before .before .before .before .before .before .before .before .before .before .before .before .before .before .before .before .before .before .before .put .ensures) h l)) in
+    let u = word-joined (c .before .before .before .before .before .before .before .before .before .before .before .before .before .before .before .before .before .before .before .before .before .before .before .before .before .before .before .moved .ensures) (c .before .before .before .before .before .before .before .before .before .before .before .before .before .before .before .before .before .before .before .before .before .before .before .before .before .put .ensures) h l (omega arith) (omega arith) refl (g .wrote) in
+    by (std-open (c .before .before .before .before .before .before .before .before .before .before .before .before .before .before .before .before .before .before .before .before .before .before .before .before .before .before .before .before .before .before .before .before .before .args .s .now) (c .before .before .before .before .before .before .before .before .before .before .before .before .before .before .before .before .before .before .before .before .before .before .before .before .before .before .before .before .before .before .before .before .before .args .p .at) σ (h .rest) (c .before .before .before .before .before .before .before .before .before .before .before .before .before .before .before .before .before .before .before .before .before .before .before .before .before .before .before .before .before .before .before .before .before .pre .1 .1) ∙ ap (onto std-rest) (g .is)) (push-refused _ (c .enum-told2 .given .1) (c .before .before .before .before .before .before .push-sub .ensures _ _ _ _ _ _ _ u))
+
+pub here-requires : (t : ℕ) → lts.Need-here-requires (std-calls t) (std-at t) std.Post
+here-requires t c κs = search needs
+
+pub inst-n-requires : (t : ℕ) → lts.Need-inst-n-requires (std-calls t) (std-at t) std.Post
+unfolding b
+inst-n-requires t c κs = let h = c .before .before .before .before .before .before .before .before .before .before .before .before .before .before .before .before .before .before .before .before .before .before .before .before .before .before .before .before .before .before .before .before .before .before .before .before .before .before .before .pre .1 .0 .1 in
+    let l = std-inside _ _ (c .before .before .before .before .before .before .before .before .before .before .before .before .before .before .before .before .before .before .before .before .before .before .before .before .before .before .before .before .before .before .before .before .before .before .before .before .before .before .before .pre .1 .1) in
+    let w = got (c .before .before .before .before .before .before .before .before .before .before .before .before .before .before .before .before .before .got .given .1) (c .before .before .before .before .before .before .before .before .before .before .before .before .before .before .before .before .before .before .before .before .before .before .before .before .before .unq .ensures _ (word-holds (c .before .before .before .before .before .before .before .before .before .before .before .before .before .before .before .before .before .before .before .before .before .before .before .before .before .before .before .before .before .before .before .before .before .moved .ensures) (c .before .before .before .before .before .before .before .before .before .before .before .before .before .before .before .before .before .before .before .before .before .before .before .before .before .before .before .before .before .before .before .put .ensures) h l)) .wrote in
+    let u = word-joined (c .before .before .before .before .before .before .before .before .before .before .before .before .before .before .before .before .before .before .before .before .before .before .before .before .before .before .before .before .before .before .before .before .before .moved .ensures) (c .before .before .before .before .before .before .before .before .before .before .before .before .before .before .before .before .before .before .before .before .before .before .before .before .before .before .before .before .before .before .before .put .ensures) h l (omega arith) (omega arith) refl w in
+    let v = kept u (c .before .before .before .before .before .before .kept .given .1) (c .before .before .before .before .before .before .before .before .before .before .before .before .push-sub .ensures _ _ _ _ _ _ _ u) in
+    (omega (arith, c .before .before .before .before .before .before .before .before .before .before .before .before .before .before .before .before .before .before .before .before .before .before .before .before .before .before .before .before .before .before .before .before .before .before .before .before .before .before .before .pre .0, v .stands .more), ((v .state, v .stands .holds), (omega (arith, w .size, w .short), stands-top (v .stands) (omega (arith, u .size, w .size, w .short)))))
+
+pub same-length-7 : (t : ℕ) → lts.Need-same-length-7 (std-calls t) (std-at t) std.Post
+same-length-7 t c = omega (arith, c .before .before .before .before .before .before .inst-n .kept, c .before .before .before .before .before .before .before .before .before .before .before .before .before .before .before .before .before .before .before .push-sub .kept, c .before .before .before .before .before .before .before .before .before .before .before .before .before .before .before .before .before .before .before .before .before .before .before .before .before .before .before .before .before .before .before .before .unq .kept, c .before .before .before .before .before .before .before .before .before .before .before .before .before .before .before .before .before .before .before .before .before .before .before .before .before .before .before .before .before .before .before .before .before .before .before .before .before .before .put .kept)
+
+pub same-length-8 : (t : ℕ) → lts.Need-same-length-8 (std-calls t) (std-at t) std.Post
+same-length-8 t c = omega (arith, c .before .before .before .before .before .before .inst-n .kept, c .before .before .before .before .before .before .before .before .before .before .before .before .before .before .before .before .before .before .before .push-sub .kept, c .before .before .before .before .before .before .before .before .before .before .before .before .before .before .before .before .before .before .before .before .before .before .before .before .before .before .before .before .before .before .before .before .unq .kept, c .before .before .before .before .before .before .before .before .before .before .before .before .before .before .before .before .before .before .before .before .before .before .before .before .before .before .before .before .before .before .before .before .before .before .before .before .before .before .put .kept)
+
+pub same-length-9 : (t : ℕ) → lts.Need-same-length-9 (std-calls t) (std-at t) std.Post
+same-length-9 t c = omega (arith, c .before .before .before .before .before .before .inst-n .kept, c .before .before .before .before .before .before .before .before .before .before .before .before .before .before .before .before .before .before .before .push-sub .kept, c .before .before .before .before .before .before .before .before .before .before .before .before .before .before .before .before .before .before .before .before .before .before .before .before .before .before .before .before .before .before .before .before .unq .kept, c .before .before .before .before .before .before .before .before .before .before .before .before .before .before .before .before .before .before .before .before .before .before .before .before .before .before .before .before .before .before .before .before .before .before .before .before .before .before .put .kept)
+
+pub returns-3 : (t : ℕ) → lts.Need-returns-3 (std-calls t) (std-at t) std.Post
+unfolding b onto
+returns-3 t c = λ σ h. let l = std-inside _ _ (c .before .before .before .before .before .before .before .before .before .before .before .before .before .before .before .before .before .before .before .before .before .before .before .before .before .before .before .before .before .before .before .before .before .before .before .before .before .before .before .before .before .before .before .before .before .before .pre .1 .1) in
+    let g = got (c .before .before .before .before .before .before .before .before .before .before .before .before .before .before .before .before .before .before .before .before .before .before .before .before .got .given .1) (c .before .before .before .before .before .before .before .before .before .before .before .before .before .before .before .before .before .before .before .before .before .before .before .before .before .before .before .before .before .before .before .before .unq .ensures _ (word-holds (c .before .before .before .before .before .before .before .before .before .before .before .before .before .before .before .before .before .before .before .before .before .before .before .before .before .before .before .before .before .before .before .before .before .before .before .before .before .before .before .before .moved .ensures) (c .before .before .before .before .before .before .before .before .before .before .before .before .before .before .before .before .before .before .before .before .before .before .before .before .before .before .before .before .before .before .before .before .before .before .before .before .before .before .put .ensures) h l)) in
+    let w = g .wrote in
+    let u = word-joined (c .before .before .before .before .before .before .before .before .before .before .before .before .before .before .before .before .before .before .before .before .before .before .before .before .before .before .before .before .before .before .before .before .before .before .before .before .before .before .before .before .moved .ensures) (c .before .before .before .before .before .before .before .before .before .before .before .before .before .before .before .before .before .before .before .before .before .before .before .before .before .before .before .before .before .before .before .before .before .before .before .before .before .before .put .ensures) h l (omega arith) (omega arith) refl w in
+    let v = kept u (c .before .before .before .before .before .before .before .before .before .before .before .before .before .kept .given .1) (c .before .before .before .before .before .before .before .before .before .before .before .before .before .before .before .before .before .before .before .push-sub .ensures _ _ _ _ _ _ _ u) in
+    by (std-open (c .before .before .before .before .before .before .before .before .before .before .before .before .before .before .before .before .before .before .before .before .before .before .before .before .before .before .before .before .before .before .before .before .before .before .before .before .before .before .before .before .before .before .before .before .before .before .args .s .now) (c .before .before .before .before .before .before .before .before .before .before .before .before .before .before .before .before .before .before .before .before .before .before .before .before .before .before .before .before .before .before .before .before .before .before .before .before .before .before .before .before .before .before .before .before .before .before .args .p .at) σ (h .rest) (c .before .before .before .before .before .before .before .before .before .before .before .before .before .before .before .before .before .before .before .before .before .before .before .before .before .before .before .before .before .before .before .before .before .before .before .before .before .before .before .before .before .before .before .before .before .before .pre .1 .1) ∙ ap (onto std-rest) (g .is) ∙ ap (onto _) (v .is) ∙ at-code-yes "I" _ _ _ (ap (λ y. starts y (b "I")) (v .stands .holds .rest) ∙ sym (c .before .before .before .before .before .before .before .before .before .before .before .here .ensures) ∙ c .before .before .before .before .before .before .before .before .before .before .if1 .taken))
+    (instance-at (c .before .before .before .before .before .before .inst-n .ensures) (v .stands) (omega (arith, u .size, w .size, w .short)) (omega (arith, v .stands .more)))
+
+pub given-requires : (t : ℕ) → lts.Need-given-requires (std-calls t) (std-at t) std.Post
+given-requires t c κs = search needs
+
+pub same-length-10 : (t : ℕ) → lts.Need-same-length-10 (std-calls t) (std-at t) std.Post
+same-length-10 t c = omega (arith, c .before .before .before .before .before .before .before .before .before .before .push-sub .kept, c .before .before .before .before .before .before .before .before .before .before .before .before .before .before .before .before .before .before .before .before .before .before .before .unq .kept, c .before .before .before .before .before .before .before .before .before .before .before .before .before .before .before .before .before .before .before .before .before .before .before .before .before .before .before .before .before .put .kept)
+
+pub same-length-11 : (t : ℕ) → lts.Need-same-length-11 (std-calls t) (std-at t) std.Post
+same-length-11 t c = omega (arith, c .before .before .before .before .before .before .before .before .before .before .push-sub .kept, c .before .before .before .before .before .before .before .before .before .before .before .before .before .before .before .before .before .before .before .before .before .before .before .unq .kept, c .before .before .before .before .before .before .before .before .before .before .before .before .before .before .before .before .before .before .before .before .before .before .before .before .before .before .before .before .before .put .kept)
+
+pub same-length-12 : (t : ℕ) → lts.Need-same-length-12 (std-calls t) (std-at t) std.Post
+same-length-12 t c = omega (arith, c .before .before .before .before .before .before .before .before .before .before .push-sub .kept, c .before .before .before .before .before .before .before .before .before .before .before .before .before .before .before .before .before .before .before .before .before .before .before .unq .kept, c .before .before .before .before .before .before .before .before .before .before .before .before .before .before .before .before .before .before .before .before .before .before .before .before .before .before .before .before .before .put .kept)
+
+pub returns-4 : (t : ℕ) → lts.Need-returns-4 (std-calls t) (std-at t) std.Post
+unfolding b onto
+returns-4 t c = λ σ h. let l = std-inside _ _ (c .before .before .before .before .before .before .before .before .before .before .before .before .before .before .before .before .before .before .before .before .before .before .before .before .before .before .before .before .before .before .before .before .before .before .before .before .before .pre .1 .1) in
+    let g = got (c .before .before .before .before .before .before .before .before .before .before .before .before .before .before .before .got .given .1) (c .before .before .before .before .before .before .before .before .before .before .before .before .before .before .before .before .before .before .before .before .before .before .before .unq .ensures _ (word-holds (c .before .before .before .before .before .before .before .before .before .before .before .before .before .before .before .before .before .before .before .before .before .before .before .before .before .before .before .before .before .before .before .moved .ensures) (c .before .before .before .before .before .before .before .before .before .before .before .before .before .before .before .before .before .before .before .before .before .before .before .before .before .before .before .before .before .put .ensures) h l)) in
+    let u = word-joined (c .before .before .before .before .before .before .before .before .before .before .before .before .before .before .before .before .before .before .before .before .before .before .before .before .before .before .before .before .before .before .before .moved .ensures) (c .before .before .before .before .before .before .before .before .before .before .before .before .before .before .before .before .before .before .before .before .before .before .before .before .before .before .before .before .before .put .ensures) h l (omega arith) (omega arith) refl (g .wrote) in
+    let v = kept u (c .before .before .before .before .kept .given .1) (c .before .before .before .before .before .before .before .before .before .before .push-sub .ensures _ _ _ _ _ _ _ u) in
+    by (std-open (c .before .before .before .before .before .before .before .before .before .before .before .before .before .before .before .before .before .before .before .before .before .before .before .before .before .before .before .before .before .before .before .before .before .before .before .before .before .args .s .now) (c .before .before .before .before .before .before .before .before .before .before .before .before .before .before .before .before .before .before .before .before .before .before .before .before .before .before .before .before .before .before .before .before .before .before .before .before .before .args .p .at) σ (h .rest) (c .before .before .before .before .before .before .before .before .before .before .before .before .before .before .before .before .before .before .before .before .before .before .before .before .before .before .before .before .before .before .before .before .before .before .before .before .before .pre .1 .1) ∙ ap (onto std-rest) (g .is) ∙ ap (onto _) (v .is) ∙ at-code-no "I" _ _ _ (ap (λ y. starts y (b "I")) (v .stands .holds .rest) ∙ sym (c .before .before .here .ensures) ∙ c .before .if1 .left))
+    (given-as (c .given .ensures) (v .stands))

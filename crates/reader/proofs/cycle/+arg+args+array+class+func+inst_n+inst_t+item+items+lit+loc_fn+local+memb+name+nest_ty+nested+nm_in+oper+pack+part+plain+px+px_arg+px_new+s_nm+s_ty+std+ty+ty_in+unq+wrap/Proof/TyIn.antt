@@ -1,0 +1,236 @@
+-- The answers of `ty_in`. Assumes nothing.
+use Prim.Native.Nat.{ℕ}
+use mathlib.Core.List.{[]}
+use Rattle.grammar.specs.Text.{b}
+use Rattle.grammar.specs.Tables.{d-letters}
+use Rattle.grammar.specs.Reader.{by-code, give, refused}
+use Rattle.grammar.specs.Grammar.{reading, ⟨template-param⟩, type-inner, nested-type, s-type, class-type}
+use Rattle.grammar.specs.Steps.{from-text, same-from, inner-end, inner-letter, inner-A, inner-F, inner-M, inner-D, inner-u, inner-N, inner-T, inner-S, inner-class, inner-wrapper, inner-4}
+use Rattle.parser.specs.Holds.{refuses}
+use Rattle.parser.specs.Laws.{by, less, sooner}
+use Rattle.parser.specs.Adds.{ready-moved, reads-moved, clean-by}
+use Rattle.parser.specs.Wraps.{picked-at}
+use Rattle.reader.specs.Opens.{at-of}
+use Rattle.reader.specs.Arrays.{byte-at, byte-is, byte-inside, no-byte}
+use Rattle.reader.specs.Heads.{inner-at, leaf-at, no-letter, either, lettered-row, between-row, no-head, digit-not}
+use borrow.Author.Needs.{needs}
+use native.Mathlib.Omega.{arith}
+use Rattle.reader.proofs.cycle.ty_in.Reads as ty-in
+use Rattle.reader.proofs.cycle.+arg+args+array+class+func+inst_n+inst_t+item+items+lit+loc_fn+local+memb+name+nest_ty+nested+nm_in+oper+pack+part+plain+px+px_arg+px_new+s_nm+s_ty+std+ty+ty_in+unq+wrap.Lts-ty_in as lts
+use Rattle.reader.proofs.cycle.+arg+args+array+class+func+inst_n+inst_t+item+items+lit+loc_fn+local+memb+name+nest_ty+nested+nm_in+oper+pack+part+plain+px+px_arg+px_new+s_nm+s_ty+std+ty+ty_in+unq+wrap.Proof.Cycle.{ty-in-at, ty-in-calls}
+
+pub peek-requires : (t : ℕ) → lts.Need-peek-requires (ty-in-calls t) (ty-in-at t) ty-in.Post
+peek-requires t c κs = search needs
+
+pub enum-known-c : (t : ℕ) → lts.Need-enum-known-c (ty-in-calls t) (ty-in-at t) ty-in.Post
+enum-known-c t c = search needs
+
+pub enum-told : (t : ℕ) → lts.Need-enum-told (ty-in-calls t) (ty-in-at t) ty-in.Post
+enum-told t c = search needs
+
+pub returns : (t : ℕ) → lts.Need-returns (ty-in-calls t) (ty-in-at t) ty-in.Post
+returns t c = λ σ h. by (from-text (type-inner reading) σ (no-byte h (c .before .before .peek .ensures) (c .enum-told .given .1)) (inner-end [] σ)) refuses
+
+pub add-moved : (t : ℕ) → lts.Need-add-moved (ty-in-calls t) (ty-in-at t) ty-in.Post
+add-moved t c = search needs
+
+pub moved-requires : (t : ℕ) → lts.Need-moved-requires (ty-in-calls t) (ty-in-at t) ty-in.Post
+moved-requires t c κs = search needs
+
+pub builtin-requires : (t : ℕ) → lts.Need-builtin-requires (ty-in-calls t) (ty-in-at t) ty-in.Post
+builtin-requires t c κs = search needs
+
+pub enum-known-w : (t : ℕ) → lts.Need-enum-known-w (ty-in-calls t) (ty-in-at t) ty-in.Post
+enum-known-w t c = search needs
+
+pub word-requires : (t : ℕ) → lts.Need-word-requires (ty-in-calls t) (ty-in-at t) ty-in.Post
+word-requires t c κs = (clean-by (c .before .before .before .before .before .moved .ensures) (c .before .before .before .before .before .before .before .before .before .before .before .before .before .before .pre .1 .1 .text), picked-at (c .before .before .before .before .builtin .ensures) (c .before .before .w .given .1) .1)
+
+pub same-length : (t : ℕ) → lts.Need-same-length (ty-in-calls t) (ty-in-at t) ty-in.Post
+same-length t c = search needs
+
+pub returns-2 : (t : ℕ) → lts.Need-returns-2 (ty-in-calls t) (ty-in-at t) ty-in.Post
+returns-2 t c = λ σ h.
+    let l = byte-inside h (c .before .before .before .before .before .before .before .before .before .before .before .before .peek .ensures) (c .before .before .before .before .before .before .before .before .before .before .c .given .1) in
+    by (from-text (type-inner reading) σ (byte-at h (c .before .before .before .before .before .before .before .before .before .before .before .before .peek .ensures) (c .before .before .before .before .before .before .before .before .before .before .c .given .1)) (inner-letter _ _ σ _ (picked-at (c .before .before .before .before .before .before .before .builtin .ensures) (c .before .before .before .before .before .w .given .1) .0)))
+    (less (omega (arith, h .deep)) (reads-moved (c .before .before .before .before .before .before .before .before .moved .ensures) (c .before .before .word .ensures _ _ _) h (omega (arith, l)) (omega arith)))
+
+pub array-requires : (t : ℕ) → lts.Need-array-requires (ty-in-calls t) (ty-in-at t) ty-in.Post
+array-requires t c κs =
+    let l = byte-inside (c .before .before .before .before .before .before .before .before .before .before .before .before .before .before .before .before .pre .1 .1) (c .before .before .before .before .before .before .before .before .before .before .before .peek .ensures) (c .before .before .before .before .before .before .before .before .before .c .given .1) in
+    (omega (arith, at-of (c .before .before .before .before .before .before .before .moved .ensures), c .before .before .before .before .before .before .before .before .before .before .before .before .before .before .before .before .pre .0, l), ready-moved _ (c .before .before .before .before .before .before .before .moved .ensures) (c .before .before .before .before .before .before .before .before .before .before .before .before .before .before .before .before .pre .1 .1) (omega (arith, l)))
+
+pub func-requires : (t : ℕ) → lts.Need-func-requires (ty-in-calls t) (ty-in-at t) ty-in.Post
+func-requires t c κs =
+    let l = byte-inside (c .before .before .before .before .before .before .before .before .before .before .before .before .before .before .before .before .pre .1 .1) (c .before .before .before .before .before .before .before .before .before .before .before .peek .ensures) (c .before .before .before .before .before .before .before .before .before .c .given .1) in
+    (omega (arith, at-of (c .before .before .before .before .before .before .before .moved .ensures), c .before .before .before .before .before .before .before .before .before .before .before .before .before .before .before .before .pre .0, l), ready-moved _ (c .before .before .before .before .before .before .before .moved .ensures) (c .before .before .before .before .before .before .before .before .before .before .before .before .before .before .before .before .pre .1 .1) (omega (arith, l)))
+
+pub memb-requires : (t : ℕ) → lts.Need-memb-requires (ty-in-calls t) (ty-in-at t) ty-in.Post
+memb-requires t c κs =
+    let l = byte-inside (c .before .before .before .before .before .before .before .before .before .before .before .before .before .before .before .before .pre .1 .1) (c .before .before .before .before .before .before .before .before .before .before .before .peek .ensures) (c .before .before .before .before .before .before .before .before .before .c .given .1) in
+    (omega (arith, at-of (c .before .before .before .before .before .before .before .moved .ensures), c .before .before .before .before .before .before .before .before .before .before .before .before .before .before .before .before .pre .0, l), ready-moved _ (c .before .before .before .before .before .before .before .moved .ensures) (c .before .before .before .before .before .before .before .before .before .before .before .before .before .before .before .before .pre .1 .1) (omega (arith, l)))
+
+pub builtin-d-requires : (t : ℕ) → lts.Need-builtin-d-requires (ty-in-calls t) (ty-in-at t) ty-in.Post
+builtin-d-requires t c κs = (_, (_, c .before .before .before .before .before .before .before .before .before .before .before .before .before .before .pre .1))
+
+pub source-name-requires : (t : ℕ) → lts.Need-source-name-requires (ty-in-calls t) (ty-in-at t) ty-in.Post
+source-name-requires t c κs =
+    let h = c .before .before .before .before .before .before .before .before .before .before .before .before .before .before .pre .1 .1 in
+    let l = byte-inside h (c .before .before .before .before .before .before .before .before .before .peek .ensures) (c .before .before .before .before .before .before .before .c .given .1) in
+    (omega (arith, at-of (c .before .before .before .before .before .moved .ensures), l), (h .source, clean-by (c .before .before .before .before .before .moved .ensures) (h .text)))
+
+pub nest-ty-requires : (t : ℕ) → lts.Need-nest-ty-requires (ty-in-calls t) (ty-in-at t) ty-in.Post
+nest-ty-requires t c κs = (omega (arith, c .before .before .before .before .before .before .before .before .before .before .before .before .before .before .before .before .pre .0), c .before .before .before .before .before .before .before .before .before .before .before .before .before .before .before .before .pre .1)
+
+pub template-param-requires : (t : ℕ) → lts.Need-template-param-requires (ty-in-calls t) (ty-in-at t) ty-in.Post
+template-param-requires t c κs = search needs
+
+pub s-ty-requires : (t : ℕ) → lts.Need-s-ty-requires (ty-in-calls t) (ty-in-at t) ty-in.Post
+s-ty-requires t c κs = (omega (arith, c .before .before .before .before .before .before .before .before .before .before .before .before .before .before .before .before .pre .0), c .before .before .before .before .before .before .before .before .before .before .before .before .before .before .before .before .pre .1)
+
+pub class-requires : (t : ℕ) → lts.Need-class-requires (ty-in-calls t) (ty-in-at t) ty-in.Post
+class-requires t c κs = (omega (arith, c .before .before .before .before .before .before .before .before .before .before .before .before .before .before .before .before .before .before .pre .0), c .before .before .before .before .before .before .before .before .before .before .before .before .before .before .before .before .before .before .pre .1)
+
+pub wrap-requires : (t : ℕ) → lts.Need-wrap-requires (ty-in-calls t) (ty-in-at t) ty-in.Post
+wrap-requires t c κs =
+    let l = byte-inside (c .before .before .before .before .before .before .before .before .before .before .before .before .before .before .before .before .pre .1 .1) (c .before .before .before .before .before .before .before .before .before .before .before .peek .ensures) (c .before .before .before .before .before .before .before .before .before .c .given .1) in
+    (omega (arith, at-of (c .before .before .before .before .before .before .before .moved .ensures), c .before .before .before .before .before .before .before .before .before .before .before .before .before .before .before .before .pre .0, l), ready-moved _ (c .before .before .before .before .before .before .before .moved .ensures) (c .before .before .before .before .before .before .before .before .before .before .before .before .before .before .before .before .pre .1 .1) (omega (arith, l)))
+
+pub same-length-2 : (t : ℕ) → lts.Need-same-length-2 (ty-in-calls t) (ty-in-at t) ty-in.Post
+same-length-2 t c = search needs
+
+pub same-length-3 : (t : ℕ) → lts.Need-same-length-3 (ty-in-calls t) (ty-in-at t) ty-in.Post
+same-length-3 t c = search needs
+
+pub same-length-4 : (t : ℕ) → lts.Need-same-length-4 (ty-in-calls t) (ty-in-at t) ty-in.Post
+same-length-4 t c = search needs
+
+pub returns-3 : (t : ℕ) → lts.Need-returns-3 (ty-in-calls t) (ty-in-at t) ty-in.Post
+returns-3 t c = λ σ h.
+    let l = byte-inside h (c .before .before .before .before .before .before .before .before .before .before .before .before .before .before .before .before .before .before .peek .ensures) (c .before .before .before .before .before .before .before .before .before .before .before .before .before .before .before .before .c .given .1) in
+    by (from-text (type-inner reading) σ (byte-is h (c .before .before .before .before .before .before .before .before .before .before .before .before .before .before .before .before .before .before .peek .ensures) 65 (c .before .before .before .before .before .before .before .before .before .before .before .before .before .before .before .before .c .given .1) (c .before .before .before .before .before .before .before .before .before .before .match3 .keys2)) (inner-A _ σ))
+    (sooner (omega arith) (inner-at (c .before .before .before .before .before .before .before .before .before .before .before .before .before .before .moved .ensures) (c .before .before .before .before .before .before .array .ensures) h (omega (arith, l))))
+
+pub same-length-5 : (t : ℕ) → lts.Need-same-length-5 (ty-in-calls t) (ty-in-at t) ty-in.Post
+same-length-5 t c = search needs
+
+pub same-length-6 : (t : ℕ) → lts.Need-same-length-6 (ty-in-calls t) (ty-in-at t) ty-in.Post
+same-length-6 t c = search needs
+
+pub same-length-7 : (t : ℕ) → lts.Need-same-length-7 (ty-in-calls t) (ty-in-at t) ty-in.Post
+same-length-7 t c = search needs
+
+pub returns-4 : (t : ℕ) → lts.Need-returns-4 (ty-in-calls t) (ty-in-at t) ty-in.Post
+returns-4 t c = λ σ h.
+    let l = byte-inside h (c .before .before .before .before .before .before .before .before .before .before .before .before .before .before .before .before .before .before .peek .ensures) (c .before .before .before .before .before .before .before .before .before .before .before .before .before .before .before .before .c .given .1) in
+    by (from-text (type-inner reading) σ (byte-is h (c .before .before .before .before .before .before .before .before .before .before .before .before .before .before .before .before .before .before .peek .ensures) 70 (c .before .before .before .before .before .before .before .before .before .before .before .before .before .before .before .before .c .given .1) (c .before .before .before .before .before .before .before .before .before .before .match3 .keys3)) (inner-F _ σ))
+    (sooner (omega arith) (inner-at (c .before .before .before .before .before .before .before .before .before .before .before .before .before .before .moved .ensures) (c .before .before .before .before .before .before .func .ensures) h (omega (arith, l))))
+
+pub same-length-8 : (t : ℕ) → lts.Need-same-length-8 (ty-in-calls t) (ty-in-at t) ty-in.Post
+same-length-8 t c = search needs
+
+pub same-length-9 : (t : ℕ) → lts.Need-same-length-9 (ty-in-calls t) (ty-in-at t) ty-in.Post
+same-length-9 t c = search needs
+
+pub same-length-10 : (t : ℕ) → lts.Need-same-length-10 (ty-in-calls t) (ty-in-at t) ty-in.Post
+same-length-10 t c = search needs
+
+pub returns-5 : (t : ℕ) → lts.Need-returns-5 (ty-in-calls t) (ty-in-at t) ty-in.Post
+returns-5 t c = λ σ h.
+    let l = byte-inside h (c .before .before .before .before .before .before .before .before .before .before .before .before .before .before .before .before .before .before .peek .ensures) (c .before .before .before .before .before .before .before .before .before .before .before .before .before .before .before .before .c .given .1) in
+    by (from-text (type-inner reading) σ (byte-is h (c .before .before .before .before .before .before .before .before .before .before .before .before .before .before .before .before .before .before .peek .ensures) 77 (c .before .before .before .before .before .before .before .before .before .before .before .before .before .before .before .before .c .given .1) (c .before .before .before .before .before .before .before .before .before .before .match3 .keys4)) (inner-M _ σ))
+    (sooner (omega arith) (inner-at (c .before .before .before .before .before .before .before .before .before .before .before .before .before .before .moved .ensures) (c .before .before .before .before .before .before .memb .ensures) h (omega (arith, l))))
+
+pub same-length-11 : (t : ℕ) → lts.Need-same-length-11 (ty-in-calls t) (ty-in-at t) ty-in.Post
+same-length-11 t c = search needs
+
+pub returns-6 : (t : ℕ) → lts.Need-returns-6 (ty-in-calls t) (ty-in-at t) ty-in.Post
+returns-6 t c = λ σ h.
+    let e = byte-is h (c .before .before .before .before .before .before .before .before .before .before .before .before .peek .ensures) 68 (c .before .before .before .before .before .before .before .before .before .before .c .given .1) (c .before .before .before .before .match3 .keys5) in
+    by (same-from (type-inner reading) (by-code d-letters (λ w. give (b w)) (λ _. refused 4)) σ e (inner-D _ σ))
+    (less (omega (arith, h .deep)) (sooner (omega arith) (c .before .before .builtin-d .ensures _ _ _ σ e h)))
+
+pub same-length-12 : (t : ℕ) → lts.Need-same-length-12 (ty-in-calls t) (ty-in-at t) ty-in.Post
+same-length-12 t c = search needs
+
+pub returns-7 : (t : ℕ) → lts.Need-returns-7 (ty-in-calls t) (ty-in-at t) ty-in.Post
+returns-7 t c = λ σ h.
+    let l = byte-inside h (c .before .before .before .before .before .before .before .before .before .before .before .before .peek .ensures) (c .before .before .before .before .before .before .before .before .before .before .c .given .1) in
+    by (from-text (type-inner reading) σ (byte-is h (c .before .before .before .before .before .before .before .before .before .before .before .before .peek .ensures) 117 (c .before .before .before .before .before .before .before .before .before .before .c .given .1) (c .before .before .before .before .match3 .keys6)) (inner-u _ σ))
+    (less (omega (arith, h .deep)) (sooner (omega arith) (leaf-at (c .before .before .before .before .before .before .before .before .moved .ensures) (c .before .before .source-name .ensures _ _) h (omega (arith, l)))))
+
+pub same-length-13 : (t : ℕ) → lts.Need-same-length-13 (ty-in-calls t) (ty-in-at t) ty-in.Post
+same-length-13 t c = search needs
+
+pub same-length-14 : (t : ℕ) → lts.Need-same-length-14 (ty-in-calls t) (ty-in-at t) ty-in.Post
+same-length-14 t c = search needs
+
+pub same-length-15 : (t : ℕ) → lts.Need-same-length-15 (ty-in-calls t) (ty-in-at t) ty-in.Post
+same-length-15 t c = search needs
+
+pub returns-8 : (t : ℕ) → lts.Need-returns-8 (ty-in-calls t) (ty-in-at t) ty-in.Post
+returns-8 t c = λ σ h. by (same-from (type-inner reading) (nested-type reading) σ (byte-is h (c .before .before .before .before .before .before .before .before .before .before .before .before .before .before .before .before .before .before .peek .ensures) 78 (c .before .before .before .before .before .before .before .before .before .before .before .before .before .before .before .before .c .given .1) (c .before .before .before .before .before .before .before .before .before .before .match3 .keys7)) (inner-N _ σ)) (c .before .before .before .before .before .before .nest-ty .ensures σ h)
+
+pub same-length-16 : (t : ℕ) → lts.Need-same-length-16 (ty-in-calls t) (ty-in-at t) ty-in.Post
+same-length-16 t c = search needs
+
+pub same-length-17 : (t : ℕ) → lts.Need-same-length-17 (ty-in-calls t) (ty-in-at t) ty-in.Post
+same-length-17 t c = search needs
+
+pub same-length-18 : (t : ℕ) → lts.Need-same-length-18 (ty-in-calls t) (ty-in-at t) ty-in.Post
+same-length-18 t c = search needs
+
+pub returns-9 : (t : ℕ) → lts.Need-returns-9 (ty-in-calls t) (ty-in-at t) ty-in.Post
+returns-9 t c = λ σ h. by (same-from (type-inner reading) (reading ⟨template-param⟩) σ (byte-is h (c .before .before .before .before .before .before .before .before .before .before .before .before .before .before .peek .ensures) 84 (c .before .before .before .before .before .before .before .before .before .before .before .before .c .given .1) (c .before .before .before .before .before .before .match3 .keys8)) (inner-T _ σ)) (less (omega (arith, h .deep)) (c .before .before .template-param .ensures σ h))
+
+pub same-length-19 : (t : ℕ) → lts.Need-same-length-19 (ty-in-calls t) (ty-in-at t) ty-in.Post
+same-length-19 t c = search needs
+
+pub same-length-20 : (t : ℕ) → lts.Need-same-length-20 (ty-in-calls t) (ty-in-at t) ty-in.Post
+same-length-20 t c = search needs
+
+pub same-length-21 : (t : ℕ) → lts.Need-same-length-21 (ty-in-calls t) (ty-in-at t) ty-in.Post
+same-length-21 t c = search needs
+
+pub returns-10 : (t : ℕ) → lts.Need-returns-10 (ty-in-calls t) (ty-in-at t) ty-in.Post
+returns-10 t c = λ σ h. by (same-from (type-inner reading) (s-type reading) σ (byte-is h (c .before .before .before .before .before .before .before .before .before .before .before .before .before .before .before .before .before .before .peek .ensures) 83 (c .before .before .before .before .before .before .before .before .before .before .before .before .before .before .before .before .c .given .1) (c .before .before .before .before .before .before .before .before .before .before .match3 .keys9)) (inner-S _ σ)) (c .before .before .before .before .before .before .s-ty .ensures σ h)
+
+pub same-length-22 : (t : ℕ) → lts.Need-same-length-22 (ty-in-calls t) (ty-in-at t) ty-in.Post
+same-length-22 t c = search needs
+
+pub same-length-23 : (t : ℕ) → lts.Need-same-length-23 (ty-in-calls t) (ty-in-at t) ty-in.Post
+same-length-23 t c = search needs
+
+pub same-length-24 : (t : ℕ) → lts.Need-same-length-24 (ty-in-calls t) (ty-in-at t) ty-in.Post
+same-length-24 t c = search needs
+
+pub returns-11 : (t : ℕ) → lts.Need-returns-11 (ty-in-calls t) (ty-in-at t) ty-in.Post
+returns-11 t c = λ σ h. by (same-from (type-inner reading) (class-type reading) σ (byte-at h (c .before .before .before .before .before .before .before .before .before .before .before .before .before .before .before .before .before .before .before .before .peek .ensures) (c .before .before .before .before .before .before .before .before .before .before .before .before .before .before .before .before .before .before .c .given .1)) (inner-class _ _ σ (no-letter _ _ (c .before .before .before .before .before .before .before .before .before .before .before .before .before .before .before .builtin .ensures) (c .before .before .before .before .before .before .before .before .before .before .before .before .before .enum-told2 .given .1)) (no-head _ (c .before .before .before .before .before .before .before .before .before .before .before .before .match3 .rest) (λ e. omega (arith, e, c .before .before .before .before .before .before .before .before .before .before .if2 .taken)) (λ e. omega (arith, e, c .before .before .before .before .before .before .before .before .before .before .if2 .taken))))) (c .before .before .before .before .before .before .class .ensures σ h)
+
+pub returns-12 : (t : ℕ) → lts.Need-returns-12 (ty-in-calls t) (ty-in-at t) ty-in.Post
+returns-12 t c = λ σ h. by (from-text (type-inner reading) σ (byte-at h (c .before .before .before .before .before .before .before .before .before .peek .ensures) (c .before .before .before .before .before .before .before .c .given .1)) (inner-4 _ _ σ (no-letter _ _ (c .before .before .before .before .builtin .ensures) (c .before .before .enum-told2 .given .1)) (no-head _ (c .before .match3 .rest) (λ e. omega (arith, e, c .if1 .taken)) (λ e. omega (arith, e, c .if1 .taken))) (digit-not _ (λ i. absurd (omega (arith, i, c .if1 .taken)))))) refuses
+
+pub returns-13 : (t : ℕ) → lts.Need-returns-13 (ty-in-calls t) (ty-in-at t) ty-in.Post
+returns-13 t c = λ σ h. by (from-text (type-inner reading) σ (byte-at h (c .before .before .before .before .before .before .before .before .before .before .before .peek .ensures) (c .before .before .before .before .before .before .before .before .before .c .given .1)) (inner-4 _ _ σ (no-letter _ _ (c .before .before .before .before .before .before .builtin .ensures) (c .before .before .before .before .enum-told2 .given .1)) (no-head _ (c .before .before .before .match3 .rest) (λ e. omega (arith, e, c .if3 .taken)) (λ e. omega (arith, e, c .if3 .taken))) (digit-not _ (λ i. c .before .if2 .left)))) refuses
+
+pub returns-14 : (t : ℕ) → lts.Need-returns-14 (ty-in-calls t) (ty-in-at t) ty-in.Post
+returns-14 t c = λ σ h. by (from-text (type-inner reading) σ (byte-at h (c .before .before .before .before .before .before .before .before .before .before .before .before .peek .ensures) (c .before .before .before .before .before .before .before .before .before .before .c .given .1)) (inner-4 _ _ σ (no-letter _ _ (c .before .before .before .before .before .before .before .builtin .ensures) (c .before .before .before .before .before .enum-told2 .given .1)) (no-head _ (c .before .before .before .before .match3 .rest) (λ e. omega (arith, e, c .if4 .left)) (λ e. omega (arith, e, c .if4 .left))) (digit-not _ (λ i. c .before .before .if2 .left)))) refuses
+
+pub same-length-25 : (t : ℕ) → lts.Need-same-length-25 (ty-in-calls t) (ty-in-at t) ty-in.Post
+same-length-25 t c = search needs
+
+pub same-length-26 : (t : ℕ) → lts.Need-same-length-26 (ty-in-calls t) (ty-in-at t) ty-in.Post
+same-length-26 t c = search needs
+
+pub same-length-27 : (t : ℕ) → lts.Need-same-length-27 (ty-in-calls t) (ty-in-at t) ty-in.Post
+same-length-27 t c = search needs
+
+pub returns-15 : (t : ℕ) → lts.Need-returns-15 (ty-in-calls t) (ty-in-at t) ty-in.Post
+returns-15 t c = λ σ h.
+    let l = byte-inside h (c .before .before .before .before .before .before .before .before .before .before .before .before .before .before .before .before .before .before .peek .ensures) (c .before .before .before .before .before .before .before .before .before .before .before .before .before .before .before .before .c .given .1) in
+    let v = either (c .before .before .before .before .before .before .before .before .before .before .match3 .came) (λ x. lettered-row _ (x .keys1)) (λ y. between-row _ (y .0 .rest .0 .0 .0 .0 .0 .1) (y .0 .rest .0 .0 .1) (y .3 .left) (y .4 .taken)) in
+    by (from-text (type-inner reading) σ (byte-at h (c .before .before .before .before .before .before .before .before .before .before .before .before .before .before .before .before .before .before .peek .ensures) (c .before .before .before .before .before .before .before .before .before .before .before .before .before .before .before .before .c .given .1)) (inner-wrapper _ _ σ (v .0) (no-letter _ _ (c .before .before .before .before .before .before .before .before .before .before .before .before .before .builtin .ensures) (c .before .before .before .before .before .before .before .before .before .before .before .enum-told2 .given .1)) (v .1 .1) (v .1 .0 _)))
+    (sooner (omega arith) (inner-at (c .before .before .before .before .before .before .before .before .before .before .before .before .before .before .moved .ensures) (c .before .before .before .before .before .before .wrap .ensures (v .0) (v .1 .0)) h (omega (arith, l))))
+
+pub enum-told-2 : (t : ℕ) → lts.Need-enum-told-2 (ty-in-calls t) (ty-in-at t) ty-in.Post
+enum-told-2 t c = search needs
