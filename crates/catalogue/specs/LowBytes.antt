@@ -148,7 +148,7 @@ ref-low i = low-append (refDigits i) (95 ∷ []) (low-all (digit 36) digit-small
 
 -- ---------------------------------------------------------------- spellings
 
-letter-low : (l : Letter) → leb 128 (letterCode l) ≡ false
+pub letter-low : (l : Letter) → leb 128 (letterCode l) ≡ false
 letter-low lv = refl
 letter-low lw = refl
 letter-low lb = refl
@@ -171,14 +171,14 @@ letter-low le = refl
 letter-low lg = refl
 letter-low lz = refl
 
-wrap-low : (c : Wrap) → leb 128 (wrapCode c) ≡ false
+pub wrap-low : (c : Wrap) → leb 128 (wrapCode c) ≡ false
 wrap-low wP = refl
 wrap-low wR = refl
 wrap-low wO = refl
 wrap-low wK = refl
 wrap-low wV = refl
 
-kind-low : (k : Kind) → leb 128 (kindCode k) ≡ false
+pub kind-low : (k : Kind) → leb 128 (kindCode k) ≡ false
 kind-low kb = refl
 kind-low ki = refl
 kind-low kj = refl

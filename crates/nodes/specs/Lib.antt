@@ -1,2 +1,4 @@
 pub mod Nodes
 pub mod Examples
+pub mod Laws
+pub mod Numbers
