@@ -10,6 +10,7 @@ pub mod NameReader
 pub mod Back
 pub mod NormalTree
 pub mod Recogniser
+pub mod Answer
 pub mod ReadsBack
 pub mod SymbolReadsBack
 pub mod Entries

@@ -11,7 +11,8 @@ use Rattle.grammar.specs.Text.{Text, if_then_else_, decimal}
 use Rattle.grammar.specs.Names.{demangle, most-symbol-bytes, number-of, length-of}
 use Rattle.names.specs.Outcome.{Slices}
 use Rattle.listing.specs.Listing.{Outcome, listing-line, in-front, lines, bytes-taken, listing, fitting, work-sized, lists, listed, Lists, line-feed, head, line, name-of}
-use Rattle.listing.specs.ListingNames.{name-length, short-answer}
+use Rattle.names.specs.Lengths.{short-answer}
+use Rattle.listing.specs.ListingNames.{name-length}
 use Rattle.listing.specs.declared.listing.Listed.{Listed}
 
 lines-inside : (t : Text) → bytes-taken (lines t) ≤ length t

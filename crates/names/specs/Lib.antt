@@ -6,3 +6,4 @@ pub mod Printed
 pub mod Wiped
 pub mod Tells
 pub mod Told
+pub mod Lengths

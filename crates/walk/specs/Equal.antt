@@ -8,15 +8,11 @@ use Rattle.catalogue.specs.Tree.{Enc}
 use Rattle.catalogue.specs.Class.{Res, ok, wrong, Catalogue}
 use Rattle.catalogue.specs.Normal.{write, normalOf}
 use Rattle.catalogue.specs.Recogniser.{classify}
+use Rattle.catalogue.specs.Answer.{normalIn}
 use Rattle.catalogue.specs.Decision.{classify-sound, classify-complete}
 use Rattle.walk.specs.Walk.{walkSym}
 use Rattle.walk.specs.SymbolComplete.{walk-complete}
 use Rattle.walk.specs.SymbolSound.{walk-sound}
-
--- the normal symbol, if there is a tree
-abbrev pub normalIn : Res Enc → Option Text
-normalIn (ok e us) = some (write e)
-normalIn wrong = none
 
 pub walk-is : (s : Text) → walkSym s ≡ normalIn (classify s)
 walk-is s = go (classify s) refl
