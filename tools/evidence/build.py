@@ -105,7 +105,7 @@ def build(program, folder, scratch):
         rust = f.read()
     with open(os.path.join(scratch, "numbered.rs"), "w") as f:
         f.write(numbered(rust))
-    for name in ("symbols.rs", program + ".rs"):
+    for name in ("symbols.rs", "catalogue.rs", program + ".rs"):
         shutil.copyfile(os.path.join(HERE, name), os.path.join(scratch, name))
     binary = os.path.join(scratch, program)
     # with overflow checks the Rust panics at the numbers that document 01 puts outside the comparison
