@@ -578,6 +578,14 @@ pub const RULES: &[(&str, u8, &str)] = &[
     ("_Z1fv.", 6, ""),
     ("_Z1f.", 6, ""),
     ("_Z1fv!", 4, ""),
+    // bytes are left only behind a label
+    ("_ZTI1ai", 5, ""),
+    ("_ZTS1aS_", 5, ""),
+    ("_ZTT1a!", 5, ""),
+    ("_ZTVN1a1bE1c", 5, ""),
+    ("_ZTI1a", 6, ""),
+    ("_ZTV1a.", 6, ""),
+    ("_ZGTtTV1a!", 6, ""),
     // the name: one source name, or N, parts, E
     ("_ZN1a1bE", 0, "_ZN1a1bE"),
     ("_ZN1aE", 6, ""),
@@ -829,12 +837,80 @@ impl Maker {
     pub fn encoding(&mut self) -> Encoding {
         self.pool.clear();
         self.left = self.rng.pick(&[2, 4, 4, 6, 6, 8, 8, 12, 16, 24, 40, 80]);
+        let params = self.rng.pick(&[0, 1, 1, 2, 2, 3, 3, 4, 5, 8, 20]);
+        self.made(params, 4)
+    }
+
+    /// A tree near the limits: large, deep, with many arguments or with many entries.
+    pub fn large(&mut self) -> Encoding {
+        self.pool.clear();
+        match self.rng.below(5) {
+            0 | 1 => {
+                self.left = 100 + self.rng.below(900) as i32;
+                let (params, depth) = (self.rng.below(150), 3 + self.rng.below(8));
+                self.made(params, depth)
+            }
+            2 => self.deep(),
+            3 => self.wide(),
+            _ => {
+                let size = 20 + self.rng.below(1020);
+                crowd(&mut self.rng, size)
+            }
+        }
+    }
+
+    fn made(&mut self, params: usize, depth: usize) -> Encoding {
         let name = if self.rng.chance(600) { vec![self.name()] } else { self.function_name() };
-        let least = if name.len() > 1 && self.rng.chance(300) { 1 } else { 0 };
-        let most = self.rng.pick(&[0, 1, 1, 2, 2, 3, 3, 4, 5, 8, 20]);
-        let params: Vec<_> = (0..most.max(least)).map(|_| self.ty(4)).collect();
+        let params: Vec<_> = (0..params).map(|_| self.ty(depth)).collect();
         let constant = name.len() > 1 && !params.is_empty() && self.rng.chance(400);
         Encoding { name, constant, params }
+    }
+
+    /// Types inside one another, about as deep as the reading may go, and some of them once more.
+    fn deep(&mut self) -> Encoding {
+        let mut chain = vec![Rc::new(Tree::Letter(b'i'))];
+        let mut opened = 1;
+        let most = 88 + self.rng.below(12);
+        while opened < most {
+            let inner = chain.last().unwrap().clone();
+            let wrap = self.rng.pick(WRAPS);
+            if self.rng.chance(700) && !barred(wrap, &inner) {
+                chain.push(Rc::new(Tree::Wrap(wrap, inner)));
+                opened += 1;
+            } else {
+                let mut steps = if self.rng.chance(500) { vec![] } else { vec![self.name()] };
+                steps.extend([self.name(), Step::Args(Rc::new(vec![Argument::Type(inner)]))]);
+                chain.push(class(&steps));
+                opened += 2;
+            }
+        }
+        let mut params = vec![chain.last().unwrap().clone()];
+        for _ in 0..self.rng.below(4) {
+            params.insert(self.rng.below(params.len() + 1), chain[self.rng.below(chain.len())].clone());
+        }
+        Encoding { name: vec![self.name()], constant: false, params }
+    }
+
+    /// Long lists of arguments, about 1,024 arguments in all.
+    fn wide(&mut self) -> Encoding {
+        let mut params = vec![];
+        let mut left = 900 + self.rng.below(250);
+        while left > 0 {
+            let length = (1 + self.rng.pick(&[0, 1, 5, 200, 500])).min(left);
+            left -= length;
+            let mut list: Vec<_> = (0..length).map(|_| Argument::Type(Rc::new(Tree::Letter(b'i')))).collect();
+            if !self.pool.is_empty() && self.rng.chance(300) {
+                list[0] = Argument::Type(self.pool[self.rng.below(self.pool.len())].clone());
+            }
+            let mut steps = if self.rng.chance(400) { vec![self.name()] } else { vec![] };
+            steps.extend([self.name(), Step::Args(Rc::new(list))]);
+            self.pool.push(class(&steps));
+            params.push(class(&steps));
+            if self.rng.chance(300) {
+                params.push(self.pool[self.rng.below(self.pool.len())].clone());
+            }
+        }
+        Encoding { name: vec![self.name()], constant: false, params }
     }
 
     fn function_name(&mut self) -> Vec<Step> {

@@ -469,7 +469,7 @@ impl Comparison {
 
 // ---------------------------------------------------------------- kinds of symbols
 
-const KINDS: &[&str] = &["document", "spellings", "damaged", "short", "limits", "any"];
+const KINDS: &[&str] = &["document", "spellings", "large", "damaged", "short", "limits", "any"];
 
 /// Chances of a reference, of a thousand, in the spellings of one tree.
 const CHANCES: &[usize] = &[0, 300, 700, 1000, 1000];
@@ -491,6 +491,11 @@ fn spellings(seed: u64) -> impl Iterator<Item = Item> {
         [tree, other]
     });
     trees.flatten().flat_map(move |tree| spellings_of(&tree, &mut rng))
+}
+
+fn large(seed: u64) -> impl Iterator<Item = Item> {
+    let (mut maker, mut rng) = (Maker::new(seed ^ 0x1a), Rng::new(seed ^ 0x1a49e));
+    std::iter::repeat_with(move || spellings_of(&maker.large(), &mut rng)).flatten()
 }
 
 fn damaged(seed: u64) -> impl Iterator<Item = Item> {
@@ -537,6 +542,7 @@ fn compare(comparison: &mut Comparison, kinds: &[String], seed: u64, count: usiz
         match *kind {
             "document" => comparison.kind("document 01 and each rule from both sides", by_hand(), usize::MAX),
             "spellings" => comparison.kind("spellings of trees", spellings(seed), count),
+            "large" => comparison.kind("spellings of large trees", large(seed), count / 50),
             "damaged" => comparison.kind("damaged spellings", damaged(seed), count / 2),
             "short" => comparison.kind("short", catalogue::short(seed, count / 2).map(Item::of), usize::MAX),
             "limits" => {
