@@ -539,19 +539,19 @@ pub fn within(normal: String) -> (u8, String) {
 
 // ---------------------------------------------------------------- symbols with known answers
 
-/// What document 01 says of normal symbols, typed from it.
+/// Document 01's symbols. The first five answers and the refusals 4, 5, 3 and 7 are typed from it; the others follow from its rules.
 pub const PAPER: &[(&str, u8, &str)] = &[
     ("_Z1fP1aPS_", 0, "_Z1fP1aS0_"),
     ("_Z1fP1aP1a", 0, "_Z1fP1aS0_"),
     ("_ZN1n1fEN1n1aE", 0, "_ZN1n1fENS_1aE"),
     ("_Z1f1a1b1b", 0, "_Z1f1a1bS0_"),
     ("_Z1fRRi", 6, ""),
-    // its other catalogue symbols are normal already
+    // of its names, these are in the class, and normal already
     ("_Z1fv", 0, "_Z1fv"),
     ("_Z1f", 0, "_Z1f"),
     ("_ZNK1a1bEi", 0, "_ZNK1a1bEi"),
     ("_Z1fOi", 0, "_Z1fOi"),
-    // and no others are in the class
+    // and these are not
     ("_Z1fv.isra.0", 6, ""),
     ("_ZN1aD0Ev", 6, ""),
     ("_ZplRK1aS1_", 6, ""),
