@@ -24,7 +24,7 @@ use Rattle.reader.specs.declared.lists.Texts.{Texts}
 use Rattle.reader.specs.declared.lists.Texts.the-variants as items-as
 use Rattle.reader.specs.Lists.{Lists, listed, ReadsItems, refused-of}
 use Rattle.reader.specs.LocFns.{unlisted-on}
-use Rattle.reader.specs.Funcs.{stands-joined, stands-least}
+use Rattle.reader.specs.Standing.{stands-joined, stands-least}
 use Rattle.encoding.specs.Encodings.{qualified-by, Qualifies, LoneVoid, GoesOn, with-parameters, with-returned}
 
 -- ---------------------------------------------------------------- the definition
@@ -208,7 +208,7 @@ module _ {s text store ends text₁ store₁ ends₁ : Text} {p : Parser} {r : R
     type-returned {last} {turned} {m} {text₂} {m'} {v} l e q g =
         let y = returned (h .holds) e in
         let w = y .wrote in
-        let a = stands-joined h (stands w (omega arith) (omega (arith, h .most))) (omega arith) (omega (arith, h .more)) in
+        let a = stands-joined {to = at} h (stands w (omega arith) (omega (arith, h .most))) (omega arith) (omega (arith, h .more)) in
         let z : min (n + m) 65536 ≡ n + m = omega (arith, w .size, w .short) in
         let o = q _ _ _ _ _ _ _ t (y .said) (y .state) (omega (arith, h .size)) (sym (w .size)) (subst (λ (i : ℕ). Stands (keep (p .depth + 1)) (p .depth) s base at (mem text₁ store₁ ends₁) last i (t ++ y .said) (y .state)) z a) in
         by (ap (onto (λ x. with-parameters (x ++ b " " ++ t) (qualified-by s from to))) (y .is)) (goes-on-at with-parameters from to g o)

@@ -1,18 +1,17 @@
 -- Laws of template arguments behind the last part of a nested name. Assumes nothing.
-use mathlib.Core.Bool.{Bool, true, false}
+use mathlib.Core.Bool.{Bool}
 use mathlib.Core.List.{List, [], _∷_, _++_, append-assoc}
-use mathlib.Core.Option.{Option, none, some}
+use mathlib.Core.Option.{none}
 use mathlib.Core.Path.{_≡_, refl, sym, ap, _∙_, subst}
-use Prim.Native.Nat.{ℕ, _+_, _*_, _≤_, _<_, min}
+use Prim.Native.Nat.{ℕ, _+_, _≤_, _<_, min}
 use native.Mathlib.Omega.{arith}
 use lib.ListN.{length, take, drop, length-append}
 use Rattle.grammar.specs.Text.{Text, b, choose, join, starts}
 use Rattle.grammar.specs.Reader.{State, Result, ok, refused, Reader, onto, unfit, see, set-args, set-templated, push-sub}
 use Rattle.grammar.specs.Grammar.{reading, ⟨template-args⟩, last, onto-last}
 use Rattle.grammar.specs.Grammar as g
-use Rattle.store.specs.Stack.{Clean, Tail}
-use Rattle.store.specs.Tails.{chain, weaken, size, top-size}
-use Rattle.parser.specs.Holds.{Memory, mem, Holds, Wrote, Pushes, pushed, window, keep}
+use Rattle.store.specs.Tails.{size}
+use Rattle.parser.specs.Holds.{Memory, mem, Wrote, Pushes, pushed, keep}
 use Rattle.parser.specs.Laws.{with-templated, holds-templated}
 use Rattle.parser.specs.Halves.{with-args}
 use Rattle.parser.specs.States.{subs-to, args-to, templated-to}
@@ -22,6 +21,7 @@ use Rattle.parser.specs.declared.state.Read.the-variants.{Text as read}
 use Rattle.reader.specs.declared.lists.Parts.{Parts}
 use Rattle.reader.specs.declared.lists.Prefix.the-variants as prefix-as
 use Rattle.reader.specs.Lists.{Parted, Parting, parted}
+use Rattle.reader.specs.Standing.{parted-kept, stands-sized, stands-at, stands-joined}
 use Rattle.reader.specs.Joined.{parts-by, answer-by, alike-append, shown-is}
 
 abbrev pub argued : g.Parts → Text → g.Parts
@@ -92,38 +92,21 @@ pub argued-parts :
     Parted (keep (p .depth)) (p .depth) s base (p .at + 1) m' p' (record { n = n; last = l; count = 1; structor = q .structor }) (argued ps a) τ
 argued-parts {s} {base} {text} {store} {ends} {from} {m'} {p} {r} {p'} {q} {m} {ps} {a} {σ} {τ} h e w z n l f g =
     let c = h .stands in
-    let d : r .depth ≡ p .depth = ap (λ (x : Parser). x .depth) e in
-    let i : r .at ≡ p .at = ap (λ (x : Parser). x .at) e in
-    let y : Tail (keep (p .depth)) (window m' p') (take (p .top) text ++ a) = weaken (omega arith) (subst (λ (x : ℕ). Tail (keep (r .depth + 1)) (window m' p') (take x text ++ a)) (ap (λ (x : Parser). x .top) e) (w .tail)) in
-    let v : Tail (keep (p .depth)) (window m' p') ((base ++ h .shown) ++ a) = chain a (c .tail) y in
+    let v : Wrote (keep (p .depth + 1)) (p .depth) s (take (p .top) text) (p .at + 1) m' p' m a τ =
+    subst (λ (x : Parser). Wrote (keep (x .depth + 1)) (x .depth) s (take (x .top) text) (x .at + 1) m' p' m a τ) e w in
+    let y = stands-joined {to = p .at + 1} c (stands-at (keep (p .depth)) (p .at + 1) v (omega arith) (omega arith) (c .least) (c .most)) (omega arith) (omega arith) in
     record {
       shown = h .shown ++ a;
-      stands = record {
-        holds = w .holds;
-        tail = simp append-assoc at v;
-        size = simp length-append (omega (arith, f, c .size, w .size));
-        level = w .level ∙ d;
-        more = omega (arith, w .more);
-        least = c .least;
-        most = c .most;
-      };
+      stands = stands-sized n y refl (omega (arith, f, y .size));
       alike = rw (joined-args a (ps .texts) z) (alike-append a (h .alike));
       final = λ i.
           let j : length (join (b "::") (ps .texts)) + length a ≤ 32768 = omega (arith, ap length (joined-args a (ps .texts) z), length-append (join (b "::") (ps .texts)) a) in
-          let o : length (h .shown) ≡ length (join (b "::") (ps .texts)) = ap length (shown-is (omega arith) (h .alike)) in
+          let o : length (h .shown) ≡ length (join (b "::") (ps .texts)) = ap length (shown-is (λ _ x. omega (arith, x, j)) (h .alike)) in
           rw (last-args a (ps .texts) z) (simp length-append (omega (arith, g, h .final (omega arith), h .within, c .size, w .size)));
       within = omega (arith, f, g, h .within);
       count = omega (arith, count-args a (ps .texts));
       structor = h .structor;
     }
-
-pub argued-top :
-    {k d : ℕ} {s text : Text} {from top : ℕ} {m' : Memory} {p' : Parser} {m : ℕ} {a : Text} {τ : State} →
-    Clean text top → Wrote k d s (take top text) from m' p' m a τ → 32768 ≤ k → (n : ℕ) → min n 32768 ≤ top → min (min (n + m) 65536) 32768 ≤ p' .top
-argued-top {text = text} {top = top} {m' = m'} {p' = p'} {a = a} c w l n i =
-    let z : length (take top text) ≡ top = top-size c in
-    let v : length (take (p' .top) (m' .text)) ≡ p' .top = top-size (w .holds .text) in
-    omega (arith, z, v, size (w .tail), w .tail .most, length-append (take top text) a, w .size)
 
 pub args-pushed :
     {k d n i : ℕ} {s base : Text} {from : ℕ} {m m' : Memory} {p next v : Parser} {q : Parts} (ps : g.Parts) (a : Text) {τ : State} {r : Read} {f : Result (Unit {0})} {c e : ℕ} {z : Bool} →
@@ -137,20 +120,4 @@ args-pushed {k} {d} {n} {i} {s} {base} {from} {m} {m'} {p} {next} {v} {q} ps a {
     told (pushed {σ = o} w) y j =
         let l : starts (o .rest) (69 ∷ []) ≡ z = ap (λ (r : Text). starts r (69 ∷ [])) (w .rest) ∙ sym j in
         parts-by (ended-is ps a o ∙ ap (λ (x : Bool). ok (argued ps a) (with-templated x o)) l)
-        (answer-by (ap (λ (x : Parser). prefix-as.Parts x q) y) (parted {ps = argued ps a} (record {
-          shown = h .shown;
-          stands = record {
-            holds = holds-templated w z;
-            tail = subst (λ (x : Text). Tail k (take (p .top) x) (base ++ h .shown)) (sym t) (h .stands .tail);
-            size = h .stands .size;
-            level = h .stands .level;
-            more = h .stands .more;
-            least = h .stands .least;
-            most = h .stands .most;
-          };
-          alike = h .alike;
-          final = h .final;
-          within = h .within;
-          count = h .count;
-          structor = h .structor;
-        })))
+        (answer-by (ap (λ (x : Parser). prefix-as.Parts x q) y) (parted {ps = argued ps a} (parted-kept h (holds-templated w z) (ap (take (p .top)) t) refl (h .stands .more))))

@@ -1,16 +1,14 @@
 -- Laws of array types, and of the byte ahead. Assumes nothing.
-use mathlib.Core.Bool.{Bool, true, false, not, true≢false}
-use mathlib.Core.List.{List, [], _∷_, _++_}
+use mathlib.Core.Bool.{Bool, true, false, not}
+use mathlib.Core.List.{[], _∷_, _++_}
 use mathlib.Core.Path.{_≡_, refl, sym, ap, ap₂, _∙_, subst}
-use Prim.Native.Nat.{ℕ, suc, _+_, _-_, _≤_, _<_, min}
-use Prim.Native.Char.{code}
+use Prim.Native.Nat.{ℕ, _+_, _-_, _≤_, _<_}
 use native.Mathlib.Omega.{arith}
-use borrow.Author.Tests.{ne-eqb}
+use borrow.Author.Tests.{ne-eqb, not-false}
 use lib.Dec.{eqb}
-use lib.ListN.{length, take, drop, getD, length-append, length-drop}
-use lib.Seq.{drop-drop}
+use lib.ListN.{length, take, drop, length-append}
 use Rattle.grammar.specs.Text.{Text, b, holds, run, if_then_else_}
-use Rattle.grammar.specs.Reader.{State, Result, refused, Reader, onto, every, need, give}
+use Rattle.grammar.specs.Reader.{State, refused, Reader, onto, every, need, give}
 use Rattle.grammar.specs.Grammar.{reading, ⟨type⟩}
 use Rattle.grammar.specs.Grammar as g
 use Rattle.grammar.specs.Agree.{moved}
@@ -24,6 +22,7 @@ use Rattle.parser.specs.Laws.{given-refines}
 use Rattle.parser.specs.Literals.{stands-size, length-part}
 use Rattle.parser.specs.Wraps.{stands-puts}
 use Rattle.parser.specs.Runs.{every-at, need-here, need-not, starts-one, starts-none, run-stops}
+use Rattle.reader.specs.Items.{peek-end, byte-there, byte-within}
 
 -- ---------------------------------------------------------------- array types
 
@@ -37,10 +36,6 @@ pub run-front : (p : ℕ → Bool) (t : Text) → take (length (run p t)) t ≡ 
 unfolding run
 run-front p [] = refl
 run-front p (x ∷ t) = front-if (p x) x t (run p t) (run-front p t)
-
-not-false : (q : Bool) → not q ≡ false → q ≡ true
-not-false true e = refl
-not-false false e = absurd (true≢false e)
 
 abbrev pub bound : ℕ → Bool
 bound c = not (eqb c 95)
@@ -100,27 +95,15 @@ array-given {k} {d} {s} {base} {from} {text} {text₁} {text₂} {text₃} {stor
 
 -- ---------------------------------------------------------------- the byte ahead
 
-abbrev byte-code : Peeked → ℕ
-byte-code peeked-as.End = 0
-byte-code (peeked-as.Byte c) = suc c
-
-ahead-byte : {c : ℕ} (t : Text) → peeked t ≡ peeked-as.Byte c → t ≡ c ∷ drop 1 t
-ahead-byte {c} [] h = absurd (omega (arith, ap byte-code h))
-ahead-byte {c} (x ∷ t) h = ap (λ (y : ℕ). y ∷ t) {x = x} {y = c} (omega (arith, ap byte-code h))
-
-ahead-end : (t : Text) → peeked t ≡ peeked-as.End → t ≡ []
-ahead-end [] h = refl
-ahead-end (x ∷ t) h = absurd (omega (arith, ap byte-code h))
-
 module _ {s : Text} {m : Memory} {p : Parser} {σ : State} (h : Holds s m p σ) {r : Peeked} (e : r ≡ peeked (drop (p .at) s)) where
   pub byte-at : {c : ℕ} → r ≡ peeked-as.Byte c → σ .rest ≡ c ∷ drop (p .at + 1) s
-  byte-at {c} f = h .rest ∙ ahead-byte (drop (p .at) s) (sym e ∙ f) ∙ ap (λ (u : Text). c ∷ u) (drop-drop 1 (p .at) s)
+  byte-at f = h .rest ∙ byte-there s (p .at) (sym e ∙ f)
 
   pub byte-inside : {c : ℕ} → r ≡ peeked-as.Byte c → p .at < length s
-  byte-inside {c} f = omega (arith, length-drop (p .at) s, ap length (ahead-byte (drop (p .at) s) (sym e ∙ f)))
+  byte-inside f = byte-within s (p .at) (sym e ∙ f)
 
   pub no-byte : r ≡ peeked-as.End → σ .rest ≡ []
-  no-byte f = h .rest ∙ ahead-end (drop (p .at) s) (sym e ∙ f)
+  no-byte f = h .rest ∙ peek-end (drop (p .at) s) (sym e ∙ f)
 
   -- a byte that is known
   pub byte-is : {c : ℕ} (k : ℕ) → r ≡ peeked-as.Byte c → c ≡ k → σ .rest ≡ k ∷ drop (p .at + 1) s

@@ -20,6 +20,7 @@ use Rattle.parser.specs.Holds.{Memory, mem, Holds, Stands, Puts, keep}
 use Rattle.parser.specs.Laws.{holds-depth, holds-moved}
 use Rattle.parser.specs.States.{moved-to, deeper, at-depth}
 use Rattle.parser.specs.declared.state.Parser.{Parser}
+use Rattle.reader.specs.Standing.{stands-least}
 use Rattle.reader.specs.Closes.{closed-yes, behind-is, then-ok}
 
 pub bracket-stands :
@@ -50,7 +51,7 @@ bracket-stands {s} {text} {text'} {store} {ends} {m''} p {q} {r} {o} {last} {mv}
     })
 
 pub stands-top : {k d : ℕ} {s base : Text} {from : ℕ} {m : Memory} {p : Parser} {n : ℕ} {t : Text} {σ : State} → Stands k d s base from m p n t σ → 1 ≤ length t → 1 ≤ p .top
-stands-top {base = base} {t = t} h l = omega (arith, h .least, h .tail .most, size (h .tail), top-size (h .holds .text), length-append base t)
+stands-top h l = omega (arith, stands-least h, h .size, l)
 
 -- ---------------------------------------------------------------- the closing >
 

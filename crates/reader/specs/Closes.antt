@@ -1,11 +1,10 @@
 -- Lists up to an E, and template arguments, one step at a time. Assumes nothing.
 use mathlib.Core.Bool.{Bool, true, false}
-use mathlib.Core.List.{List, [], _∷_, _++_}
+use mathlib.Core.List.{List, [], _∷_}
 use mathlib.Core.Option.{Option, none, some}
 use mathlib.Core.Path.{_≡_, refl, sym, ap, _∙_, subst}
-use Prim.Native.Nat.{ℕ, _+_, _≤_, _<_, min}
+use Prim.Native.Nat.{ℕ, _+_, _≤_, _<_}
 use Prim.Native.Char.{code}
-use native.Mathlib.Omega.{arith}
 use lib.ListN.{length, drop}
 use lib.Seq.{drop-drop}
 use Rattle.grammar.specs.Text.{Text, b, choose, join, starts}
@@ -18,8 +17,8 @@ use Rattle.grammar.specs.Fuel.{reading-ends, reading-is}
 use Rattle.grammar.specs.Loops.{argument, closed, up-to-E-is}
 use Rattle.grammar.specs.Steps.{at-level, entered-in, entered-8, need-yes, need-no, from-text, same-from}
 use Rattle.grammar.specs.NameSteps.{starts-one, arg-L, arg-X, arg-J, arg-type}
-use Rattle.parser.specs.Holds.{Memory, Holds, Stands, Refines, refuses, window, given-of}
-use Rattle.parser.specs.Laws.{by-state, holds-entered, holds-moved, given-refines}
+use Rattle.parser.specs.Holds.{Memory, Holds, Stands, Refines, refuses}
+use Rattle.parser.specs.Laws.{by-state, holds-entered, holds-moved}
 use Rattle.parser.specs.Leaves.{left-at, Skips, Skipped-inside}
 use Rattle.parser.specs.States.{moved-to, deeper}
 use Rattle.parser.specs.declared.leaf.Skipped.{Skipped}
@@ -27,11 +26,10 @@ use Rattle.parser.specs.declared.leaf.Skipped.the-variants as skipped-as
 use Rattle.parser.specs.declared.state.Parser.{Parser}
 use Rattle.parser.specs.declared.state.Read.{Read}
 use Rattle.parser.specs.declared.state.Read.the-variants.{Refused}
-use Rattle.reader.specs.declared.lists.Kind.{Kind}
 use Rattle.reader.specs.declared.lists.Kind.the-variants.{Types, Arguments}
 use Rattle.reader.specs.declared.lists.Texts.{Texts}
 use Rattle.reader.specs.declared.lists.Texts.the-variants as items-as
-use Rattle.reader.specs.Lists.{Lists, listed, unlisted, refused-of, kept-by, ReadsItems}
+use Rattle.reader.specs.Lists.{Lists, listed, unlisted, refused-of}
 use Rattle.reader.specs.Items.{looped}
 
 -- ---------------------------------------------------------------- what a list says
@@ -71,10 +69,6 @@ up-arguments σ =
     up-to-E-is (one-more argument) (λ x u. bind (bind (reading-ends ⟨template-arg⟩ u) λ t v h. bind (push-arg-keeps t v h) λ _ w k. agree.reads k) λ t v h. agree.reads h) [] σ
 
 module _ {A : Type 0} {f : Result A} where
-  pub closed-refused : {j : ℕ} → f ≡ refused j → onto closed f ≡ refused j
-  unfolding onto
-  closed-refused e = ap (onto closed) e
-
   pub closed-no : {ts : A} {τ : State} → f ≡ ok ts τ → starts (τ .rest) (69 ∷ []) ≡ false → onto closed f ≡ refused 4
   unfolding onto b
   closed-no {ts} {τ} e h = ap (onto closed) e ∙ ap (onto (λ _. return ts)) (need-no "E" τ h)
@@ -138,31 +132,6 @@ skips-to {s} {at} {e} {r} h f = (sym (h .is) ∙ ap (left-at s) f, subst (λ (x 
 pub skips-none : {s : Text} {at : ℕ} {r : Skipped} → Skips s at r → r ≡ skipped-as.End → skipped (drop at s) 1 ≡ none
 unfolding left-at
 skips-none {s} {at} {r} h f = sym (h .is) ∙ ap (left-at s) f
-
--- ---------------------------------------------------------------- lists from a later place, and texts given
-
-pub items-moved :
-    (kind : Kind) {at : ℕ} {s : Text} {m m' : Memory} {p q : Parser} {r : Texts} {σ : State} →
-    q ≡ moved-to p at → ReadsItems kind s m m' q r → Holds s m p σ → at ≤ length s →
-    Lists (kept-by kind (p .depth)) (p .depth) s (window m p) at m' r (looped kind [] (moved (drop at s) σ))
-items-moved kind {at} {s} {m} {m'} {p} {q} {r} {σ} e h g l = subst (λ (x : Parser). ReadsItems kind s m m' x r) e h (moved (drop at s) σ) (holds-moved g at l)
-
-pub stands-moved :
-    {k d : ℕ} {s base : Text} {from : ℕ} {m : Memory} {p q : Parser} {n : ℕ} {t : Text} {τ : State} (at : ℕ) →
-    q ≡ moved-to p at → Stands k d s base from m p n t τ → p .at ≤ at → at ≤ length s → Stands k d s base from m q n t (moved (drop at s) τ)
-stands-moved {k} {d} {s} {base} {from} {m} {p} {q} {n} {t} {τ} at e h l u =
-    subst (λ (x : Parser). Stands k d s base from m x n t (moved (drop at s) τ)) (sym e) (record {
-      holds = holds-moved (h .holds) at u;
-      tail = h .tail;
-      size = h .size;
-      level = h .level;
-      more = omega (arith, h .more);
-      least = h .least;
-      most = h .most;
-    })
-
-pub gives-by : {k d : ℕ} {s base : Text} {from : ℕ} {m : Memory} {q : Parser} {n : ℕ} {t : Text} {τ : State} {r : Read} → r ≡ given-of q n → Stands k d s base from m q n t τ → Refines k d s base from m r (give t τ)
-gives-by {k} {d} {s} {base} {from} {m} {q} {n} {t} {τ} {r} e h = subst (λ (x : Read). Refines k d s base from m x (give t τ)) (sym e) (given-refines h)
 
 -- ---------------------------------------------------------------- lists of template arguments
 

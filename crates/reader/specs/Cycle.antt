@@ -1,17 +1,15 @@
 -- What the members of the cycle promise.
-use mathlib.Core.Bool.{Bool, false}
-use mathlib.Core.List.{List, [], _∷_, _++_}
+use mathlib.Core.List.{_∷_}
 use mathlib.Core.Option.{some}
 use mathlib.Core.Path.{_≡_}
 use Prim.Native.Nat.{ℕ, _+_, _≤_}
 use Prim.Native.String.{String}
-use Rattle.grammar.specs.Text.{Text, b, holds, same, choose, if_then_else_}
+use Rattle.grammar.specs.Text.{Text}
 use lib.ListN.{length}
-use Rattle.grammar.specs.Tables.{wrappers, d-letters}
-use Rattle.grammar.specs.Reader.{State, Reader, find, by-code, give, refused, recorded}
-use Rattle.grammar.specs.Grammar.{reading, wrapped, slot, at-slots, literal, last, name-instance, type-instance}
-use Rattle.parser.specs.Holds.{Memory, mem, part, Holds, Stands, Refines, window, Reads, keep}
-use Rattle.parser.specs.States.{args-to}
+use Rattle.grammar.specs.Tables.{wrappers}
+use Rattle.grammar.specs.Reader.{State, Reader, find}
+use Rattle.grammar.specs.Grammar.{reading, wrapped, name-instance, type-instance}
+use Rattle.parser.specs.Holds.{Memory, Stands, Refines, Reads, keep}
 use Rattle.parser.specs.declared.state.Parser.{Parser}
 use Rattle.parser.specs.declared.state.Read.{Read}
 

@@ -7,19 +7,20 @@ use native.Mathlib.Omega.{arith}
 use lib.Dec.{T}
 use lib.ListN.{length, take, length-append}
 use Rattle.grammar.specs.Text.{Text, b, if_then_else_, same, join}
-use Rattle.grammar.specs.Reader.{State, Result, ok, Reader, onto, recorded, up-to-E, one-more}
+use Rattle.grammar.specs.Reader.{State, ok, Reader, onto, recorded, up-to-E, one-more}
 use Rattle.grammar.specs.Grammar.{reading, ⟨type⟩, slot, only-void}
 use Rattle.grammar.specs.Grammar as g
 use Rattle.grammar.specs.Laws.{same→eq}
 use Rattle.grammar.specs.Loops.{closed}
 use Rattle.store.specs.Stack.{Tail, Cut, newest}
-use Rattle.store.specs.Tails.{both, weaken, size, top-size, dropped}
+use Rattle.store.specs.Tails.{size, dropped}
 use Rattle.parser.specs.Holds.{Memory, mem, window, Wrote, Stands, Refines, Puts, Cuts, keep}
 use Rattle.parser.specs.Laws.{stands}
-use Rattle.parser.specs.Wraps.{stands-puts, holds-cuts, end-text}
+use Rattle.parser.specs.Wraps.{holds-cuts, end-text}
 use Rattle.parser.specs.declared.state.Parser.{Parser}
 use Rattle.parser.specs.declared.state.Read.{Read}
 use Rattle.reader.specs.declared.lists.Kind.the-variants.{Types}
+use Rattle.reader.specs.Standing.{stands-behind}
 use Rattle.reader.specs.Items.{looped}
 use Rattle.reader.specs.Closes.{up-types}
 
@@ -55,40 +56,12 @@ module _ (σ : State) where
 
 -- ---------------------------------------------------------------- the stack
 
-pub stands-joined :
-    {k k' d : ℕ} {s base : Text} {from from' : ℕ} {m m' : Memory} {p p' : Parser} {n n' : ℕ} {t u : Text} {σ σ' : State} →
-    Stands k d s base from m p n t σ → Stands k' (p .depth) s (window m p) from' m' p' n' u σ' → k ≤ k' → from ≤ from' →
-    Stands k d s base from m' p' (min (n + n') 65536) (t ++ u) σ'
-stands-joined {base = base} {t = t} {u = u} h w l i = record {
-  holds = w .holds;
-  tail = both base t u (h .tail) (weaken l (w .tail));
-  size = omega (arith, h .size, w .size, length-append t u);
-  level = w .level ∙ h .level;
-  more = omega (arith, w .more, i);
-  least = h .least;
-  most = h .most;
-}
-
-pub stands-least : {k d : ℕ} {s base : Text} {from : ℕ} {m : Memory} {p : Parser} {n : ℕ} {t : Text} {σ : State} → Stands k d s base from m p n t σ → min n 32768 ≤ p .top
-stands-least {base = base} {t = t} h = omega (arith, h .least, h .tail .most, size (h .tail), top-size (h .holds .text), length-append base t, h .size)
-
 pub func-stands :
     {d : ℕ} {s base : Text} {from : ℕ} {text text' store ends : Text} {m : Memory} {q o last : Parser} {r n : ℕ} {t u : Text} {τ ρ : State} →
     Wrote (keep (d + 1)) d s base from (mem text store ends) q r t τ → Puts text text' q o opening → d ≤ 96 →
     Stands (keep (o .depth + 1)) (o .depth) s (window (mem text' store ends) o) (o .at) m last n u ρ →
     Stands (keep (d + 1)) d s base from m last (min (r + (5 + n)) 65536) (t ++ (opening ++ u)) ρ
-func-stands {d} {s} {base} {from} {text} {text'} {store} {ends} {m} {q} {o} {last} {r} {n} {t} {u} {τ} {ρ} w v l z =
-    let a = stands-puts (stands w (omega arith) (omega arith)) v refl in
-    let x = stands-joined a z (omega (arith, a .level)) (a .more) in
-    record {
-      holds = z .holds;
-      tail = subst (λ (y : Text). Tail (keep (d + 1)) (window m last) (base ++ y)) (append-assoc t opening u) (x .tail);
-      size = omega (arith, w .size, z .size, length-append t (opening ++ u), length-append opening u);
-      level = x .level;
-      more = x .more;
-      least = x .least;
-      most = x .most;
-    }
+func-stands w v l z = stands-behind (stands w (omega arith) (omega arith)) v z (omega (arith, ap (λ (y : Parser). y .depth) (v .same), w .level)) (omega (arith, ap (λ (y : Parser). y .at) (v .same), w .more))
 
 pub func-ended :
     {d : ℕ} {s base : Text} {from : ℕ} {m m' : Memory} {p : Parser} {r n count : ℕ} {x : Read} {σ : State} (t : Text) (ts : List Text) →

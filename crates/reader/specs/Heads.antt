@@ -1,44 +1,24 @@
 -- Laws of the byte that a type begins with. Assumes nothing.
 use mathlib.Core.Bool.{Bool, true, false, _&&_}
-use mathlib.Core.List.{List, [], _∷_}
+use mathlib.Core.List.{[], _∷_}
 use mathlib.Core.Logic.{_⊎_, inl, inr}
-use mathlib.Core.Option.{Option, none, some}
-use mathlib.Core.Path.{_≡_, refl, sym, ap, _∙_, subst}
+use mathlib.Core.Option.{none}
+use mathlib.Core.Path.{_≡_, refl, sym, subst}
 use Prim.Native.Nat.{ℕ, _+_, _-_, _≤_, _<_}
 use Prim.Native.String.{String}
 use native.Mathlib.Omega.{arith}
-use borrow.Author.Tests.{ne-eqb, leb-true, leb-false, le-leb, lt-leb, le-ltb}
+use borrow.Author.Tests.{ne-eqb, leb-true, leb-false, le-leb, le-ltb, lt-ltb}
 use lib.Dec.{eqb, leb, ltb}
-use lib.ListN.{length, drop}
 use Rattle.grammar.specs.Text.{Text, b, holds, starts, digit, digit-value, if_then_else_}
 use Rattle.grammar.specs.Tables.{letters, wrappers}
-use Rattle.grammar.specs.Reader.{State, Reader, find}
-use Rattle.grammar.specs.Agree.{moved}
+use Rattle.grammar.specs.Reader.{find}
 use Rattle.grammar.specs.Finds.{all-of}
 use Rattle.grammar.specs.Steps.{no-word, type-heads}
 use Rattle.grammar.specs.Words.{Picks}
 use Rattle.grammar.specs.declared.codes.Picked.{Picked}
-use Rattle.grammar.specs.declared.codes.Picked.the-variants.{At, Nothing}
-use Rattle.parser.specs.declared.state.Parser.{Parser}
-use Rattle.parser.specs.declared.state.Read.{Read}
-use Rattle.parser.specs.States.{moved-to}
-use Rattle.parser.specs.Holds.{Memory, window, Holds, Refines, Reads, keep}
-use Rattle.parser.specs.Laws.{holds-moved}
+use Rattle.grammar.specs.declared.codes.Picked.the-variants.{Nothing}
 use Rattle.parser.specs.Wraps.{picked-none}
 use Rattle.reader.specs.Cycle.{Wraps}
-
--- ---------------------------------------------------------------- readings from the next place
-
-module _ {f : Reader Text} {at : ℕ} {s : Text} {m m' : Memory} {p q : Parser} {r : Read} {σ : State} (e : q ≡ moved-to p at) where
-  pub inner-at :
-      Reads f (keep (q .depth)) (q .at + 1) s m m' q r → Holds s m p σ → at ≤ length s →
-      Refines (keep (p .depth)) (p .depth) s (window m p) (at + 1) m' r (f (moved (drop at s) σ))
-  inner-at h g l = subst (λ (x : Parser). Reads f (keep (x .depth)) (x .at + 1) s m m' x r) e h (moved (drop at s) σ) (holds-moved g at l)
-
-  pub leaf-at :
-      {k : ℕ} → Reads f k (q .at + 1) s m m' q r → Holds s m p σ → at ≤ length s →
-      Refines k (p .depth) s (window m p) (at + 1) m' r (f (moved (drop at s) σ))
-  leaf-at {k} h g l = subst (λ (x : Parser). Reads f k (x .at + 1) s m m' x r) e h (moved (drop at s) σ) (holds-moved g at l)
 
 -- ---------------------------------------------------------------- letters and wrappers
 
@@ -49,34 +29,6 @@ no-letter c r h e = no-word letters c r tt (picked-none h e)
 -- the row of a wrapper's byte
 abbrev pub Row-of : ℕ → Type 0
 Row-of c = (u : String × String) × (Wraps c u × (eqb c 68 ≡ false))
-
-row-C : Row-of 67
-unfolding find wrappers starts b if_then_else_
-row-C = ((" complex", ""), ((λ t. refl), refl))
-
-row-K : Row-of 75
-unfolding find wrappers starts b if_then_else_
-row-K = ((" const", " const"), ((λ t. refl), refl))
-
-row-R : Row-of 82
-unfolding find wrappers starts b if_then_else_
-row-R = (("&", "&"), ((λ t. refl), refl))
-
-row-V : Row-of 86
-unfolding find wrappers starts b if_then_else_
-row-V = ((" volatile", " volatile"), ((λ t. refl), refl))
-
-row-r : Row-of 114
-unfolding find wrappers starts b if_then_else_
-row-r = ((" restrict", ""), ((λ t. refl), refl))
-
-row-O : Row-of 79
-unfolding find wrappers starts b if_then_else_
-row-O = (("&&", "&&"), ((λ t. refl), refl))
-
-row-P : Row-of 80
-unfolding find wrappers starts b if_then_else_
-row-P = (("*", "*"), ((λ t. refl), refl))
 
 pub either : {A B C : Type 0} → A ⊎ B → (A → C) → (B → C) → C
 either (inl x) f g = f x
@@ -89,19 +41,21 @@ abbrev pub Lettered : ℕ → Type 0
 Lettered c = (c ≡ 67) ⊎ ((c ≡ 75) ⊎ ((c ≡ 82) ⊎ ((c ≡ 86) ⊎ (c ≡ 114))))
 
 pub lettered-row : (c : ℕ) → Lettered c → Row-of c
-lettered-row c (inl e) = row-by e row-C
-lettered-row c (inr (inl e)) = row-by e row-K
-lettered-row c (inr (inr (inl e))) = row-by e row-R
-lettered-row c (inr (inr (inr (inl e)))) = row-by e row-V
-lettered-row c (inr (inr (inr (inr e)))) = row-by e row-r
+unfolding find wrappers starts b if_then_else_
+lettered-row c (inl e) = row-by e ((" complex", ""), ((λ t. refl), refl))
+lettered-row c (inr (inl e)) = row-by e ((" const", " const"), ((λ t. refl), refl))
+lettered-row c (inr (inr (inl e))) = row-by e (("&", "&"), ((λ t. refl), refl))
+lettered-row c (inr (inr (inr (inl e)))) = row-by e ((" volatile", " volatile"), ((λ t. refl), refl))
+lettered-row c (inr (inr (inr (inr e)))) = row-by e ((" restrict", ""), ((λ t. refl), refl))
 
 -- O and P, which the code finds by their neighbours
 pub between-row : (c : ℕ) → (c ≡ 77 → ⊥) → (c ≡ 78 → ⊥) → 77 ≤ c → c < 81 → Row-of c
+unfolding find wrappers starts b if_then_else_
 between-row c i j l k = first (leb c 77) refl
   where
     third : (q : Bool) → leb c 79 ≡ q → 79 ≤ c → Row-of c
-    third true e a = row-by {c = c} {k = 79} (omega (arith, leb-true c 79 e)) row-O
-    third false e a = row-by {c = c} {k = 80} (omega (arith, leb-false c 79 e)) row-P
+    third true e a = row-by {c = c} {k = 79} (omega (arith, leb-true c 79 e)) (("&&", "&&"), ((λ t. refl), refl))
+    third false e a = row-by {c = c} {k = 80} (omega (arith, leb-false c 79 e)) (("*", "*"), ((λ t. refl), refl))
 
     second : (q : Bool) → leb c 78 ≡ q → 78 ≤ c → Row-of c
     second true e a = absurd (j (omega (arith, leb-true c 78 e)))
@@ -157,3 +111,7 @@ digit-not c l = go (leb 48 c) (leb c 57) refl refl
     go true true e f = absurd (omega (arith, l (leb-true 48 c e), leb-true c 57 f))
     go true false e f = rw (e, f) (le-ltb _ 10 (ten-more (leb 65 c && leb c 90) (leb 97 c && leb c 122) c))
     go false r e f = rw e (le-ltb _ 10 (ten-more (leb 65 c && leb c 90) (leb 97 c && leb c 122) c))
+
+pub digit-in : (c : ℕ) → 48 ≤ c → c < 58 → digit 10 c ≡ true
+unfolding digit digit-value if_then_else_
+digit-in c h l = rw (le-leb c 57 (omega arith), le-leb 48 c (omega arith)) (lt-ltb (c - 48) 10 (omega arith))

@@ -1,24 +1,22 @@
 -- A list of texts as far as it is read: the loop of the definition from the start is the loop from here. Assumes nothing.
-use mathlib.Core.Bool.{Bool, true, false, not, _&&_, _||_, and-true}
-use mathlib.Core.List.{List, [], _∷_, _++_, append-assoc, append-nil}
+use mathlib.Core.Bool.{Bool, true, false, not, _&&_, and-true}
+use mathlib.Core.List.{List, [], _∷_, _++_}
 use mathlib.Core.Path.{_≡_, refl, sym, ap, _∙_, subst}
-use Prim.Native.Nat.{ℕ, zero, suc, _+_, _*_, _≤_, _<_, min}
+use Prim.Native.Nat.{ℕ, _+_, _*_, _≤_, _<_, min}
 use native.Mathlib.Omega.{arith}
 use lib.Dec.{eqb}
-use lib.ListN.{length, take, drop, length-append}
+use lib.ListN.{length, take, drop, length-append, length-drop}
+use lib.Seq.{drop-drop}
 use Rattle.grammar.specs.Text.{Text, b, if_then_else_, same, starts, join}
 use Rattle.grammar.specs.Reader.{State, Result, ok, refused, Reader, onto, return, push-arg, while, one-more}
 use Rattle.grammar.specs.Grammar.{reading, ⟨type⟩, ⟨template-arg⟩, ended}
 use Rattle.grammar.specs.Laws.{starts-nothing}
-use Rattle.grammar.specs.Loops.{Stepped, argument, before-E, items-loop, args-loop}
-use Rattle.store.specs.Stack.{Clean, Tail}
-use Rattle.store.specs.Tails.{whole, both}
+use Rattle.grammar.specs.Loops.{Stepped, before-E, items-loop, args-loop}
+use Rattle.store.specs.Stack.{Clean}
 use Rattle.parser.specs.Holds.{Memory, mem, Holds, Wrote, Stands, Reads, Refines, reads, refuses, Puts, Pushes, pushed, full, window, keep}
-use Rattle.parser.specs.Halves.{store-size, ends-size}
-use Rattle.parser.specs.Laws.{by, tail-puts, holds-puts, refused-on, Got, got}
+use Rattle.parser.specs.Laws.{by, holds-puts, refused-on, Got, got}
 use Rattle.parser.specs.States.{peeked, args-to}
 use Rattle.parser.specs.declared.state.Parser.{Parser}
-use Rattle.parser.specs.declared.state.Peeked.{Peeked}
 use Rattle.parser.specs.declared.state.Peeked.the-variants as peeked-as
 use Rattle.parser.specs.declared.state.Read.{Read}
 use Rattle.parser.specs.declared.state.Read.the-variants.{Text as read, Refused}
@@ -26,6 +24,8 @@ use Rattle.reader.specs.declared.lists.Kind.{Kind}
 use Rattle.reader.specs.declared.lists.Kind.the-variants.{Parameters, Types, Arguments}
 use Rattle.reader.specs.declared.lists.Texts.{Texts}
 use Rattle.reader.specs.declared.lists.Texts.the-variants as items-as
+use Rattle.reader.specs.Separators.{join-more, before-size, puts-some, puts-none}
+use Rattle.reader.specs.Standing.{same-sizes, stands-nothing, stands-sized, wrote-kept, wrote-behind}
 use Rattle.reader.specs.Lists.{goes-on, item-of, kept-by, stops-at, Lists, listed, unlisted, unlisted-of, before-text}
 
 -- ---------------------------------------------------------------- the next byte
@@ -38,7 +38,26 @@ pub peek-end : (t : Text) → peeked t ≡ peeked-as.End → t ≡ []
 peek-end [] e = refl
 peek-end (x ∷ t) e = let z : _≡_ {A = ℕ} 0 1 = cc in absurd (omega arith)
 
+module _ (s : Text) (at : ℕ) {c : ℕ} (e : peeked (drop at s) ≡ peeked-as.Byte c) where
+  pub byte-there : drop at s ≡ c ∷ drop (at + 1) s
+  byte-there = peek-byte (drop at s) e ∙ ap (λ (t : Text). c ∷ t) (drop-drop 1 at s)
+
+  pub byte-within : at < length s
+  byte-within = omega (arith, length-drop at s, ap length (peek-byte (drop at s) e))
+
 -- ---------------------------------------------------------------- the loop, one step at a time
+
+module _ {A : Type 0} (on : Text → Bool) (step : A → Reader A) (x : A) (σ : State) (is : while on step x σ ≡ Stepped on step x σ) where
+  abbrev stepped : Bool → Result A
+  stepped q = if_then_else_ {A = Reader A} q (λ u. onto (λ y. while on step y) (step x u)) (return x) σ
+
+  pub while-stops : on (σ .rest) ≡ false → while on step x σ ≡ ok x σ
+  unfolding if_then_else_
+  while-stops e = is ∙ ap stepped e
+
+  pub while-goes : on (σ .rest) ≡ true → while on step x σ ≡ onto (λ y. while on step y) (step x σ)
+  unfolding if_then_else_
+  while-goes e = is ∙ ap stepped e
 
 abbrev pub looped : Kind → List Text → Reader (List Text)
 looped kind l = while (goes-on kind) (one-more (item-of kind)) l
@@ -49,20 +68,19 @@ loop-is Types l σ = items-loop ⟨type⟩ (goes-on Types) l σ
 loop-is Arguments l σ = args-loop (goes-on Arguments) l σ
 
 module _ (kind : Kind) (l : List Text) (σ : State) where
-  abbrev stepped : Bool → Result (List Text)
-  stepped q = if_then_else_ {A = Reader (List Text)} q (λ u. onto (λ y. looped kind y) (one-more (item-of kind) l u)) (return l) σ
-
   pub loop-stops : goes-on kind (σ .rest) ≡ false → looped kind l σ ≡ ok l σ
-  unfolding if_then_else_
-  loop-stops e = loop-is kind l σ ∙ ap stepped e
+  loop-stops e = while-stops (goes-on kind) (one-more (item-of kind)) l σ (loop-is kind l σ) e
+
+  goes : {r : Result Text} → goes-on kind (σ .rest) ≡ true → item-of kind σ ≡ r → looped kind l σ ≡ onto (λ y. looped kind y) (onto (λ t. return (l ++ (t ∷ []))) r)
+  goes e f = while-goes (goes-on kind) (one-more (item-of kind)) l σ (loop-is kind l σ) e ∙ ap (λ (r : Result Text). onto (λ y. looped kind y) (onto (λ t. return (l ++ (t ∷ []))) r)) f
 
   pub loop-goes : {t : Text} {τ : State} → goes-on kind (σ .rest) ≡ true → item-of kind σ ≡ ok t τ → looped kind l σ ≡ looped kind (l ++ (t ∷ [])) τ
-  unfolding if_then_else_ onto
-  loop-goes e f = loop-is kind l σ ∙ ap stepped e ∙ ap (λ (r : Result Text). onto (λ y. looped kind y) (onto (λ t. return (l ++ (t ∷ []))) r)) f
+  unfolding onto
+  loop-goes e f = goes e f
 
   pub loop-refuses : {r : ℕ} → goes-on kind (σ .rest) ≡ true → item-of kind σ ≡ refused r → looped kind l σ ≡ refused r
-  unfolding if_then_else_ onto
-  loop-refuses e f = loop-is kind l σ ∙ ap stepped e ∙ ap (λ (r : Result Text). onto (λ y. looped kind y) (onto (λ t. return (l ++ (t ∷ []))) r)) f
+  unfolding onto
+  loop-refuses e f = goes e f
 
 pub ends-on : (kind : Kind) {t : Text} → t ≡ [] → goes-on kind t ≡ false
 unfolding ended before-E same
@@ -79,19 +97,6 @@ unfolding ended before-E same b
 on-byte Parameters c {t} {u} e f = rw e (ap not (one-byte c 46 u ∙ f))
 on-byte Types c {t} {u} e f = rw e (ap not (one-byte c 69 u ∙ f))
 on-byte Arguments c {t} {u} e f = rw e (ap not (one-byte c 69 u ∙ f))
-
--- ---------------------------------------------------------------- texts with ", " between them
-
-comma-size : (n : ℕ) → length (before-text n) ≡ 2 * min n 1
-unfolding b
-comma-size zero = refl
-comma-size (suc n) = omega arith
-
-pub join-more : (ts : List Text) (t : Text) → join (b ", ") (ts ++ (t ∷ [])) ≡ (join (b ", ") ts ++ before-text (length ts)) ++ t
-unfolding join
-join-more [] t = refl
-join-more (x ∷ []) t = sym (append-assoc x (b ", ") t)
-join-more (x ∷ y ∷ ts) t = ap (λ (u : Text). x ++ (b ", " ++ u)) (join-more (y ∷ ts) t) ∙ simp append-assoc
 
 -- ---------------------------------------------------------------- the list so far
 
@@ -113,15 +118,7 @@ unfolding join
 listed-start kind {s} {m} {p} {σ} h = record {
   texts = [];
   state = σ;
-  stands = record {
-    holds = h;
-    tail = rw append-nil (whole _ (window m p));
-    size = omega arith;
-    level = refl;
-    more = omega arith;
-    least = kept-bounds kind (p .depth) (h .deep) .0;
-    most = kept-bounds kind (p .depth) (h .deep) .1;
-  };
+  stands = stands-nothing h (kept-bounds kind (p .depth) (h .deep) .0) (kept-bounds kind (p .depth) (h .deep) .1);
   count-is = refl;
   same = refl;
 }
@@ -153,6 +150,10 @@ module _ {kind : Kind} {s : Text} {m₀ : Memory} {p₀ : Parser} {m : Memory} {
       (sym (l .same ∙ loop-refuses kind (l .texts) (l .state) e (refused-is f h)))
       (subst (λ (x : Texts). Lists k' d' s'' base' from' m'' x (refused j)) (sym (g ∙ ap unlisted-of f)) unlisted)
 
+comma-size : (n : ℕ) → length (before-text n) ≡ 2 * min n 1
+unfolding b
+comma-size n = before-size (b ", ") refl n
+
 -- one text more, behind a comma if it is not the first
 pub listed-more :
     {kind : Kind} {s : Text} {m₀ : Memory} {p₀ : Parser} {text text' store ends : List ℕ} {m'' : Memory} {p q p'' : Parser} {n count x n' : ℕ} {σ₀ : State}
@@ -161,29 +162,14 @@ pub listed-more :
     n' ≡ min (n + (2 * min count 1 + x)) 65536 → Listed kind s m₀ p₀ m'' p'' n' (count + 1) σ₀
 listed-more {kind} {s} {m₀} {p₀} {text} {text'} {store} {ends} {m''} {p} {q} {p''} {n} {count} {x} {n'} {σ₀} l u i h e =
     let d : q .depth ≡ p₀ .depth = ap (λ (z : Parser). z .depth) (u .same) ∙ l .stands .level in
-    let w = h .wrote in
     let t : Text = h .said in
     let j : Text = join (b ", ") (l .texts) in
-    let a : Tail (kept-by kind (p₀ .depth)) (take (q .top) text') (window m₀ p₀ ++ (j ++ before-text count)) =
-    tail-puts u (window m₀ p₀) j (l .stands .holds) (l .stands .most) (l .stands .tail) in
-    let v : Tail (kept-by kind (p₀ .depth)) (take (p'' .top) (m'' .text)) (take (q .top) text' ++ t) =
-    subst (λ (z : ℕ). Tail (kept-by kind z) (take (p'' .top) (m'' .text)) (take (q .top) text' ++ t)) d (w .tail) in
-    let f : join (b ", ") (l .texts ++ (t ∷ [])) ≡ (j ++ before-text count) ++ t =
-    join-more (l .texts) t ∙ ap (λ (z : ℕ). (j ++ before-text z) ++ t) (sym (l .count-is)) in
-    let y : length ((j ++ before-text count) ++ t) ≡ length j + length (before-text count) + length t =
-    length-append (j ++ before-text count) t ∙ ap (λ (z : ℕ). z + length t) (length-append j (before-text count)) in
+    let f : join (b ", ") (l .texts ++ (t ∷ [])) ≡ j ++ (before-text count ++ t) = join-more (b ", ") count (l .texts) t (omega (arith, l .count-is)) in
+    let y = wrote-behind {to = p₀ .at} (l .stands) u (h .wrote) (omega (arith, ap (kept-by kind) d)) (omega (arith, l .stands .more, ap (λ (z : Parser). z .at) (u .same))) in
     record {
       texts = l .texts ++ (t ∷ []);
       state = h .state;
-      stands = record {
-        holds = w .holds;
-        tail = rw f (both (window m₀ p₀) (j ++ before-text count) t a v);
-        size = rw f (omega (arith, e, y, l .stands .size, w .size, comma-size count));
-        level = w .level ∙ d;
-        more = omega (arith, w .more, l .stands .more, ap (λ (z : Parser). z .at) (u .same));
-        least = l .stands .least;
-        most = l .stands .most;
-      };
+      stands = stands-sized n' y f (omega (arith, e, y .size, ap length f, comma-size count));
       count-is = omega (arith, l .count-is, length-append (l .texts) (t ∷ []));
       same = l .same ∙ loop-goes kind (l .texts) (l .state) i (h .is);
     }
@@ -195,32 +181,18 @@ pub record Spaced (text text' : Text) (p p' : Parser) (n n' count : ℕ) : Type 
   pub puts : Puts text text' p p' (before-text count)
   pub size : n' ≡ min (n + 2 * min count 1) 65536
 
-comma-some : (n : ℕ) → 0 < n → before-text n ≡ 44 ∷ 32 ∷ []
-unfolding b
-comma-some zero h = absurd (omega arith)
-comma-some (suc n) h = refl
-
-comma-none : (n : ℕ) → n ≤ 0 → before-text n ≡ []
-comma-none zero h = refl
-comma-none (suc n) h = absurd (omega arith)
-
-pub puts-comma : {text text' : Text} {p q : Parser} (n : ℕ) → 0 < n → Puts text text' p q (44 ∷ 32 ∷ []) → Puts text text' p q (before-text n)
-puts-comma n l u = rw (comma-some n l) u
-
-pub puts-no-comma : {text : Text} {p : Parser} (n : ℕ) → n ≤ 0 → Clean text (p .top) → Puts text text p p (before-text n)
-puts-no-comma {text} {p} n l c = rw (comma-none n l) (record { same = refl; put = record { lost = 0; most = omega arith; is = sym (append-nil (take (p .top) text)); clean = c } })
-
 pub spaced-some :
     {text text' text'' : Text} {p p' p'' : Parser} {n n' n'' count : ℕ} → 0 < count → Puts text text' p p' (44 ∷ 32 ∷ []) → n' ≡ min (n + 2) 65536 →
     text'' ≡ text' → p'' ≡ p' → n'' ≡ n' → Spaced text text'' p p'' n n'' count
-spaced-some {count = count} l u e f g h = rw (f, g, h) (record { puts = puts-comma count l u; size = omega arith })
+unfolding b
+spaced-some {count = count} l u e f g h = rw (f, g, h) (record { puts = puts-some (b ", ") count l u; size = omega arith })
 
 pub spaced-none :
     {text text'' : Text} {p p'' : Parser} {n n'' count : ℕ} → count ≤ 0 → Clean text (p .top) → n ≤ 65536 →
     text'' ≡ text → p'' ≡ p → n'' ≡ n → Spaced text text'' p p'' n n'' count
 spaced-none {text} {p = p} {count = count} l c e f g h =
     rw (f, g, h) (record {
-      puts = puts-no-comma count l c;
+      puts = puts-none (b ", ") count l c;
       size = omega arith;
     })
 
@@ -257,10 +229,11 @@ listing-more {kind} {s} {m₀} {p₀} {text} {text'} {store} {ends} {m''} {p} {q
     let l = i .so-far σ h in
     let w = got g (k (l .state) (holds-puts (u .puts) (l .stands .holds))) in
     let v = w .wrote .holds in
+    let z = same-sizes h v in
     record {
-      text-same = omega (arith, v .text .size, h .text .size);
-      store-same = omega (arith, store-size v, store-size h);
-      ends-same = omega (arith, ends-size v, ends-size h);
+      text-same = z .0;
+      store-same = z .1 .0;
+      ends-same = z .1 .1;
       far = omega (arith, i .far, w .wrote .more, ap (λ (z : Parser). z .at) (u .puts .same));
       inside = v .place;
       short = v .source;
@@ -290,5 +263,5 @@ argument-pushed {kind} {d} {s} {base} {from} {text} {store} {ends} {store'} {end
     by-kind σ e (by (ap (onto (λ x. λ (u : State). onto (λ _. return x) (push-arg x u))) f) (told h))
   where
     told : {v : Read} {g : Result (Unit {0})} → Pushes s (mem text store' ends') n (args-to p c b) v g → Refines (keep d) d s base from (mem text store' ends') v (onto (λ _. return t) g)
-    told (pushed h) = reads (record { holds = h; tail = w .tail; size = w .size; short = w .short; level = w .level; more = w .more })
+    told (pushed h) = reads (wrote-kept w (omega arith) h refl (w .level) (w .more))
     told full = refuses

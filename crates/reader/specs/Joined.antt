@@ -1,22 +1,22 @@
 -- Laws of the parts of a nested name: one part more, and arguments behind the last. Assumes nothing.
 use mathlib.Core.Bool.{Bool, true, false, _&&_, false≢true, and-false}
-use mathlib.Core.List.{List, [], _∷_, _++_, append-assoc, append-nil}
-use mathlib.Core.Option.{Option, none, some}
+use mathlib.Core.List.{List, [], _∷_, _++_}
+use mathlib.Core.Option.{some}
 use mathlib.Core.Path.{_≡_, refl, sym, ap, _∙_, subst}
-use Prim.Native.Nat.{ℕ, zero, suc, _+_, _*_, _≤_, _<_, min}
+use Prim.Native.Nat.{ℕ, _+_, _*_, _≤_, _<_, min}
 use native.Mathlib.Omega.{arith}
-use borrow.Author.Tests.{eq-eqb, ne-eqb, eqb-true, eqb-false, lt-leb}
+use borrow.Author.Tests.{eq-eqb, ne-eqb, lt-leb}
 use lib.Dec.{eqb, leb}
-use lib.ListN.{length, take, drop, length-append}
+use lib.ListN.{length, take, length-append}
 use Rattle.grammar.specs.Text.{Text, b, choose, join, starts, if_then_else_}
 use Rattle.grammar.specs.Reader.{State, Result, ok, refused, Reader, onto, see, bytes-of, fits, push-sub, find, at-code}
 use Rattle.grammar.specs.Grammar.{reading, Production, ⟨template-param⟩, ⟨unqualified-name⟩, ⟨substitution⟩, last, structor-ahead}
 use Rattle.grammar.specs.Grammar as g
-use Rattle.store.specs.Stack.{Clean, Tail}
-use Rattle.store.specs.Tails.{chain, weaken, size, top-size}
-use Rattle.parser.specs.Holds.{Memory, mem, Holds, Wrote, Stands, Refines, reads, refuses, Puts, Pushes, pushed, full, window, keep}
-use Rattle.parser.specs.Laws.{holds-puts}
-use Rattle.parser.specs.Wraps.{stands-puts, puts-top}
+use Rattle.store.specs.Entries.{bytes-append, bytes-one}
+use Rattle.store.specs.Stack.{Clean}
+use Rattle.store.specs.Tails.{size}
+use Rattle.parser.specs.Holds.{Memory, mem, Wrote, Refines, refuses, Puts, Pushes, pushed, full, keep}
+use Rattle.parser.specs.Wraps.{puts-top}
 use Rattle.parser.specs.States.{subs-to}
 use Rattle.parser.specs.declared.state.Parser.{Parser}
 use Rattle.parser.specs.declared.state.Read.{Read}
@@ -24,39 +24,16 @@ use Rattle.parser.specs.declared.state.Read.the-variants.{Text as read, Refused
 use Rattle.reader.specs.declared.lists.Parts.{Parts}
 use Rattle.reader.specs.declared.lists.Prefix.{Prefix}
 use Rattle.reader.specs.declared.lists.Prefix.the-variants as prefix-as
+use Rattle.reader.specs.Separators.{join-more, before-size}
+use Rattle.reader.specs.Standing.{parted-kept, stands-sized, wrote-behind, wrote-least}
 use Rattle.reader.specs.Items.{one-byte}
 use Rattle.reader.specs.Lists.{Alike, same-text, both-long, Parted, Parting, parted, unparted, before-part, longer-of, unread-of, part-of}
 
--- ---------------------------------------------------------------- what stands before a part
-
-pub puts-none : {text : Text} {p : Parser} (n : ℕ) → n ≡ 0 → Clean text (p .top) → Puts text text p p (before-part n)
-puts-none zero e c = record { same = refl; put = record { lost = 0; most = omega arith; is = sym (append-nil _); clean = c } }
-puts-none (suc n) e c = absurd (omega arith)
-
-pub puts-colons : {text text' : Text} {p p' : Parser} (n : ℕ) → 0 < n → Puts text text' p p' (58 ∷ 58 ∷ []) → Puts text text' p p' (before-part n)
-unfolding b
-puts-colons zero l u = absurd (omega arith)
-puts-colons (suc n) l u = u
+-- ---------------------------------------------------------------- one part more
 
 pub colons-size : (n : ℕ) → length (before-part n) ≡ 2 * min n 1
 unfolding b
-colons-size zero = refl
-colons-size (suc n) = omega arith
-
--- ---------------------------------------------------------------- one part more
-
-joined-behind : (t : Text) (ts : List Text) (x : Text) → join (b "::") ((t ∷ ts) ++ (x ∷ [])) ≡ join (b "::") (t ∷ ts) ++ (b "::" ++ x)
-unfolding join
-joined-behind t [] x = refl
-joined-behind t (u ∷ ts) x =
-    ap (λ (y : Text). t ++ (b "::" ++ y)) (joined-behind u ts x) ∙ simp append-assoc refl
-
-pub joined-more : (n : ℕ) (ts : List Text) (x : Text) → n ≡ min (length ts) 1 → join (b "::") (ts ++ (x ∷ [])) ≡ join (b "::") ts ++ (before-part n ++ x)
-unfolding join
-joined-more zero [] x e = refl
-joined-more (suc n) [] x e = absurd (omega arith)
-joined-more zero (t ∷ ts) x e = absurd (omega arith)
-joined-more (suc n) (t ∷ ts) x e = joined-behind t ts x
+colons-size n = before-size (b "::") refl n
 
 pub last-more : (ts : List Text) (x : Text) → last (ts ++ (x ∷ [])) ≡ some x
 unfolding last
@@ -71,9 +48,9 @@ pub alike-append : {u t : Text} (v : Text) → Alike u t → Alike (u ++ v) (t +
 alike-append v (same-text e) = same-text (ap (λ (y : Text). y ++ v) e)
 alike-append {u} {t} v (both-long i j) = both-long (omega (arith, length-append u v)) (omega (arith, length-append t v))
 
-pub shown-is : {u t : Text} → length t ≤ 32768 → Alike u t → u ≡ t
-shown-is l (same-text e) = e
-shown-is l (both-long i j) = absurd (omega arith)
+pub shown-is : {u t : Text} → (32768 < length u → 32768 < length t → ⊥) → Alike u t → u ≡ t
+shown-is n (same-text e) = e
+shown-is n (both-long i j) = absurd (n i j)
 
 pub parted-more :
     {s base text text₁ store ends : Text} {from : ℕ} {m' : Memory} {p p₁ p' : Parser} {q : Parts} {m : ℕ} {ps : g.Parts} {x : Text} {σ τ : State} →
@@ -84,23 +61,13 @@ unfolding choose
 parted-more {s} {base} {text} {text₁} {store} {ends} {from} {m'} {p} {p₁} {p'} {q} {m} {ps} {x} {σ} {τ} h u w =
     let z : Text = before-part (q .count) in
     let c = h .stands in
-    let a = stands-puts c {n₁ = min (length (h .shown ++ z)) 65536} u refl in
-    let e : join (b "::") (ps .texts ++ (x ∷ [])) ≡ join (b "::") (ps .texts) ++ (z ++ x) = joined-more (q .count) (ps .texts) x (h .count) in
+    let e : join (b "::") (ps .texts ++ (x ∷ [])) ≡ join (b "::") (ps .texts) ++ (z ++ x) = join-more (b "::") (q .count) (ps .texts) x (omega (arith, h .count)) in
     let d : p₁ .depth ≡ p .depth = ap (λ (r : Parser). r .depth) (u .same) in
     let i : p₁ .at ≡ p .at = ap (λ (r : Parser). r .at) (u .same) in
-    let v : Tail (keep (p .depth)) (window m' p') ((base ++ (h .shown ++ z)) ++ x) = chain x (a .tail) (weaken (omega arith) (w .tail)) in
-    let l : length (h .shown ++ (z ++ x)) ≡ length (h .shown) + (2 * min (q .count) 1 + m) = simp length-append (omega (arith, w .size, colons-size (q .count))) in
+    let y = wrote-behind {to = p .at + 1} c u w (omega arith) (omega arith) in
     record {
       shown = h .shown ++ (z ++ x);
-      stands = record {
-        holds = w .holds;
-        tail = simp append-assoc at v;
-        size = omega (arith, l, c .size);
-        level = w .level ∙ d;
-        more = omega (arith, w .more);
-        least = c .least;
-        most = c .most;
-      };
+      stands = stands-sized _ y refl (omega (arith, y .size, colons-size (q .count)));
       alike = rw e (alike-append (z ++ x) (h .alike));
       final = λ _. rw (last-more (ps .texts) x) (w .size);
       within = omega (arith, w .size, w .short);
@@ -142,34 +109,13 @@ unfolding onto
 pushed-on {k} {d} {n} {i} {s} {base} {from} {m} {m'} {p} {p'} {q} {ps} {σ} {r} {f} {c} {e} a t h u = told (subst (λ (x : Read). Pushes s m' n (subs-to p c e) x f) a u)
   where
     told : {p' : Parser} {i : ℕ} {f : Result (Unit {0})} → Pushes s m' n (subs-to p c e) (read p' i) f → Parting k d s base from m' (prefix-as.Parts p' q) (onto (λ _. λ (u : State). ok ps u) f)
-    told (pushed v) = parted {ps = ps} (record {
-      shown = h .shown;
-      stands = record {
-        holds = v;
-        tail = subst (λ (y : Text). Tail k (take (p .top) y) (base ++ h .shown)) (sym t) (h .stands .tail);
-        size = h .stands .size;
-        level = h .stands .level;
-        more = h .stands .more;
-        least = h .stands .least;
-        most = h .stands .most;
-      };
-      alike = h .alike;
-      final = h .final;
-      within = h .within;
-      count = h .count;
-      structor = h .structor;
-    })
+    told (pushed v) = parted {ps = ps} (parted-kept h v (ap (take (p .top)) t) refl (h .stands .more))
 
 -- ---------------------------------------------------------------- what an entry and an answer tell of the parts
 
-bytes-last : (l : List Text) (t : Text) → length t ≤ bytes-of (l ++ (t ∷ []))
-unfolding bytes-of
-bytes-last [] t = omega arith
-bytes-last (x ∷ l) t = omega (arith, bytes-last l t)
-
 long-unfit : (l : List Text) (t : Text) → 32768 < length t → fits (l ++ (t ∷ [])) ≡ false
 unfolding fits
-long-unfit l t i = ap (λ (q : Bool). leb (length (l ++ (t ∷ []))) 1024 && q) (lt-leb (bytes-of (l ++ (t ∷ []))) 32768 (omega (arith, bytes-last l t))) ∙ and-false (leb (length (l ++ (t ∷ []))) 1024)
+long-unfit l t i = ap (λ (q : Bool). leb (length (l ++ (t ∷ []))) 1024 && q) (lt-leb (bytes-of (l ++ (t ∷ []))) 32768 (omega (arith, bytes-append l (t ∷ []), bytes-one t))) ∙ and-false (leb (length (l ++ (t ∷ []))) 1024)
 
 pub push-long : (t : Text) (σ : State) → 32768 < length t → push-sub t σ ≡ refused 9
 unfolding push-sub onto if_then_else_
@@ -201,30 +147,19 @@ module _ (ps : g.Parts) (x : Text) (τ : State) where
   unfolding see onto if_then_else_
   behind-more e = rw e
 
-pub onto-ok : {A B : Type 0} (h : A → Reader B) {f : Result A} {x : A} {τ : State} → f ≡ ok x τ → onto h f ≡ h x τ
-unfolding onto
-onto-ok h e = ap (onto h) e
-
 -- ---------------------------------------------------------------- how many bytes are there
 
 pub more-top :
     {k d : ℕ} {s text text₁ : Text} {from : ℕ} {m' : Memory} {p p₁ p' : Parser} (q : Parts) {m : ℕ} {x : Text} {τ : State} →
     Clean text (p .top) → Puts text text₁ p p₁ (before-part (q .count)) → Wrote k d s (take (p₁ .top) text₁) from m' p' m x τ → 32768 ≤ k →
     min (q .n) 32768 ≤ p .top → min (min (q .n + (2 * min (q .count) 1 + m)) 65536) 32768 ≤ p' .top
-more-top {text = text} {text₁ = text₁} {m' = m'} {p₁ = p₁} {p' = p'} q {m = m} {x = x} c u w l i =
+more-top q c u w l i =
     let a = puts-top (min (q .n) 32768) c u i (omega arith) in
-    let z : length (take (p₁ .top) text₁) ≡ p₁ .top = top-size (u .put .clean) in
-    let v : length (take (p' .top) (m' .text)) ≡ p' .top = top-size (w .holds .text) in
-    omega (arith, a, z, v, size (w .tail), w .tail .most, length-append (take (p₁ .top) text₁) x, w .size, colons-size (q .count))
+    omega (arith, wrote-least (u .put .clean) w l (min (q .n) 32768 + length (before-part (q .count))) (omega (arith, a)), colons-size (q .count))
 
 -- the parts that a function hands back
 pub parted-as : {k d : ℕ} {s base : Text} {from : ℕ} {m : Memory} {p : Parser} {q q' : Parts} {ps : g.Parts} {σ : State} → q' ≡ q → Parted k d s base from m p q ps σ → Parted k d s base from m p q' ps σ
 parted-as {k} {d} {s} {base} {from} {m} {p} {q} {q'} {ps} {σ} e h = subst (λ (x : Parts). Parted k d s base from m p x ps σ) (sym e) h
-
--- what a test for an E says
-pub at-E : {s : Text} {m : Memory} {p : Parser} {σ : State} {r q : Bool} → Holds s m p σ → r ≡ starts (drop (p .at) s) (69 ∷ []) → r ≡ q → starts (σ .rest) (b "E") ≡ q
-unfolding b
-at-E h f g = ap (λ (t : Text). starts t (69 ∷ [])) (h .rest) ∙ sym f ∙ g
 
 -- ---------------------------------------------------------------- what a part is, by its first byte
 
@@ -255,13 +190,10 @@ module _ (ps : g.Parts) (σ : State) where
     unfolding g.prefix onto if_then_else_ at-code find choose
     by-I f i = rw (e, f, i)
 
-    by-T : starts (σ .rest) (b "S") ≡ false → starts (σ .rest) (b "I") ≡ false → starts (σ .rest) (b "T") ≡ true → g.prefix reading ps σ ≡ g.new-prefix reading ⟨template-param⟩ ps σ
+    by-new : (q : Bool) → starts (σ .rest) (b "S") ≡ false → starts (σ .rest) (b "I") ≡ false → starts (σ .rest) (b "T") ≡ q → g.prefix reading ps σ ≡ g.new-prefix reading (if q then ⟨template-param⟩ else ⟨unqualified-name⟩) ps σ
     unfolding g.prefix onto if_then_else_ at-code find choose
-    by-T f i j = rw (e, f, i, j)
-
-    by-none : starts (σ .rest) (b "S") ≡ false → starts (σ .rest) (b "I") ≡ false → starts (σ .rest) (b "T") ≡ false → g.prefix reading ps σ ≡ g.new-prefix reading ⟨unqualified-name⟩ ps σ
-    unfolding g.prefix onto if_then_else_ at-code find choose
-    by-none f i j = rw (e, f, i, j)
+    by-new true f i j = rw (e, f, i, j)
+    by-new false f i j = rw (e, f, i, j)
 
     module _ {c : ℕ} {t : Text} (r : σ .rest ≡ c ∷ t) where
       first : (x : ℕ) {q : Bool} → eqb c x ≡ q → starts (σ .rest) (x ∷ []) ≡ q
@@ -276,19 +208,11 @@ module _ (ps : g.Parts) (σ : State) where
       prefix-I f = by-I (first 83 (ne-eqb c 83 (λ z. omega (arith, f, z)))) (first 73 (eq-eqb c 73 f))
 
       pub prefix-new : (c ≡ 73 → ⊥) → (c ≡ 83 → ⊥) → g.prefix reading ps σ ≡ g.new-prefix reading (part-of c) ps σ
-      unfolding b
-      prefix-new i f = go (eqb c 84) refl
-        where
-          go : (q : Bool) → eqb c 84 ≡ q → g.prefix reading ps σ ≡ g.new-prefix reading (part-of c) ps σ
-          go true j = by-T (first 83 (ne-eqb c 83 f)) (first 73 (ne-eqb c 73 i)) (first 84 j) ∙ ap (λ (k : Production). g.new-prefix reading k ps σ) (sym (part-T c (eqb-true c 84 j)))
-          go false j = by-none (first 83 (ne-eqb c 83 f)) (first 73 (ne-eqb c 73 i)) (first 84 j) ∙ ap (λ (k : Production). g.new-prefix reading k ps σ) (sym (part-other c (eqb-false c 84 j)))
+      unfolding b part-of
+      prefix-new i f = by-new (eqb c 84) (first 83 (ne-eqb c 83 f)) (first 73 (ne-eqb c 73 i)) (first 84 refl)
 
 -- a constructor's two bytes
 pub two-bytes : (c : ℕ) (t : Text) → structor-ahead (c ∷ t) ≡ true → (x : ℕ) × ((u : Text) × (t ≡ x ∷ u))
 unfolding structor-ahead
 two-bytes c [] e = absurd (false≢true e)
 two-bytes c (x ∷ u) e = (x, (u, refl))
-
--- fewer bytes promised
-pub fewer : {j k d : ℕ} {s base : Text} {from : ℕ} {m : Memory} {p : Parser} {n : ℕ} {t : Text} {σ : State} → j ≤ k → Wrote k d s base from m p n t σ → Wrote j d s base from m p n t σ
-fewer l w = record { holds = w .holds; tail = weaken l (w .tail); size = w .size; short = w .short; level = w .level; more = w .more }

@@ -1,5 +1,7 @@
 pub mod Cycle
+pub mod Separators
 pub mod Lists
+pub mod Standing
 pub mod Opens
 pub mod Arrays
 pub mod Heads

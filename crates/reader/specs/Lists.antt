@@ -1,18 +1,17 @@
 -- Lists of texts, and the parts of a nested name, as the cycle keeps them.
 use mathlib.Core.Bool.{Bool, true, false, not, _&&_}
-use mathlib.Core.List.{List, [], _∷_, _++_}
-use mathlib.Core.Option.{Option, none, some}
+use mathlib.Core.List.{List, [], _∷_}
 use mathlib.Core.Path.{_≡_}
 use Prim.Native.Nat.{ℕ, zero, suc, _+_, _*_, _≤_, _<_, min}
 use Prim.Native.Char.{code}
 use lib.Dec.{eqb, ltb}
-use lib.ListN.{length, drop}
+use lib.ListN.{length}
 use Rattle.grammar.specs.Text.{Text, b, choose, join, if_then_else_}
 use Rattle.grammar.specs.Reader.{State, Result, ok, refused, Reader, while, one-more}
-use Rattle.grammar.specs.Grammar.{reading, Production, ⟨type⟩, ⟨template-arg⟩, ⟨template-param⟩, ⟨unqualified-name⟩, ended, skipped, last}
+use Rattle.grammar.specs.Grammar.{reading, Production, ⟨type⟩, ⟨template-param⟩, ⟨unqualified-name⟩, ended, last}
 use Rattle.grammar.specs.Grammar as g
 use Rattle.grammar.specs.Loops.{argument, before-E}
-use Rattle.parser.specs.Holds.{Memory, mem, Holds, Stands, Refines, Puts, Reads, window, keep}
+use Rattle.parser.specs.Holds.{Memory, mem, Holds, Stands, Puts, Reads, window, keep}
 use Rattle.parser.specs.declared.state.Parser.{Parser}
 use Rattle.parser.specs.declared.state.Read.{Read}
 use Rattle.parser.specs.declared.state.Read.the-variants.{Text as read, Refused}
@@ -23,6 +22,7 @@ use Rattle.reader.specs.declared.lists.Texts.the-variants as items-as
 use Rattle.reader.specs.declared.lists.Parts.{Parts}
 use Rattle.reader.specs.declared.lists.Prefix.{Prefix}
 use Rattle.reader.specs.declared.lists.Prefix.the-variants as prefix-as
+use Rattle.reader.specs.Separators.{before}
 
 -- where a list of a kind goes on, what one of its texts is, and how many bytes below it are kept
 abbrev pub goes-on : Kind → Text → Bool
@@ -101,8 +101,7 @@ ReadsItem kind s m m' p r = Reads (item-of kind) (kept-by kind (p .depth)) (p .a
 
 -- what stands before another text, where those so far have so many bytes with two more for each
 abbrev pub before-text : ℕ → Text
-before-text zero = []
-before-text (suc n) = b ", "
+before-text n = before (b ", ") n
 
 -- at an E: the outermost pack ends, or one that is too long
 abbrev pub ends-pack : ℕ → ℕ → Bool
@@ -115,8 +114,7 @@ opens-pack level c = eqb c 74 && ltb level 64
 
 -- what stands before another part
 abbrev pub before-part : ℕ → Text
-before-part zero = []
-before-part (suc n) = b "::"
+before-part n = before (b "::") n
 
 abbrev pub Separates : Text → Text → Parser → Parts → Parser → Type 0
 Separates text text' p q r = Puts text text' p r (before-part (q .count))

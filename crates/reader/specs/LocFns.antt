@@ -2,21 +2,20 @@
 use mathlib.Core.Bool.{Bool, true, false}
 use mathlib.Core.List.{List, [], _∷_, _++_, append-nil, append-assoc}
 use mathlib.Core.Path.{_≡_, refl, sym, ap, _∙_, subst}
-use Prim.Native.Nat.{ℕ, _+_, _≤_, _<_, min}
+use Prim.Native.Nat.{ℕ, _+_, _≤_, _<_}
 use native.Mathlib.Omega.{arith}
-use lib.ListN.{length, take, drop, length-append}
+use lib.ListN.{length, drop, length-append}
 use Rattle.grammar.specs.Text.{Text, b, if_then_else_, starts, join}
-use Rattle.grammar.specs.Reader.{State, Result, ok, refused, Reader, onto, give, see, need, while, one-more}
+use Rattle.grammar.specs.Reader.{State, Result, ok, Reader, onto, give, see, need, while, one-more}
 use Rattle.grammar.specs.Grammar.{reading, local-encoding, ⟨name⟩, ⟨type⟩}
 use Rattle.grammar.specs.Agree.{moved}
 use Rattle.grammar.specs.Loops.{before-E}
-use Rattle.store.specs.Tails.{weaken, both}
 use Rattle.parser.specs.declared.state.Parser.{Parser}
 use Rattle.parser.specs.declared.state.Read.{Read}
 use Rattle.parser.specs.declared.state.Read.the-variants.{Text as read, Refused}
 use Rattle.parser.specs.States.{moved-to}
-use Rattle.parser.specs.Holds.{Memory, mem, window, Holds, Wrote, Stands, Refines, refuses, Reads, Puts, keep, given-of}
-use Rattle.parser.specs.Laws.{by, answers, Got, got, refused-on, less, given-refines, holds-moved, holds-puts, stands, short-enough}
+use Rattle.parser.specs.Holds.{Memory, mem, window, Holds, Stands, Refines, refuses, Reads, Puts, keep, given-of}
+use Rattle.parser.specs.Laws.{by, answers, Got, got, refused-on, less, sooner, given-refines, holds-puts, stands, short-enough}
 use Rattle.parser.specs.Adds.{puts-from}
 use Rattle.parser.specs.Wraps.{stands-puts}
 use Rattle.parser.specs.Halves.{give-short, give-long}
@@ -24,8 +23,9 @@ use Rattle.parser.specs.Runs.{need-here, need-not, starts-inside}
 use Rattle.reader.specs.declared.lists.Kind.the-variants.{Types}
 use Rattle.reader.specs.declared.lists.Texts.{Texts}
 use Rattle.reader.specs.declared.lists.Texts.the-variants as items-as
-use Rattle.reader.specs.Lists.{Lists, listed, unlisted, ReadsItems, refused-of}
-use Rattle.reader.specs.Lits.{wrote-moved}
+use Rattle.reader.specs.Lists.{Lists, ReadsItems, refused-of}
+use Rattle.reader.specs.Standing.{stands-moved, wrote-moved, joined}
+use Rattle.reader.specs.Closes.{GotList, got-list, list-refused, then-refused, refuses-list}
 
 -- ---------------------------------------------------------------- the definition
 
@@ -68,65 +68,11 @@ module _ (n : Text) (s : Text) (at : ℕ) (σ : State) (e : σ .rest ≡ drop at
 
 -- ---------------------------------------------------------------- lists
 
--- what an answer with a list says
-pub record Listing (k d : ℕ) (s base : Text) (from : ℕ) (m : Memory) (p : Parser) (n : ℕ) (f : Result (List Text)) : Type 0 where
-  pub said : List Text
-  pub state : State
-  pub stands : Stands k d s base from m p n (join (b ", ") said) state
-  pub is : f ≡ ok said state
-
-pub listing : {k d : ℕ} {s base : Text} {from : ℕ} {m : Memory} {r : Texts} {f : Result (List Text)} {p : Parser} {n count : ℕ} → r ≡ items-as.Listed p n count → Lists k d s base from m r f → Listing k d s base from m p n f
-listing {k} {d} {s} {base} {from} {m} {r} {f} {p} {n} {count} e h = told (subst (λ (x : Texts). Lists k d s base from m x f) e h)
-  where
-    told : {f : Result (List Text)} → Lists k d s base from m (items-as.Listed p n count) f → Listing k d s base from m p n f
-    told (listed {ts = ts} {σ = σ} w i) = record { said = ts; state = σ; stands = w; is = refl }
-
 -- a list that was refused is the whole answer
 pub unlisted-on :
     {k d k' d' : ℕ} {s base s' base' : Text} {from from' : ℕ} {m m' : Memory} {r : Texts} {v : Read} {f : Result (List Text)} {j : ℕ} (g : List Text → Reader Text) (g' : Text → Reader Text) →
     r ≡ items-as.Refused j → v ≡ refused-of r → Lists k d s base from m r f → Refines k' d' s' base' from' m' v (onto g' (onto g f))
-unfolding onto
-unlisted-on {k} {d} {k'} {d'} {s} {base} {s'} {base'} {from} {from'} {m} {m'} {r} {v} {f} {j} g g' e i h =
-    subst (λ (x : Read). Refines k' d' s' base' from' m' x (onto g' (onto g f))) (sym (i ∙ ap refused-of e)) (told (subst (λ (x : Texts). Lists k d s base from m x f) e h))
-  where
-    told : {f : Result (List Text)} → Lists k d s base from m (items-as.Refused j) f → Refines k' d' s' base' from' m' (Refused j) (onto g' (onto g f))
-    told unlisted = refuses
-
-stands-moved :
-    {k d : ℕ} {s base : Text} {from to : ℕ} {m : Memory} {p : Parser} {n : ℕ} {t : Text} {σ : State} (at : ℕ) →
-    Stands k d s base to m p n t σ → from ≤ at → at ≤ length s → Stands k d s base from m (moved-to p at) n t (moved (drop at s) σ)
-stands-moved at w u v = record {
-  holds = holds-moved (w .holds) at v;
-  tail = w .tail;
-  size = w .size;
-  level = w .level;
-  more = u;
-  least = w .least;
-  most = w .most;
-}
-
--- a text read behind another
-behind :
-    {k k' d : ℕ} {s base : Text} {from from' : ℕ} {m m' : Memory} {p p' : Parser} {n n' : ℕ} {t u : Text} {σ σ' : State} →
-    Stands k d s base from m p n t σ → Wrote k' (p .depth) s (window m p) from' m' p' n' u σ' → k ≤ k' → length t ≤ 32768 →
-    Stands k d s base from' m' p' (n + n') (t ++ u) σ'
-behind {base = base} {t = t} {u = u} h w l i = record {
-  holds = w .holds;
-  tail = both base t u (h .tail) (weaken l (w .tail));
-  size = omega (arith, h .size, w .size, w .short, length-append t u);
-  level = w .level ∙ h .level;
-  more = w .more;
-  least = h .least;
-  most = h .most;
-}
-
-one : (t : Text) → length (t ++ b "(") ≡ length t + 1
-unfolding b
-one t = length-append t (b "(")
-
-one-close : (t : Text) → length (t ++ b ")") ≡ length t + 1
-unfolding b
-one-close t = length-append t (b ")")
+unlisted-on g g' e i h = by (then-refused g' (then-refused g (list-refused e h))) (refuses-list e i)
 
 regroup : (t w : Text) → ((t ++ b "(") ++ w) ++ b ")" ≡ t ++ ((b "(" ++ w) ++ b ")")
 regroup t w = ap (λ (x : Text). x ++ b ")") (append-assoc t (b "(") w) ∙ append-assoc t (b "(" ++ w) (b ")")
@@ -164,20 +110,21 @@ module _ {s : Text} {m : Memory} {p : Parser} {σ : State} (h : Holds s m p σ) 
       fn-items-ready = holds-puts u (fn-got .wrote .holds)
 
       opened : Stands (keep (p .depth)) (p .depth) s (window m p) (p .at + 1) (mem text₂ store₁ ends₁) o (n + 1) (fn-got .said ++ b "(") (fn-got .state)
+      unfolding b
       opened =
           let w = fn-got .wrote in
-          stands-puts (stands w (omega arith) (omega (arith, h .deep))) u (omega (arith, one (fn-got .said), w .size, w .short))
+          stands-puts (stands w (omega arith) (omega (arith, h .deep))) u (omega (arith, length-append (fn-got .said) (b "("), w .size, w .short))
 
       module _ {text₃ store₃ ends₃ : Text} {r₂ : Texts} (f₂ : ReadsItems Types s (mem text₂ store₁ ends₁) (mem text₃ store₃ ends₃) o r₂) where
         pub fn-items-refused : {j : ℕ} {v : Read} → r₂ ≡ items-as.Refused j → v ≡ refused-of r₂ → Encoded s m (mem text₃ store₃ ends₃) p v σ
         fn-items-refused i g = by opened-is (unlisted-on listed-on (closing (fn-got .said)) i g (f₂ (fn-got .state) fn-items-ready))
 
         module _ {last : Parser} {k count : ℕ} (i : r₂ ≡ items-as.Listed last k count) where
-          pub fn-listing : Listing (keep (o .depth + 1)) (o .depth) s (window (mem text₂ store₁ ends₁) o) (o .at) (mem text₃ store₃ ends₃) last k (types (fn-got .state))
-          fn-listing = listing i (f₂ (fn-got .state) fn-items-ready)
+          pub fn-listing : GotList (keep (o .depth + 1)) (o .depth) s (window (mem text₂ store₁ ends₁) o) (o .at) (mem text₃ store₃ ends₃) last k count (types (fn-got .state))
+          fn-listing = got-list i (f₂ (fn-got .state) fn-items-ready)
 
           abbrev words : Text
-          words = join (b ", ") (fn-listing .said)
+          words = join (b ", ") (fn-listing .texts)
 
           listed-is : local-encoding reading σ ≡ onto (closing (fn-got .said)) (onto bracketed (give words (fn-listing .state)))
           unfolding onto
@@ -208,13 +155,14 @@ module _ {s : Text} {m : Memory} {p : Parser} {σ : State} (h : Holds s m p σ) 
 
             pub fn-given : {text₄ : Text} {o₃ o₄ : Parser} {v : Read} → starts (drop (last .at) s) (69 ∷ []) ≡ true → o₃ ≡ moved-to last (last .at + 1)
                 → Puts text₃ text₄ o₃ o₄ (b ")") → v ≡ given-of o₄ (n + k + 2) → Encoded s m (mem text₄ store₃ ends₃) p v σ
+            unfolding b
             fn-given {text₄} {o₃} {o₄} {v} y j q g =
                 let w = fn-got .wrote in
                 let z = fn-listing .stands in
                 let t : Text = fn-got .said in
                 let d : o .depth ≡ named .depth = ap (λ (a : Parser). a .depth) (u .same) in
                 let a : o .at ≡ named .at = ap (λ (a : Parser). a .at) (u .same) in
-                let st = behind opened (short-enough z short) (omega (arith, d, w .level)) (omega (arith, one t, w .short)) in
-                let mv = stands-moved {from = p .at + 1} (last .at + 1) st (omega (arith, w .more, z .more)) (omega (arith, starts-inside s (last .at) 69 y)) in
+                let st = joined opened (short-enough z short) (omega (arith, d, w .level)) (omega (arith, length-append t (b "("), w .short)) in
+                let mv = stands-moved (last .at + 1) refl st (omega arith) (omega (arith, starts-inside s (last .at) 69 y)) in
                 subst (λ (c : Read). Encoded s m (mem text₄ store₃ ends₃) p c σ) (sym g)
-                (by (closed-is y) (given-refines (stands-puts mv (puts-from j q) (omega (arith, one t, one-close ((t ++ b "(") ++ words), length-append (t ++ b "(") words, w .size, w .short, z .size, short)))))
+                (by (closed-is y) (sooner (omega (arith, w .more)) (given-refines (stands-puts mv (puts-from j q) (omega (arith, length-append t (b "("), length-append ((t ++ b "(") ++ words) (b ")"), length-append (t ++ b "(") words, w .size, w .short, z .size, short))))))

@@ -1,30 +1,26 @@
 -- A nested name as far as its parts are read: the loop of the definition from the start is the loop from here. Assumes nothing.
 use mathlib.Core.Bool.{Bool, true, false, not}
-use mathlib.Core.List.{List, [], _∷_, _++_, append-nil}
+use mathlib.Core.List.{List, [], _∷_}
 use mathlib.Core.Path.{_≡_, refl, sym, ap, ap₂, _∙_, subst}
 use Prim.Native.Nat.{ℕ, suc, _+_, _-_, _≤_, _<_, min}
 use native.Mathlib.Omega.{arith}
-use borrow.Author.Tests.{eq-eqb, ne-eqb, lt-leb}
-use lib.Dec.{eqb, leb}
-use lib.ListN.{length, take, drop, length-append, length-drop}
-use lib.Seq.{drop-drop}
+use borrow.Author.Tests.{eq-eqb, ne-eqb}
+use lib.Dec.{eqb}
+use lib.ListN.{length, take, drop}
 use Rattle.grammar.specs.Text.{Text, b, choose, join, starts, each, run, if_then_else_}
 use Rattle.grammar.specs.Reader.{State, Result, ok, refused, Reader, onto, return, need, every, give, set-cv, set-templated, while, up-to-E}
 use Rattle.grammar.specs.Grammar.{reading, ⟨nested-name⟩, last, qualifier}
 use Rattle.grammar.specs.Grammar as g
 use Rattle.grammar.specs.Agree.{moved, unread}
 use Rattle.grammar.specs.Fuel.{reading-ends, reading-is, prefix-shrinks}
-use Rattle.grammar.specs.Loops.{Stepped, closed, before-E, parts-loop, up-to-E-is}
-use Rattle.store.specs.Stack.{Clean, Tail}
-use Rattle.store.specs.Tails.{whole}
-use Rattle.parser.specs.Holds.{Memory, mem, part, Holds, Stands, Refines, refuses, window, keep, given-of}
-use Rattle.parser.specs.Halves.{store-size, ends-size}
+use Rattle.grammar.specs.Loops.{closed, before-E, parts-loop, up-to-E-is}
+use Rattle.parser.specs.Holds.{Memory, part, Holds, Stands, Refines, refuses, window, keep, given-of}
+use Rattle.parser.specs.Halves.{give-long}
 use Rattle.parser.specs.Laws.{by, with-cv, with-templated, holds-moved, holds-cv, holds-templated, given-refines, sooner}
 use Rattle.parser.specs.Leaves.{qualifies}
 use Rattle.parser.specs.Runs.{every-at, need-here, need-not}
 use Rattle.parser.specs.States.{peeked, moved-to, cv-to, templated-to}
 use Rattle.parser.specs.declared.state.Parser.{Parser}
-use Rattle.parser.specs.declared.state.Peeked.{Peeked}
 use Rattle.parser.specs.declared.state.Peeked.the-variants as peeked-as
 use Rattle.parser.specs.declared.state.Read.{Read}
 use Rattle.parser.specs.declared.state.Read.the-variants.{Refused}
@@ -33,10 +29,10 @@ use Rattle.reader.specs.declared.lists.Parts.{Parts}
 use Rattle.reader.specs.declared.lists.Prefix.{Prefix}
 use Rattle.reader.specs.declared.lists.Prefix.the-variants as prefix-as
 use Rattle.reader.specs.Lists.{Alike, same-text, both-long, Parted, Parting, parted, unparted, ReadsPart, unprefixed-of}
-use Rattle.reader.specs.Items.{peek-byte, peek-end, one-byte, ends-on, on-byte}
+use Rattle.reader.specs.Items.{peek-byte, peek-end, byte-within, while-stops, while-goes, one-byte, ends-on, on-byte}
 use Rattle.reader.specs.Arrays.{run-front}
-use Rattle.reader.specs.Closes.{closed-refused, closed-no, closed-yes, behind-is}
-use Rattle.reader.specs.Funcs.{stands-least}
+use Rattle.reader.specs.Closes.{closed-no, closed-yes, then-ok, then-refused, behind-is}
+use Rattle.reader.specs.Standing.{same-sizes, stands-nothing, stands-kept, parted-kept, stands-least}
 
 abbrev pub no-parts : g.Parts
 no-parts = record { texts = []; structor = false }
@@ -82,20 +78,14 @@ module _ (s : Text) (at : ℕ) (σ : State) (e : σ .rest ≡ drop at s) where
 -- ---------------------------------------------------------------- the loop, one step at a time
 
 module _ (ps : g.Parts) (σ : State) where
-  abbrev stepped : Bool → Result g.Parts
-  stepped q = if_then_else_ {A = Reader g.Parts} q (λ u. onto (λ y. prefixes y) (g.prefix reading ps u)) (return ps) σ
-
   pub prefixes-stop : before-E (σ .rest) ≡ false → prefixes ps σ ≡ ok ps σ
-  unfolding if_then_else_
-  prefixes-stop e = parts-loop before-E ps σ ∙ ap stepped e
+  prefixes-stop e = while-stops before-E (g.prefix reading) ps σ (parts-loop before-E ps σ) e
 
   pub prefixes-go : {qs : g.Parts} {τ : State} → before-E (σ .rest) ≡ true → g.prefix reading ps σ ≡ ok qs τ → prefixes ps σ ≡ prefixes qs τ
-  unfolding if_then_else_ onto
-  prefixes-go e f = parts-loop before-E ps σ ∙ ap stepped e ∙ ap (onto (λ y. prefixes y)) f
+  prefixes-go e f = while-goes before-E (g.prefix reading) ps σ (parts-loop before-E ps σ) e ∙ then-ok (λ y. prefixes y) f
 
   pub prefixes-refuse : {r : ℕ} → before-E (σ .rest) ≡ true → g.prefix reading ps σ ≡ refused r → prefixes ps σ ≡ refused r
-  unfolding if_then_else_ onto
-  prefixes-refuse e f = parts-loop before-E ps σ ∙ ap stepped e ∙ ap (onto (λ y. prefixes y)) f
+  prefixes-refuse e f = while-goes before-E (g.prefix reading) ps σ (parts-loop before-E ps σ) e ∙ then-refused (λ y. prefixes y) f
 
 -- ---------------------------------------------------------------- the parts so far
 
@@ -115,15 +105,7 @@ prefixed-start {s} {m} {p} {σ} h = record {
   state = σ;
   here = record {
     shown = [];
-    stands = record {
-      holds = h;
-      tail = rw append-nil (whole (keep (p .depth)) (window m p));
-      size = omega arith;
-      level = refl;
-      more = omega arith;
-      least = omega arith;
-      most = omega (arith, h .deep);
-    };
+    stands = stands-nothing h (omega arith) (omega (arith, h .deep));
     alike = same-text refl;
     final = λ _. refl;
     within = omega arith;
@@ -153,13 +135,9 @@ module _ {s : Text} {m₀ : Memory} {p₀ : Parser} {m : Memory} {p : Parser} {q
 
 -- ---------------------------------------------------------------- the E
 
-pub long-text : (t : Text) (σ : State) → 16384 < length t → give t σ ≡ refused 11
-unfolding give if_then_else_
-long-text t σ l = rw (lt-leb (length t) 16384 l)
-
 give-alike : {u t : Text} (σ : State) → Alike u t → give u σ ≡ give t σ
 give-alike σ (same-text e) = ap (λ (y : Text). give y σ) e
-give-alike {u} {t} σ (both-long i j) = long-text u σ (omega arith) ∙ sym (long-text t σ (omega arith))
+give-alike {u} {t} σ (both-long i j) = give-long u σ (omega arith) ∙ sym (give-long t σ (omega arith))
 
 -- the state behind the E of a constructor, and of others
 abbrev last-state : Bool → Text → State → State
@@ -191,19 +169,12 @@ module _ {s : Text} {m₀ : Memory} {p₀ : Parser} {m : Memory} {p : Parser} {q
   prefixed-E {r} {z} {c} from to i j e f w g =
       let h = l .here in
       let t : l .state .rest ≡ c ∷ drop 1 (drop (p .at) s) = h .stands .holds .rest ∙ peek-byte (drop (p .at) s) e in
-      let a : p .at < length s = omega (arith, h .stands .holds .place, length-drop (p .at) s, ap length (peek-byte (drop (p .at) s) e)) in
+      let a : p .at < length s = byte-within s (p .at) e in
       let here : starts (l .state .rest) (69 ∷ []) ≡ true = ap (λ (y : Text). starts y (69 ∷ [])) t ∙ one-byte c 69 (drop 1 (drop (p .at) s)) ∙ eq-eqb c 69 f in
       let y : moved (drop 1 (l .state .rest)) (l .state) ≡ moved (drop (p .at + 1) s) (l .state) = behind-is s (p .at) (l .state) (h .stands .holds .rest) in
       let o = last-top z from to p in
-      let st : Stands (keep (p₀ .depth)) (p₀ .depth) s (window m₀ p₀) (p₀ .at) m (last-parser z from to p) (q .n) (h .shown) (last-state z (part s from to) (moved (drop (p .at + 1) s) (l .state))) = record {
-        holds = last-holds z from to (h .stands .holds) a i j;
-        tail = subst (λ (v : ℕ). Tail (keep (p₀ .depth)) (take v (m .text)) (window m₀ p₀ ++ h .shown)) (sym (o .0)) (h .stands .tail);
-        size = h .stands .size;
-        level = o .1 .0 ∙ h .stands .level;
-        more = omega (arith, o .1 .1, h .stands .more);
-        least = h .stands .least;
-        most = h .stands .most;
-      } in
+      let st : Stands (keep (p₀ .depth)) (p₀ .depth) s (window m₀ p₀) (p₀ .at) m (last-parser z from to p) (q .n) (h .shown) (last-state z (part s from to) (moved (drop (p .at + 1) s) (l .state))) =
+      stands-kept (h .stands) (last-holds z from to (h .stands .holds) a i j) (ap (λ (v : ℕ). take v (m .text)) (o .0)) (o .1 .0) (omega (arith, o .1 .1, h .stands .more)) in
       by (ap (onto (named (part s from to))) (closed-yes {f = prefixes no-parts σ₀} (l .same ∙ prefixes-stop (l .parts) (l .state) (byte-here l e (eq-eqb c 69 f))) here)
       ∙ ap (named (part s from to) (l .parts)) y
       ∙ named-is (part s from to) (l .parts) (moved (drop (p .at + 1) s) (l .state)) z (sym (h .structor) ∙ w)
@@ -245,7 +216,7 @@ module _ {s : Text} {m₀ : Memory} {p₀ : Parser} {m m' : Memory} {p : Parser}
       Refines k d s' base from m'' v (onto (named y) (onto closed (prefixes no-parts σ₀)))
   unfolding onto
   prefixed-refuses {k} {d} {s'} {base} {from} {m''} {v} {j} y f g =
-      by (ap (onto (named y)) (closed-refused {f = prefixes no-parts σ₀} (l .same ∙ prefixes-refuse (l .parts) (l .state) (byte-here l e (ne-eqb c 69 n)) (part-refused f told-next))))
+      by (ap (onto (named y)) (then-refused closed (l .same ∙ prefixes-refuse (l .parts) (l .state) (byte-here l e (ne-eqb c 69 n)) (part-refused f told-next))))
       (subst (λ (w : Read). Refines k d s' base from m'' w (refused j)) (sym (g ∙ ap unprefixed-of f)) refuses)
 
   pub prefixed-more : {p' : Parser} {q' : Parts} → r ≡ prefix-as.Parts p' q' → Prefixed s m₀ p₀ m' p' q' σ₀
@@ -257,23 +228,7 @@ module _ {s : Text} {m₀ : Memory} {p₀ : Parser} {m m' : Memory} {p : Parser}
       record {
         parts = w .parts;
         state = w .state;
-        here = record {
-          shown = h .shown;
-          stands = record {
-            holds = h .stands .holds;
-            tail = h .stands .tail;
-            size = h .stands .size;
-            level = h .stands .level;
-            more = omega (arith, h .stands .more, l .here .stands .more);
-            least = h .stands .least;
-            most = h .stands .most;
-          };
-          alike = h .alike;
-          final = h .final;
-          within = h .within;
-          count = h .count;
-          structor = h .structor;
-        };
+        here = parted-kept h (h .stands .holds) refl refl (omega (arith, h .stands .more, l .here .stands .more));
         same = l .same ∙ prefixes-go (l .parts) (l .state) (byte-here l e (ne-eqb c 69 n)) (w .is);
       }
 
@@ -296,11 +251,11 @@ pub prefixing-more :
     Prefixing s m₀ p₀ m p q → Holds s m₀ p₀ σ → peeked (drop (p .at) s) ≡ peeked-as.Byte c → (c ≡ 69 → ⊥) → ReadsNext c s m m' p q r → r ≡ prefix-as.Parts p' q' →
     Prefixing s m₀ p₀ m' p' q'
 prefixing-more {σ = σ} i h e n x f =
-    let v = prefixed-more (i .so-far σ h) e n x f .here .stands .holds in
+    let z = same-sizes h (prefixed-more (i .so-far σ h) e n x f .here .stands .holds) in
     record {
-      text-same = omega (arith, v .text .size, h .text .size);
-      store-same = omega (arith, store-size v, store-size h);
-      ends-same = omega (arith, ends-size v, ends-size h);
+      text-same = z .0;
+      store-same = z .1 .0;
+      ends-same = z .1 .1;
       so-far = λ σ₀ h₀. prefixed-more (i .so-far σ₀ h₀) e n x f;
     }
 

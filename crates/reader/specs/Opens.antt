@@ -1,30 +1,30 @@
 -- Laws of readings that go one level down, and of answers that go on with another text. Assumes nothing.
-use mathlib.Core.List.{List, [], _∷_, _++_}
+use mathlib.Core.Bool.{Bool, true, false}
+use mathlib.Core.List.{[], _∷_, _++_}
 use mathlib.Core.Path.{_≡_, refl, sym, ap, _∙_, subst}
 use Prim.Native.Nat.{ℕ, _+_, _*_, _-_, _≤_, _<_}
 use Prim.Native.String.{String}
 use native.Mathlib.Omega.{arith}
-use lib.ListN.{length, take, drop, length-append}
+use lib.ListN.{length, take, drop}
 use Rattle.grammar.specs.Text.{Text, b, holds, if_then_else_}
-use Rattle.grammar.specs.Reader.{State, Result, ok, refused, Reader, onto, entered, recorded}
-use Rattle.grammar.specs.Grammar.{Production, reading, ⟨type⟩, ⟨name⟩, slot, at-slots}
+use Rattle.grammar.specs.Tables.{_⇒_}
+use Rattle.grammar.specs.Reader.{State, Result, ok, Reader, onto, return, at-code, entered, recorded}
+use Rattle.grammar.specs.Grammar.{Production, reading, ⟨type⟩, ⟨name⟩, ⟨substitution⟩, std-ahead, slot, at-slots}
 use Rattle.grammar.specs.Grammar as g
 use Rattle.grammar.specs.Fuel.{reading-is}
 use Rattle.grammar.specs.Steps.{entered-in, entered-8}
 use Rattle.grammar.specs.Agree.{moved}
-use Rattle.store.specs.Tails.{newest-is, top-size, weaken, both}
+use Rattle.store.specs.Tails.{newest-is, top-size}
 use Rattle.parser.specs.declared.state.Parser.{Parser}
 use Rattle.parser.specs.declared.state.Read.{Read}
 use Rattle.parser.specs.declared.state.Read.the-variants.{Text as read, Refused}
 use Rattle.parser.specs.States.{moved-to, deeper, at-depth}
-use Rattle.parser.specs.Holds.{Memory, window, Holds, Ready, Wrote, Stands, Refines, refuses, Reads, keep}
+use Rattle.parser.specs.Holds.{Memory, window, Holds, Ready, Wrote, Refines, refuses, Reads, keep}
+use Rattle.reader.specs.Standing.{wrote-kept}
 use Rattle.parser.specs.Laws.{at-level, by-state, holds-moved, holds-entered, holds-depth, by, answers, Got, got, refused-on}
 
 pub at-of : {p q : Parser} → q ≡ p → q .at ≡ p .at
 at-of e = ap (λ (x : Parser). x .at) e
-
-pub depth-of : {p q : Parser} → q ≡ p → q .depth ≡ p .depth
-depth-of e = ap (λ (x : Parser). x .depth) e
 
 -- ---------------------------------------------------------------- one level down
 
@@ -58,14 +58,7 @@ module _ (k : Production) (f : Reader Text) (opens : (σ : State) → g.producti
         let w = got i (inner _ (holds-entered v l)) in
         let u = w .wrote in
         subst (λ (o : Parser). Refines (keep (p .depth + 1)) (p .depth) s (window m p) (p .at + 1) m' (read o n) (reading k σ)) (sym z)
-        (answers (is-in v l ∙ ap (onto (leaving (p .depth))) (w .is)) (record {
-          holds = holds-depth (u .holds) (p .depth) (v .deep);
-          tail = u .tail;
-          size = u .size;
-          short = u .short;
-          level = refl;
-          more = u .more;
-        }))
+        (answers (is-in v l ∙ ap (onto (leaving (p .depth))) (w .is)) (wrote-kept u (omega arith) (holds-depth (u .holds) (p .depth) (v .deep)) refl refl (u .more)))
 
 pub type-opens : (σ : State) → g.production reading ⟨type⟩ σ ≡ entered (g.type-inner reading) σ
 unfolding g.production g.type
@@ -88,17 +81,6 @@ module _ {k d : ℕ} {s base : Text} {from : ℕ} {m : Memory} {p : Parser} {n :
       let i = newest-is base t (w .tail) (omega (arith, w .short)) in
       (omega (arith, i .0, w .size), omega (arith, w .size, w .short))
 
-  pub stands-at : {t : Text} {σ : State} (j to : ℕ) → Wrote k d s base from m p n t σ → j ≤ k → to ≤ from → 32768 ≤ j → j ≤ 49152 → Stands j d s base to m p n t σ
-  stands-at j to w l i x y = record {
-    holds = w .holds;
-    tail = weaken l (w .tail);
-    size = omega (arith, w .size, w .short);
-    level = w .level;
-    more = omega (arith, w .more);
-    least = x;
-    most = y;
-  }
-
 -- ---------------------------------------------------------------- types
 
 pub wrapped-is : (u : String × String) (σ : State) → g.wrapped reading u σ ≡ onto (λ t. recorded (if holds slot t then at-slots (b (u .1)) t else t ++ b (u .0))) (reading ⟨type⟩ σ)
@@ -113,25 +95,41 @@ pub member-is : (σ : State) → g.pointer-to-member-type reading σ ≡ onto (�
 unfolding g.pointer-to-member-type
 member-is σ = refl
 
--- a text, and another behind it
-pub stands-both :
-    {k k' d : ℕ} {s base : Text} {from from' : ℕ} {m m' : Memory} {p p' : Parser} {n n' : ℕ} {t t' : Text} {σ σ' : State} (j to : ℕ) →
-    Wrote k d s base from m p n t σ → Wrote k' (p .depth) s (window m p) from' m' p' n' t' σ' →
-    j ≤ k → j ≤ k' → to ≤ from' → 32768 ≤ j → j ≤ 49152 → Stands j d s base to m' p' (n + n') (t ++ t') σ'
-stands-both {base = base} {n = n} {n' = n'} {t = t} {t' = t'} j to w v l l' i x y = record {
-  holds = v .holds;
-  tail = both base t t' (weaken l (w .tail)) (weaken l' (v .tail));
-  size = omega (arith, w .size, w .short, v .size, v .short, length-append t t');
-  level = v .level ∙ w .level;
-  more = omega (arith, v .more);
-  least = x;
-  most = y;
-}
+-- ---------------------------------------------------------------- names and types at S
 
--- a reading one level down from another place
-pub type-at :
-    {f : Reader Text} {at : ℕ} {s : Text} {m m' : Memory} {p q : Parser} {r : Read} {σ : State} →
-    q ≡ moved-to p at → Reads f (keep (q .depth + 1)) (q .at + 1) s m m' q r → Holds s m p σ → at ≤ length s →
-    Refines (keep (p .depth + 1)) (p .depth) s (window m p) (at + 1) m' r (f (moved (drop at s) σ))
-type-at {f} {at} {s} {m} {m'} {p} {q} {r} {σ} e h g l =
-    subst (λ (x : Parser). Reads f (keep (x .depth + 1)) (x .at + 1) s m m' x r) e h (moved (drop at s) σ) (holds-moved g at l)
+-- what an entry goes on with: its arguments, by f
+abbrev referred : (Text → Reader Text) → Text → Reader Text
+referred f x = at-code ("I" ⇒ f x ∷ []) (return x)
+
+abbrev at-S : (Text → Reader Text) → Bool → Reader Text
+at-S f q = if q then g.std-name reading else (λ u. onto (referred f) (reading ⟨substitution⟩ u))
+
+pub s-name-is : (σ : State) → g.s-name reading σ ≡ at-S (g.name-instance reading) (std-ahead (σ .rest)) σ
+unfolding g.s-name onto
+s-name-is σ = refl
+
+pub s-type-is : (σ : State) → g.s-type reading σ ≡ at-S (g.type-instance reading) (std-ahead (σ .rest)) σ
+unfolding g.s-type onto
+s-type-is σ = refl
+
+module _ (r : Reader Text) (f : Text → Reader Text) (is : (σ : State) → r σ ≡ at-S f (std-ahead (σ .rest)) σ) (σ : State) where
+  pub s-std : std-ahead (σ .rest) ≡ true → r σ ≡ g.std-name reading σ
+  unfolding if_then_else_
+  s-std e = is σ ∙ ap (λ (q : Bool). at-S f q σ) e
+
+  pub s-sub : std-ahead (σ .rest) ≡ false → r σ ≡ onto (referred f) (reading ⟨substitution⟩ σ)
+  unfolding if_then_else_
+  s-sub e = is σ ∙ ap (λ (q : Bool). at-S f q σ) e
+
+  pub s-sub-read : {x : Text} {τ : State} → std-ahead (σ .rest) ≡ false → reading ⟨substitution⟩ σ ≡ ok x τ → r σ ≡ referred f x τ
+  unfolding onto
+  s-sub-read e h = s-sub e ∙ ap (onto (referred f)) h
+
+-- ---------------------------------------------------------------- calls from a state that was moved
+
+pub call-moved :
+    {f : Reader Text} (k : ℕ → ℕ) {at : ℕ} {s : Text} {m m' : Memory} {p q : Parser} {r : Read} {σ : State} →
+    q ≡ moved-to p at → Reads f (k (q .depth)) (q .at + 1) s m m' q r → Holds s m p σ → at ≤ length s →
+    Refines (k (p .depth)) (p .depth) s (window m p) (at + 1) m' r (f (moved (drop at s) σ))
+call-moved {f} k {at} {s} {m} {m'} {p} {q} {r} {σ} e h g l =
+    subst (λ (x : Parser). Reads f (k (x .depth)) (x .at + 1) s m m' x r) e h (moved (drop at s) σ) (holds-moved g at l)

@@ -1,45 +1,44 @@
--- Operator names as the code reads them, and texts read behind one that was put. Assumes nothing.
+-- Operator names and unqualified names as the code reads them. Assumes nothing.
 use mathlib.Core.Bool.{Bool, true, false, _&&_, and-false}
-use mathlib.Core.Logic.{_⊎_, inl, inr}
-use mathlib.Core.List.{List, [], _∷_, _++_, append-assoc}
+use mathlib.Core.List.{List, [], _∷_, _++_}
 use mathlib.Core.Option.{Option, none, some}
-use mathlib.Core.Path.{_≡_, refl, sym, ap, _∙_, subst}
-use Prim.Native.Nat.{ℕ, suc, _+_, _-_, _≤_, _<_, min}
+use mathlib.Core.Path.{_≡_, refl, sym, ap, _∙_}
+use Prim.Native.Nat.{ℕ, _+_, _-_, _≤_, _<_}
 use native.Mathlib.Omega.{arith}
-use borrow.Author.Tests.{ne-eqb, eqb-true, le-leb, lt-leb, le-ltb, lt-ltb}
-use lib.Dec.{T, eqb, ltb, eqb→eq}
-use lib.ListN.{length, take, drop, getD, length-drop, length-append}
-use lib.Seq.{drop-drop}
-use Rattle.grammar.specs.Text.{Text, b, if_then_else_, choose, starts, holds, run, past, between, digit, digit-value}
+use borrow.Author.Tests.{ne-eqb, eqb-true}
+use lib.Dec.{T, eqb, eqb→eq}
+use lib.ListN.{length, drop, getD, length-drop}
+use Rattle.grammar.specs.Text.{Text, b, if_then_else_, choose, starts, holds, run, past, digit}
 use Rattle.grammar.specs.Tables.{Row, _⇒_, operators}
-use Rattle.grammar.specs.Reader.{State, Result, ok, refused, Reader, onto, give, unfit, go-to, set-templated, find, word-for, by-code}
+use Rattle.grammar.specs.Reader.{State, refused, Reader, onto, give, unfit, go-to, set-templated, find, word-for, by-code}
 use Rattle.grammar.specs.Grammar.{reading, production, operator-name, unnamed-type-name, ⟨operator-name⟩, ⟨type⟩, ⟨unqualified-name⟩, ⟨source-name⟩}
 use Rattle.grammar.specs.Agree.{moved}
 use Rattle.grammar.specs.Laws.{both, starts-nothing}
 use Rattle.grammar.specs.Fuel.{reading-is}
 use Rattle.grammar.specs.Finds.{all-of, by-word}
 use Rattle.grammar.specs.Steps.{by-code-none}
-use Rattle.grammar.specs.NameSteps.{unqualified-L, unqualified-C, unqualified-D, unqualified-U, unqualified-C-4, unqualified-D-4, unqualified-end, unqualified-digit, unqualified-operator}
+use Rattle.grammar.specs.NameSteps.{unqualified-L, unqualified-U, unqualified-end, unqualified-digit, unqualified-operator}
 use Rattle.grammar.specs.Words.{Picks, spelled}
 use Rattle.grammar.specs.declared.codes.Word.{Word}
 use Rattle.grammar.specs.declared.codes.Picked.{Picked}
 use Rattle.grammar.specs.declared.codes.Picked.the-variants.{At, Nothing}
-use Rattle.store.specs.Stack.{Clean, Tail}
-use Rattle.store.specs.Tails.{chain, put-tail, whole, weaken}
 use Rattle.parser.specs.declared.state.Parser.{Parser}
 use Rattle.parser.specs.declared.state.Read.{Read}
 use Rattle.parser.specs.declared.state.Read.the-variants.{Text as read, Refused}
 use Rattle.parser.specs.declared.state.Peeked.{Peeked}
 use Rattle.parser.specs.declared.state.Peeked.the-variants as peeked-as
 use Rattle.parser.specs.States.{moved-to, templated-to, peeked}
-use Rattle.parser.specs.Holds.{Memory, mem, window, Holds, Wrote, Stands, Refines, refuses, Reads, Puts, keep, given-of}
-use Rattle.parser.specs.Laws.{by, by-state, got, refused-on, less, sooner, given-refines, holds-moved, holds-puts, holds-templated, with-templated}
+use Rattle.parser.specs.Holds.{Memory, mem, window, Holds, Refines, refuses, Reads, Puts, keep, given-of}
+use Rattle.parser.specs.Laws.{by, by-state, got, refused-on, less, sooner, holds-moved}
 use Rattle.parser.specs.Adds.{puts-from, reads-moved}
 use Rattle.parser.specs.Runs.{case-here, case-not, past-is, past-stops}
 use Rattle.parser.specs.Places.{rest-some, rest-none}
 use Rattle.parser.specs.Halves.{wrote-one}
 use Rattle.parser.specs.Leaves.{rest-two}
 use Rattle.parser.specs.Wraps.{picked-at, picked-none}
+use Rattle.reader.specs.Opens.{call-moved}
+use Rattle.reader.specs.Standing.{stands-templated, given-as, fewer, word-holds, word-joined}
+use Rattle.reader.specs.Items.{peek-end, byte-there, byte-within}
 
 -- ---------------------------------------------------------------- the definition
 
@@ -131,17 +130,6 @@ module _ (s : Text) (at : ℕ) (σ : State) (e : σ .rest ≡ drop at s) where
       unfolding b
       operator-cv x y = operator-other ∙ case-here "cv" s at σ e typed unfit (is-cv x y)
 
--- ---------------------------------------------------------------- texts behind a text that was put
-
-pub tail-after :
-    {k : ℕ} {text text₁ w : Text} {q q₁ : Parser} {t : Text} (u : Text) →
-    Clean text (q .top) → Puts text text₁ q q₁ t → k ≤ 49152 → Tail k w (take (q₁ .top) text₁ ++ u) → Tail k w (take (q .top) text ++ (t ++ u))
-tail-after {k} {text} {q = q} {t = t} u c p l h = rw (← append-assoc) (chain u (put-tail t c l (p .put) (whole k (take (q .top) text))) h)
-
-nine : (n : ℕ) → length (b "operator ") + n ≡ 9 + n
-unfolding b
-nine n = refl
-
 -- ---------------------------------------------------------------- answers
 
 module _ {s text store ends : Text} {p q : Parser} {σ : State} (h : Holds s (mem text store ends) p σ) (l : p .at + 1 < length s) (m : q ≡ moved-to p (p .at + 2)) {x : Picked}
@@ -153,7 +141,7 @@ module _ {s text store ends : Text} {p q : Parser} {σ : State} (h : Holds s (me
 
   module _ {text₁ : Text} {q₁ : Parser} (u : Puts text text₁ q q₁ (b "operator ")) where
     pub oper-holds : Holds s (mem text₁ store ends) q₁ (moved (drop (p .at + 2) s) σ)
-    oper-holds = holds-puts (puts-from m u) (holds-moved h (p .at + 2) (omega arith))
+    oper-holds = word-holds m u h (omega arith)
 
     module _ (e : x ≡ Nothing) (a : getD s (p .at) 0 ≡ 99) (c : getD s (p .at + 1) 0 ≡ 118) {m' : Memory} {r : Read}
         (f : Reads (reading ⟨type⟩) (keep (q₁ .depth + 1)) (q₁ .at + 1) s (mem text₁ store ends) m' q₁ r) where
@@ -162,73 +150,23 @@ module _ {s text store ends : Text} {p q : Parser} {σ : State} (h : Holds s (me
 
       pub oper-typed : {next q₂ : Parser} {n : ℕ} {v : Read} → r ≡ read next n → q₂ ≡ templated-to next false → v ≡ given-of q₂ (n + 9)
           → Refines (keep (p .depth)) (p .depth) s (window (mem text store ends) p) (p .at + 1) m' v (reading ⟨operator-name⟩ σ)
-      unfolding onto set-templated
-      oper-typed {next} {q₂} {n} {v} g i j =
+      unfolding onto set-templated b
+      oper-typed g i j =
           let y = got g (f _ oper-holds) in
-          let v₀ = puts-from m u in
-          let d : q₁ .depth ≡ p .depth = ap (λ (z : Parser). z .depth) (v₀ .same) in
-          let o : q₁ .at ≡ p .at + 2 = ap (λ (z : Parser). z .at) (v₀ .same) in
-          let t : Text = b "operator " ++ y .said in
-          let z : length t ≡ 9 + length (y .said) = length-append (b "operator ") (y .said) ∙ nine (length (y .said)) in
-          subst (λ (z : Read). Refines (keep (p .depth)) (p .depth) s (window (mem text store ends) p) (p .at + 1) m' z (reading ⟨operator-name⟩ σ)) (sym (j ∙ ap (λ (z : Parser). given-of z (n + 9)) i))
-          (by
-          (operator-cv s (p .at) σ (h .rest) l (picked-none k e) a c ∙ ap (onto typed-on) (y .is))
-          (given-refines (record {
-            holds = holds-templated (y .wrote .holds) false;
-            tail = tail-after (y .said) (h .text) v₀ (omega (arith, h .deep)) (weaken (omega arith) (y .wrote .tail));
-            size = omega (arith, y .wrote .size, y .wrote .short);
-            level = y .wrote .level ∙ d;
-            more = omega (arith, y .wrote .more);
-            least = omega arith;
-            most = omega (arith, h .deep);
-          })))
-
--- ---------------------------------------------------------------- digits
-
-pub either : {A B C : Type 0} → (A → C) → (B → C) → A ⊎ B → C
-either f g (inl x) = f x
-either f g (inr x) = g x
-
-pub digit-low : (c : ℕ) → c < 48 → digit 10 c ≡ false
-unfolding digit digit-value if_then_else_
-digit-low c h = rw (lt-leb 48 c (omega arith), lt-leb 65 c (omega arith), lt-leb 97 c (omega arith))
-
-pub digit-high : (c : ℕ) → 58 ≤ c → digit 10 c ≡ false
-unfolding digit digit-value if_then_else_
-digit-high c h = rw (lt-leb c 57 (omega arith), le-leb 48 c (omega arith)) (go (between 65 90 c) (between 97 122 c))
-  where
-    go : (q r : Bool) → ltb (if q then c - 65 + 10 else if r then c - 97 + 10 else 36) 10 ≡ false
-    go true r = le-ltb (c - 65 + 10) 10 (omega arith)
-    go false true = le-ltb (c - 97 + 10) 10 (omega arith)
-    go false false = refl
-
-pub digit-in : (c : ℕ) → 48 ≤ c → c < 58 → digit 10 c ≡ true
-unfolding digit digit-value if_then_else_
-digit-in c h l = rw (le-leb c 57 (omega arith), le-leb 48 c (omega arith)) (lt-ltb (c - 48) 10 (omega arith))
+          by (operator-cv s (p .at) σ (h .rest) l (picked-none k e) a c ∙ ap (onto typed-on) (y .is))
+          (given-as j (stands-templated false (word-joined m u h (omega arith) (omega arith) (omega arith) refl (fewer (omega arith) (y .wrote))) i))
 
 -- ---------------------------------------------------------------- bytes that were peeked at
-
-abbrev byte-of : Peeked → ℕ
-byte-of peeked-as.End = 0
-byte-of (peeked-as.Byte c) = suc c
-
-peeked-some : (t : Text) {c : ℕ} → peeked t ≡ peeked-as.Byte c → t ≡ c ∷ drop 1 t
-peeked-some [] e = absurd (omega (arith, ap byte-of e))
-peeked-some (x ∷ t) {c} e = ap (λ (y : ℕ). y ∷ t) {x = x} {y = c} (omega (arith, ap byte-of e))
-
-peeked-none : (t : Text) → peeked t ≡ peeked-as.End → t ≡ []
-peeked-none [] e = refl
-peeked-none (x ∷ t) e = absurd (omega (arith, ap byte-of e))
 
 module _ (s : Text) (p : Parser) {q : Parser} {to : ℕ} {r : Peeked} (m : q ≡ moved-to p to) (k : r ≡ peeked (drop (q .at) s)) where
   peeked-at : r ≡ peeked (drop to s)
   peeked-at = k ∙ ap (λ (x : Parser). peeked (drop (x .at) s)) m
 
   pub byte-at : {c : ℕ} → r ≡ peeked-as.Byte c → drop to s ≡ c ∷ drop (to + 1) s
-  byte-at {c} e = peeked-some (drop to s) (sym peeked-at ∙ e) ∙ ap (λ (t : Text). c ∷ t) (drop-drop 1 to s)
+  byte-at e = byte-there s to (sym peeked-at ∙ e)
 
   pub end-at : r ≡ peeked-as.End → drop to s ≡ []
-  end-at e = peeked-none (drop to s) (sym peeked-at ∙ e)
+  end-at e = peek-end (drop to s) (sym peeked-at ∙ e)
 
 -- ---------------------------------------------------------------- unqualified names
 
@@ -246,14 +184,6 @@ skip-L (x ∷ t) σ = skip-one (eqb x 76) x t σ refl (skip-L t σ)
 -- any letters L in front are passed over
 pub unqualified-past : (σ : State) → reading ⟨unqualified-name⟩ σ ≡ reading ⟨unqualified-name⟩ (moved (past (λ x. eqb x 76) (σ .rest)) σ)
 unqualified-past σ = skip-L (σ .rest) σ
-
--- a reading from the state that a method moved, one byte on
-pub reads-from :
-    {f : Reader Text} {k at : ℕ} {s : Text} {m m' : Memory} {p q : Parser} {r : Read} {σ : State} →
-    q ≡ moved-to p at → Reads f k (q .at + 1) s m m' q r → Holds s m p σ → at ≤ length s →
-    Refines k (p .depth) s (window m p) (at + 1) m' r (f (moved (drop at s) σ))
-reads-from {f = f} {k = k} {at = at} {s = s} {m = m} {m' = m'} {p = p} {q = q} {r = r} {σ = σ} e h g l =
-    subst (λ (x : Parser). Reads f k (x .at + 1) s m m' x r) e h (moved (drop at s) σ) (holds-moved g at l)
 
 abbrev Unqualified : Text → Memory → Memory → Parser → Read → State → Type 0
 Unqualified s m m' p r σ = Refines (keep (p .depth)) (p .depth) s (window m p) (p .at + 1) m' r (reading ⟨unqualified-name⟩ σ)
@@ -278,7 +208,7 @@ module _ {s text store ends : Text} {p q : Parser} {σ : State} {to : ℕ} (h : 
       here = byte-at s p m k e
 
       pub unq-inside : to < length s
-      unq-inside = omega (arith, ap length here, length-drop to s)
+      unq-inside = byte-within s to (sym (peeked-at s p m k) ∙ e)
 
       not-L : eqb c 76 ≡ false
       not-L = past-stops (λ x. eqb x 76) c (drop (p .at) s) (drop (to + 1) s) (past-to ∙ here)
@@ -286,11 +216,9 @@ module _ {s text store ends : Text} {p q : Parser} {σ : State} {to : ℕ} (h : 
       as-byte : (y : ℕ) → c ≡ y → reading ⟨unqualified-name⟩ σ ≡ reading ⟨unqualified-name⟩ (moved (y ∷ drop (to + 1) s) σ)
       as-byte y f = unq-is (here ∙ ap (λ (z : ℕ). z ∷ drop (to + 1) s) f)
 
-      pub unq-C-4 : {m' : Memory} → c ≡ 67 → length s ≤ to + 1 → Unqualified s (mem text store ends) m' p (Refused 4) σ
-      unq-C-4 f l = by (as-byte 67 f ∙ ap (λ (t : Text). reading ⟨unqualified-name⟩ (moved (67 ∷ t) σ)) (rest-none s (to + 1) l) ∙ unqualified-C-4 σ) refuses
-
-      pub unq-D-4 : {m' : Memory} → c ≡ 68 → length s ≤ to + 1 → Unqualified s (mem text store ends) m' p (Refused 4) σ
-      unq-D-4 f l = by (as-byte 68 f ∙ ap (λ (t : Text). reading ⟨unqualified-name⟩ (moved (68 ∷ t) σ)) (rest-none s (to + 1) l) ∙ unqualified-D-4 σ) refuses
+      -- a byte that begins a code of two, and no more
+      pub unq-short : (y : ℕ) → reading ⟨unqualified-name⟩ (moved (y ∷ []) σ) ≡ refused 4 → {m' : Memory} → c ≡ y → length s ≤ to + 1 → Unqualified s (mem text store ends) m' p (Refused 4) σ
+      unq-short y g f l = by (as-byte y f ∙ ap (λ (t : Text). reading ⟨unqualified-name⟩ (moved (y ∷ t) σ)) (rest-none s (to + 1) l) ∙ g) refuses
 
       behind-two : to + 1 < length s → drop (to + 1) s ≡ getD s (to + 1) 0 ∷ drop (to + 2) s
       behind-two l = rest-some s (to + 1) l ∙ ap (λ (i : ℕ). getD s (to + 1) 0 ∷ drop i s) {x = to + 1 + 1} {y = to + 2} (omega arith)
@@ -299,18 +227,13 @@ module _ {s text store ends : Text} {p q : Parser} {σ : State} {to : ℕ} (h : 
         from-two : q₁ ≡ moved-to p (to + 2)
         from-two = i ∙ ap (λ (z : Parser). moved-to z (to + 2)) m
 
-        structor-said : {text' : Text} {q₂ : Parser} {t : Text} → length t ≡ 6 → Puts text text' q₁ q₂ t → reading ⟨unqualified-name⟩ σ ≡ give t (moved (drop (to + 2) s) σ)
-            → Unqualified s (mem text store ends) (mem text' store ends) p (read q₂ 6) σ
-        structor-said z u g =
-            less (omega (arith, h .deep)) (by g (wrote-one (holds-moved h (to + 2) (omega arith)) (puts-from from-two u) z (omega arith) (omega (arith, n .0))))
-
-        pub unq-C : {text' : Text} {q₂ : Parser} → c ≡ 67 → Puts text text' q₁ q₂ (b "{ctor}") → Unqualified s (mem text store ends) (mem text' store ends) p (read q₂ 6) σ
-        unfolding b
-        unq-C f u = structor-said refl u (as-byte 67 f ∙ ap (λ (t : Text). reading ⟨unqualified-name⟩ (moved (67 ∷ t) σ)) (behind-two l) ∙ unqualified-C (drop (to + 2) s) σ (getD s (to + 1) 0))
-
-        pub unq-D : {text' : Text} {q₂ : Parser} → c ≡ 68 → Puts text text' q₁ q₂ (b "{dtor}") → Unqualified s (mem text store ends) (mem text' store ends) p (read q₂ 6) σ
-        unfolding b
-        unq-D f u = structor-said refl u (as-byte 68 f ∙ ap (λ (t : Text). reading ⟨unqualified-name⟩ (moved (68 ∷ t) σ)) (behind-two l) ∙ unqualified-D (drop (to + 2) s) σ (getD s (to + 1) 0))
+        pub unq-structor :
+            {text' : Text} {q₂ : Parser} {t : Text} (y : ℕ) → length t ≡ 6 → ((u : Text) (x : ℕ) → reading ⟨unqualified-name⟩ (moved (y ∷ x ∷ u) σ) ≡ give t (moved u σ)) →
+            c ≡ y → Puts text text' q₁ q₂ t → Unqualified s (mem text store ends) (mem text' store ends) p (read q₂ 6) σ
+        unq-structor y z g f u =
+            less (omega (arith, h .deep))
+            (by (as-byte y f ∙ ap (λ (t : Text). reading ⟨unqualified-name⟩ (moved (y ∷ t) σ)) (behind-two l) ∙ g (drop (to + 2) s) (getD s (to + 1) 0))
+            (wrote-one (holds-moved h (to + 2) (omega arith)) (puts-from from-two u) z (omega arith) (omega (arith, n .0))))
 
       pub unq-U : {text' : Text} {q₁ : Parser} {v : Read} → c ≡ 85 → q₁ ≡ moved-to q (to + 1) → Reads unnamed-type-name 49152 (q₁ .at) s (mem text store ends) (mem text' store ends) q₁ v
           → Unqualified s (mem text store ends) (mem text' store ends) p v σ
@@ -327,10 +250,10 @@ module _ {s text store ends : Text} {p q : Parser} {σ : State} {to : ℕ} (h : 
             → Unqualified s (mem text store ends) (mem text' store ends) p v σ
         unq-digit d g =
             less (omega (arith, h .deep)) (sooner (omega (arith, n .0))
-            (by (unq-is here ∙ unqualified-digit c (drop (to + 1) s) σ (none-of x y z) d ∙ ap (λ (t : Text). reading ⟨source-name⟩ (moved t σ)) (sym here)) (reads-from m g h (n .1))))
+            (by (unq-is here ∙ unqualified-digit c (drop (to + 1) s) σ (none-of x y z) d ∙ ap (λ (t : Text). reading ⟨source-name⟩ (moved t σ)) (sym here)) (call-moved (λ _. 49152) m g h (n .1))))
 
         pub unq-operator : {m' : Memory} {v : Read} → digit 10 c ≡ false → Reads (reading ⟨operator-name⟩) (keep (q .depth)) (q .at + 1) s (mem text store ends) m' q v
             → Unqualified s (mem text store ends) m' p v σ
         unq-operator d g =
-            less (omega (arith, ap (λ (z : Parser). z .depth) m)) (sooner (omega (arith, n .0))
-            (by (unq-is here ∙ unqualified-operator c (drop (to + 1) s) σ (none-of x y z) d ∙ ap (λ (t : Text). reading ⟨operator-name⟩ (moved t σ)) (sym here)) (reads-from m g h (n .1))))
+            sooner (omega (arith, n .0))
+            (by (unq-is here ∙ unqualified-operator c (drop (to + 1) s) σ (none-of x y z) d ∙ ap (λ (t : Text). reading ⟨operator-name⟩ (moved t σ)) (sym here)) (call-moved keep m g h (n .1)))

@@ -4,9 +4,9 @@ use mathlib.Core.List.{List, [], _∷_, _++_, append-assoc, append-nil}
 use mathlib.Core.Path.{_≡_, refl, sym, ap, _∙_, subst}
 use Prim.Native.Nat.{ℕ, zero, suc, _+_, _-_, _≤_, _<_, min}
 use native.Mathlib.Omega.{arith}
-use borrow.Author.Tests.{eq-eqb, ne-eqb, eqb-true, ltb-true, ltb-false, le-leb, lt-leb, leb-true, leb-false}
+use borrow.Author.Tests.{eq-eqb, ne-eqb, eqb-true, ltb-true, ltb-false, leb-true, leb-false}
 use lib.Dec.{eqb, leb, ltb}
-use lib.ListN.{length, take, drop, getD, set, length-append, length-drop}
+use lib.ListN.{length, take, drop, getD, set, length-append}
 use lib.Seq.{getD-set-same, getD-set-other}
 use Rattle.grammar.specs.Text.{Text, b, if_then_else_, starts, join}
 use Rattle.grammar.specs.Reader.{State, Result, ok, refused, Reader, onto, return, give, while, one-more}
@@ -16,22 +16,22 @@ use Rattle.grammar.specs.Agree.{moved, bind}
 use Rattle.grammar.specs.Agree as agree
 use Rattle.grammar.specs.Fuel.{reading-ends}
 use Rattle.grammar.specs.Loops.{closed, before-E, items-loop, up-to-E-is}
-use Rattle.store.specs.Stack.{Clean, Tail}
+use Rattle.store.specs.Stack.{Tail}
 use Rattle.store.specs.Tails.{whole, both}
-use Rattle.parser.specs.Holds.{Memory, mem, Holds, Stands, Reads, Refines, reads, refuses, Puts, window, keep, given-of}
-use Rattle.parser.specs.Halves.{store-size, ends-size}
-use Rattle.parser.specs.Laws.{by, by-state, holds-moved, holds-puts, tail-puts, short-enough, got}
+use Rattle.parser.specs.Holds.{Memory, mem, Holds, Reads, Refines, reads, refuses, Puts, window, keep, given-of}
+use Rattle.parser.specs.Halves.{give-short, give-long}
+use Rattle.parser.specs.Laws.{by, holds-moved, holds-puts, tail-puts, got}
 use Rattle.parser.specs.States.{peeked, moved-to}
 use Rattle.parser.specs.declared.state.Parser.{Parser}
-use Rattle.parser.specs.declared.state.Peeked.{Peeked}
 use Rattle.parser.specs.declared.state.Peeked.the-variants as peeked-as
 use Rattle.parser.specs.declared.state.Read.{Read}
 use Rattle.parser.specs.declared.state.Read.the-variants.{Text as read, Refused}
 use Rattle.reader.specs.declared.lists.Kind.the-variants.{Types}
+use Rattle.reader.specs.Separators.{join-more, before-same}
+use Rattle.reader.specs.Standing.{same-sizes}
 use Rattle.reader.specs.Lists.{before-text, ends-pack, opens-pack}
-use Rattle.reader.specs.Items.{peek-byte, peek-end, one-byte, ends-on, on-byte, join-more, refused-is}
+use Rattle.reader.specs.Items.{peek-byte, peek-end, one-byte, byte-within, while-stops, while-goes, ends-on, on-byte, refused-is}
 use Rattle.reader.specs.Closes.{closed-no, closed-yes, then-refused, then-ok, behind-is, arg-pack}
-use Rattle.reader.specs.Nested.{long-text}
 
 -- ---------------------------------------------------------------- the definition, from a pack with texts on
 
@@ -60,12 +60,8 @@ out-refused [] j = refl
 out-refused (o ∷ os) j = refl
 
 module _ (os : List (List Text)) (ts : List Text) (σ : State) where
-  abbrev stepped : Bool → Result (List Text)
-  stepped q = if_then_else_ {A = Reader (List Text)} q (λ u. onto (λ y. packed y) (one-more (reading ⟨template-arg⟩) ts u)) (return ts) σ
-
   stops : before-E (σ .rest) ≡ false → packed ts σ ≡ ok ts σ
-  unfolding if_then_else_
-  stops e = items-loop ⟨template-arg⟩ before-E ts σ ∙ ap stepped e
+  stops e = while-stops before-E (one-more (reading ⟨template-arg⟩)) ts σ (items-loop ⟨template-arg⟩ before-E ts σ) e
 
   through : (r : Result Text) → outward os (onto ended (onto closed (onto (λ y. packed y) (onto (λ t. return (ts ++ (t ∷ []))) r)))) ≡ outward (ts ∷ os) r
   unfolding onto
@@ -74,8 +70,7 @@ module _ (os : List (List Text)) (ts : List Text) (σ : State) where
 
   -- an argument ahead
   goes : before-E (σ .rest) ≡ true → outward os (rest-of ts σ) ≡ outward (ts ∷ os) (reading ⟨template-arg⟩ σ)
-  unfolding if_then_else_
-  goes e = ap (λ (x : Result (List Text)). outward os (onto ended (onto closed x))) (items-loop ⟨template-arg⟩ before-E ts σ ∙ ap stepped e) ∙ through (reading ⟨template-arg⟩ σ)
+  goes e = ap (λ (x : Result (List Text)). outward os (onto ended (onto closed x))) (while-goes before-E (one-more (reading ⟨template-arg⟩)) ts σ (items-loop ⟨template-arg⟩ before-E ts σ) e) ∙ through (reading ⟨template-arg⟩ σ)
 
   goes-on : {t : Text} {τ : State} → before-E (σ .rest) ≡ true → reading ⟨template-arg⟩ σ ≡ ok t τ → outward os (rest-of ts σ) ≡ outward os (rest-of (ts ++ (t ∷ [])) τ)
   unfolding onto
@@ -95,10 +90,6 @@ module _ (os : List (List Text)) (ts : List Text) (σ : State) where
   goes-out : (s : Text) (at : ℕ) → σ .rest ≡ drop at s → before-E (σ .rest) ≡ false → starts (σ .rest) (69 ∷ []) ≡ true → rest-of ts σ ≡ give (join (b ", ") ts) (moved (drop (at + 1) s) σ)
   goes-out s at r e f = then-ok ended (closed-yes (stops e) f) ∙ ap (give (join (b ", ") ts)) (behind-is s at σ r)
 
-short-text : (t : Text) (σ : State) → length t ≤ 16384 → give t σ ≡ ok t σ
-unfolding give if_then_else_
-short-text t σ l = rw (le-leb (length t) 16384 l)
-
 -- ---------------------------------------------------------------- the texts, and their bytes
 
 -- the bytes of texts, with two more for each
@@ -116,13 +107,9 @@ join-size [] = refl
 join-size (x ∷ []) = omega arith
 join-size (x ∷ y ∷ ts) = omega (arith, join-size (y ∷ ts), length-append x (44 ∷ 32 ∷ join (44 ∷ 32 ∷ []) (y ∷ ts)))
 
-some-before : (n : ℕ) → 0 < n → before-text n ≡ b ", "
-some-before zero h = absurd (omega arith)
-some-before (suc n) h = refl
-
-before-is : (ts : List Text) {n : ℕ} → n ≡ min (weight ts) 65536 → before-text n ≡ before-text (length ts)
-before-is [] {n} e = ap before-text {x = n} {y = 0} (omega arith)
-before-is (t ∷ ts) {n} e = some-before n (omega arith)
+some-weight : (ts : List Text) {n : ℕ} → n ≡ min (weight ts) 65536 → min n 1 ≡ min (length ts) 1
+some-weight [] e = omega arith
+some-weight (t ∷ ts) e = omega arith
 
 -- what stands below the innermost pack
 abbrev under : List (List Text) → Text
@@ -200,7 +187,7 @@ module _ {s : Text} {m₀ : Memory} {p₀ : Parser} {m : Memory} {p : Parser} {o
     first = l .holds .rest ∙ peek-byte (drop (p .at) s) e
 
     pub inside : p .at < length s
-    inside = omega (arith, l .holds .place, length-drop (p .at) s, ap length (peek-byte (drop (p .at) s) e))
+    inside = byte-within s (p .at) e
 
     ahead : {x : ℕ} → c ≡ x → starts (l .state .rest) (x ∷ []) ≡ true
     ahead {x} f = ap (λ (t : Text). starts t (x ∷ [])) first ∙ one-byte c x (drop 1 (drop (p .at) s)) ∙ eq-eqb c x f
@@ -224,7 +211,7 @@ packed-opens {s} {m₀} {p₀} {text} {text'} {store} {ends} {p} {q} {p'} {outer
     let j : Text = join (b ", ") (l .texts) in
     let below : Text = under (l .around) in
     let is : (below ++ j) ++ before-text n ≡ (below ++ (j ++ before-text (length (l .texts)))) ++ [] =
-    append-assoc below j (before-text n) ∙ ap (λ (x : Text). below ++ (j ++ x)) (before-is (l .texts) (l .size)) ∙ sym (append-nil _) in
+    append-assoc below j (before-text n) ∙ ap (λ (x : Text). below ++ (j ++ x)) (before-same (b ", ") n (length (l .texts)) (some-weight (l .texts) (l .size))) ∙ sym (append-nil _) in
     subst (λ (x : Parser). Packed s m₀ p₀ (mem text' store ends) x (set outer level n) (level + 1) 0 σ₀) (sym f) (record {
       around = l .texts ∷ l .around;
       texts = [];
@@ -281,8 +268,7 @@ module _ {s : Text} {m₀ : Memory} {p₀ : Parser} {text text' store ends : Lis
         let is : ((below ++ j) ++ before-text n) ++ t ≡ below ++ join (b ", ") (l .texts ++ (t ∷ [])) =
         ap (λ (z : Text). z ++ t) (append-assoc below j (before-text n))
         ∙ append-assoc below (j ++ before-text n) t
-        ∙ ap (λ (z : Text). below ++ ((j ++ z) ++ t)) (before-is (l .texts) (l .size))
-        ∙ ap (λ (z : Text). below ++ z) (sym (join-more (l .texts) t)) in
+        ∙ ap (λ (z : Text). below ++ z) (append-assoc j (before-text n) t ∙ sym (join-more (b ", ") n (l .texts) t (some-weight (l .texts) (l .size)))) in
         record {
           around = l .around;
           texts = l .texts ++ (t ∷ []);
@@ -332,14 +318,15 @@ module _ {s : Text} {m₀ : Memory} {p₀ : Parser} {m : Memory} {p : Parser} {o
         holds = holds-moved (l .holds) (p .at + 1) (omega (arith, inside l e));
         tail =
             subst (λ (x : Text). Tail (keep (p₀ .depth)) (window m p) (window m₀ p₀ ++ x))
-            (append-assoc (under os) (join (b ", ") y ++ before-text (length y)) shown ∙ ap (λ (x : Text). under os ++ x) (sym (join-more y shown))) t;
+            (append-assoc (under os) (join (b ", ") y ++ before-text (length y)) shown
+            ∙ ap (λ (x : Text). under os ++ x) (append-assoc (join (b ", ") y) (before-text (length y)) shown ∙ sym (join-more (b ", ") (length y) y shown refl))) t;
         depth = l .depth;
         more = omega (arith, l .more);
         level-is = omega (arith, k);
         size =
             omega (arith, o, ap (λ (x : ℕ). getD outer x 0) {x = level - 1} {y = length os} (omega (arith, k)), z .0, inner-E level n a .1, l .size, shown-size, weight-more y shown);
         sizes = z .1;
-        same = h ∙ ap (outward (y ∷ os)) (given ∙ short-text shown behind short);
+        same = h ∙ ap (outward (y ∷ os)) (given ∙ give-short shown behind short);
       }
 
   -- the sizes that are there are small
@@ -363,10 +350,10 @@ module _ {s : Text} {m₀ : Memory} {p₀ : Parser} {m : Memory} {p : Parser} {o
           g.pack reading σ₀ ≡ outward around (rest-of (l .texts) (l .state)) → Refines (keep (p₀ .depth)) (p₀ .depth) s (window m₀ p₀) (p₀ .at + 1) m (answer q) (g.pack reading σ₀)
       go false x around t d h =
           let y : 16384 < length shown = omega (arith, leb-false j 16384 x, o, l .size, shown-size) in
-          by (h ∙ ap (outward around) (given ∙ long-text shown behind y) ∙ out-refused around 11) refuses
+          by (h ∙ ap (outward around) (given ∙ give-long shown behind y) ∙ out-refused around 11) refuses
       go true x [] t d h =
           let y : length shown ≤ 16384 = omega (arith, leb-true j 16384 x, o, l .size, shown-size) in
-          by (h ∙ given ∙ short-text shown behind y) (reads (record {
+          by (h ∙ given ∙ give-short shown behind y) (reads (record {
             holds = holds-moved (l .holds) (p .at + 1) (omega (arith, inside l e));
             tail = t;
             size = omega (arith, leb-true j 16384 x, o, l .size, shown-size);
@@ -389,13 +376,13 @@ pub record Packing (s : Text) (m₀ : Memory) (p₀ : Parser) (m : Memory) (p : 
 pub packing :
     {s : Text} {m₀ : Memory} {p₀ : Parser} {m : Memory} {p : Parser} {outer : List ℕ} {level n : ℕ} {σ : State} → Holds s m₀ p₀ σ → length outer ≡ 64 → level ≤ 64 →
     ((σ₀ : State) → Holds s m₀ p₀ σ₀ → Packed s m₀ p₀ m p outer level n σ₀) → Packing s m₀ p₀ m p outer level n
-packing {σ = σ} h z d f =
-    let v = f σ h .holds in
+packing {σ = σ} h r d f =
+    let z = same-sizes h (f σ h .holds) in
     record {
-      text-same = omega (arith, v .text .size, h .text .size);
-      store-same = omega (arith, store-size v, store-size h);
-      ends-same = omega (arith, ends-size v, ends-size h);
-      room = z;
+      text-same = z .0;
+      store-same = z .1 .0;
+      ends-same = z .1 .1;
+      room = r;
       deep = d;
       so-far = f;
     }

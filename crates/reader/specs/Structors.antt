@@ -1,16 +1,15 @@
 -- A constructor or destructor: the class again behind the parts so far. Assumes nothing.
 use mathlib.Core.Bool.{Bool, true, false}
-use mathlib.Core.List.{List, [], _∷_, _++_, append-assoc, append-nil}
-use mathlib.Core.Option.{Option, none, some}
+use mathlib.Core.List.{List, [], _∷_, _++_, append-assoc}
 use mathlib.Core.Path.{_≡_, refl, sym, ap, _∙_, subst}
-use Prim.Native.Nat.{ℕ, suc, _+_, _-_, _*_, _≤_, _<_, min}
+use Prim.Native.Nat.{ℕ, _+_, _-_, _*_, _≤_, _<_, min}
 use native.Mathlib.Omega.{arith}
 use lib.Dec.{eqb, leb}
-use lib.ListN.{length, take, drop, length-append, length-take, length-drop, take-append-drop}
+use lib.ListN.{length, take, drop, length-append, length-drop, take-append-drop}
 use lib.Seq.{take-take, take-all, take-append-le, drop-at, drop-drop, length-take-le}
 use borrow.Author.Tests.{leb-true, leb-false, eq-eqb, ne-eqb}
 use Rattle.grammar.specs.Text.{Text, b, choose, join, if_then_else_, run, after-last}
-use Rattle.grammar.specs.Reader.{State, Result, ok, Reader, onto, go-to}
+use Rattle.grammar.specs.Reader.{State, ok, onto, go-to}
 use Rattle.grammar.specs.Grammar.{reading, last, class-of}
 use Rattle.grammar.specs.Grammar as g
 use Rattle.grammar.specs.Agree.{moved}
@@ -19,16 +18,18 @@ use Rattle.store.specs.Lists as lists
 use Rattle.store.specs.Tails.{newest-is, top-size}
 use Rattle.parser.specs.declared.state.Parser.{Parser}
 use Rattle.parser.specs.declared.leaf.Class.{Class}
-use Rattle.parser.specs.Holds.{Memory, mem, Holds, Stands, Puts, window, keep}
+use Rattle.parser.specs.Holds.{Memory, mem, Holds, Stands, Puts, keep}
 use Rattle.parser.specs.States.{moved-to}
 use Rattle.parser.specs.Laws.{holds-moved}
-use Rattle.parser.specs.Leaves.{Classed, class-in, class-of-is, unargued}
+use Rattle.parser.specs.Leaves.{Classed, class-in, class-of-is}
 use Rattle.parser.specs.Wraps.{stands-puts, end-text}
 use Rattle.reader.specs.declared.lists.Parts.{Parts}
 use Rattle.reader.specs.declared.lists.Prefix.the-variants as prefix-as
 use Rattle.reader.specs.Lists.{Alike, same-text, both-long, Parted, Parting, parted, before-part}
 use Rattle.reader.specs.Items.{one-byte}
-use Rattle.reader.specs.Joined.{joined-more, last-more, colons-size, puts-none, parts-by}
+use Rattle.reader.specs.Separators.{join-more, puts-nothing}
+use Rattle.reader.specs.Standing.{stands-kept, stands-sized}
+use Rattle.reader.specs.Joined.{last-more, shown-is, colons-size, parts-by}
 
 -- a destructor's class stands behind this
 unfoldable pub tilde-of : ℕ → Text
@@ -56,7 +57,7 @@ module _ (c : ℕ) where
   puts-tilde e u = rw (tilde-at e) u
 
   pub puts-no-tilde : {text : Text} {p : Parser} → (c ≡ 68 → ⊥) → Clean text (p .top) → Puts text text p p (tilde-of c)
-  puts-no-tilde n l = rw (tilde-none n) (puts-none 0 refl l)
+  puts-no-tilde n l = rw (tilde-none n) (puts-nothing l)
 
 -- ---------------------------------------------------------------- the definition
 
@@ -122,15 +123,7 @@ pub stands-two :
 stands-two {s = s} {m = m} {p = p} {σ = σ} {t = t} from' h e l =
     let i : p .at + 2 ≤ length s = omega (arith, h .holds .place, length-drop (p .at) s, ap length (sym (h .holds .rest) ∙ e)) in
     let f : drop (p .at + 2) s ≡ t = sym (drop-drop 2 (p .at) s) ∙ ap (drop 2) (sym (h .holds .rest) ∙ e) in
-    record {
-      holds = subst (λ (r : Text). Holds s m (moved-to p (p .at + 2)) (moved r σ)) f (holds-moved (h .holds) (p .at + 2) i);
-      tail = h .tail;
-      size = h .size;
-      level = h .level;
-      more = l;
-      least = h .least;
-      most = h .most;
-    }
+    stands-kept h (subst (λ (r : Text). Holds s m (moved-to p (p .at + 2)) (moved r σ)) f (holds-moved (h .holds) (p .at + 2) i)) refl refl l
 
 module _ {s base : Text} {from : ℕ} {m : Memory} {p : Parser} {q : Parts} {ps : g.Parts} {σ : State} (h : Parted (keep (p .depth)) (p .depth) s base from m p q ps σ) {c x : ℕ} {t : Text} (e : σ .rest ≡ c ∷ x ∷ t) where
   -- the parts are too long already
@@ -146,7 +139,7 @@ module _ {s base : Text} {from : ℕ} {m : Memory} {p : Parser} {q : Parts} {ps 
   })))
     where
       grown : length (join (b "::") (ps .texts)) ≤ length (join (b "::") (ps .texts ++ ((tilde-of c ++ class-of (ps .texts)) ∷ [])))
-      grown = omega (arith, ap length (joined-more (q .count) (ps .texts) (tilde-of c ++ class-of (ps .texts)) (h .count)), length-append (join (b "::") (ps .texts)) (before-part (q .count) ++ (tilde-of c ++ class-of (ps .texts))))
+      grown = omega (arith, ap length (join-more (b "::") (q .count) (ps .texts) (tilde-of c ++ class-of (ps .texts)) (omega (arith, h .count))), length-append (join (b "::") (ps .texts)) (before-part (q .count) ++ (tilde-of c ++ class-of (ps .texts))))
 
       long : Alike (h .shown) (join (b "::") (ps .texts)) → 32768 < length (join (b "::") (ps .texts))
       long (same-text f) = omega (arith, ap length f, h .stands .size)
@@ -156,10 +149,6 @@ module _ {s base : Text} {from : ℕ} {m : Memory} {p : Parser} {q : Parts} {ps 
       longer a = both-long (omega (arith, h .stands .size)) (omega (arith, grown, long a))
 
 -- ---------------------------------------------------------------- the class once more
-
-shown-short : {u t : Text} {n : ℕ} → Alike u t → n ≡ min (length u) 65536 → n ≤ 32768 → u ≡ t
-shown-short (same-text e) f l = e
-shown-short {u} (both-long i j) f l = absurd (omega arith)
 
 -- a class of which no more than 16,384 bytes are put: the rest can only be missing where the parts are too long
 alike-class :
@@ -186,7 +175,7 @@ structor-short {s} {base} {text} {text₁} {text₂} {text₃} {store} {ends} {f
     let j : Text = join (b "::") ts in
     let z : Text = before-part (q .count) in
     let y : Text = tilde-of c in
-    let shown : h .shown ≡ j = shown-short (h .alike) (h .stands .size) l in
+    let shown : h .shown ≡ j = shown-is (λ i _. omega (arith, i, h .stands .size, l)) (h .alike) in
     let size : length j ≡ q .n = omega (arith, h .stands .size, ap length shown) in
     let final : q .last ≡ length (last-part ts) = h .final (omega arith) in
     let (f, split) = joined-last ts in
@@ -206,21 +195,13 @@ structor-short {s} {base} {text} {text₁} {text₂} {text₃} {store} {ends} {f
     let same : p₃ .at ≡ p .at = ap (λ (a : Parser). a .at) (w .same) ∙ ap (λ (a : Parser). a .at) (v .same) ∙ ap (λ (a : Parser). a .at) (u .same) in
     let s₅ : Stands (keep (p .depth)) (p .depth) s base (p .at + 1) (mem text₃ store ends) (moved-to p₃ (p .at + 2)) (min (length ((((f ++ last-part ts) ++ z) ++ y) ++ take m (class-of ts))) 65536) ((((f ++ last-part ts) ++ z) ++ y) ++ take m (class-of ts)) (moved t σ) =
     subst (λ (a : ℕ). Stands (keep (p .depth)) (p .depth) s base (p .at + 1) (mem text₃ store ends) (moved-to p₃ (a + 2)) (min (length ((((f ++ last-part ts) ++ z) ++ y) ++ take m (class-of ts))) 65536) ((((f ++ last-part ts) ++ z) ++ y) ++ take m (class-of ts)) (moved t σ)) same (stands-two (p .at + 1) s₄ e (omega arith)) in
-    let join' : join (b "::") (ts ++ ((y ++ class-of ts) ∷ [])) ≡ j ++ (z ++ (y ++ class-of ts)) = joined-more (q .count) ts (y ++ class-of ts) (h .count) in
+    let join' : join (b "::") (ts ++ ((y ++ class-of ts) ∷ [])) ≡ j ++ (z ++ (y ++ class-of ts)) = join-more (b "::") (q .count) ts (y ++ class-of ts) (omega (arith, h .count)) in
     let count : 0 < class .n → length z ≡ 2 = λ (n : 0 < class .n). omega (arith, colons-size (q .count), h .count, some-part ts (omega (arith, cls .inside))) in
     let all : length ((((f ++ last-part ts) ++ z) ++ y) ++ take m (class-of ts)) ≡ q .n + (2 * min (q .count) 1 + (length y + m)) =
     length-append (((f ++ last-part ts) ++ z) ++ y) (take m (class-of ts)) ∙ omega (arith, ap length (append-assoc (f ++ last-part ts) z y), long, length-take-le m (class-of ts) (omega arith)) in
     record {
       shown = (((f ++ last-part ts) ++ z) ++ y) ++ take m (class-of ts);
-      stands = record {
-        holds = s₅ .holds;
-        tail = s₅ .tail;
-        size = omega (arith, all, tilde-size c);
-        level = s₅ .level;
-        more = s₅ .more;
-        least = s₅ .least;
-        most = s₅ .most;
-      };
+      stands = stands-sized _ s₅ refl (omega (arith, all, tilde-size c));
       alike = rw join' (subst (λ (a : Text). Alike (((a ++ z) ++ y) ++ take m (class-of ts)) (j ++ (z ++ (y ++ class-of ts)))) split (alike-class j z y (class-of ts) i (sym whole) (omega (arith, cls .inside, h .within)) count));
       final = λ n. rw (last-more ts (y ++ class-of ts)) (omega (arith, length-append y (class-of ts), ap length join', length-append j (z ++ (y ++ class-of ts)), length-append z (y ++ class-of ts), cls .inside, h .within, n));
       within = omega arith;

@@ -1,12 +1,13 @@
 -- `reader::lists::comma` meets its contract. Assumes nothing.
 use borrow.Author.Needs.{needs}
 use native.Mathlib.Omega.{arith}
-use Rattle.reader.specs.Items.{puts-no-comma, puts-comma}
+use Rattle.grammar.specs.Text.{b}
+use Rattle.reader.specs.Separators.{puts-none, puts-some}
 use Rattle.reader.proofs.lists.comma.Statement.{statement}
 use Rattle.reader.proofs.lists.comma.Tie as tie
 
 returns : tie.Need-returns
-returns c = puts-no-comma (c .before .before .args .n) (omega arith) (c .before .before .pre)
+returns c = puts-none (b ", ") (c .before .before .args .n) (omega arith) (c .before .before .pre)
 
 slice-aggregate-put : tie.Need-slice-aggregate-put
 slice-aggregate-put c = search needs
@@ -18,7 +19,8 @@ same-length : tie.Need-same-length
 same-length c = search needs
 
 returns-2 : tie.Need-returns-2
-returns-2 c = puts-comma (c .before .before .before .before .before .before .before .args .n) (omega arith) (c .before .before .put .ensures)
+unfolding b
+returns-2 c = puts-some (b ", ") (c .before .before .before .before .before .before .before .args .n) (omega arith) (c .before .before .put .ensures)
 
 pub comma-spec : {M : Type 1} → statement M
 comma-spec = tie.close (tie.spec returns slice-aggregate-put put-requires same-length returns-2)

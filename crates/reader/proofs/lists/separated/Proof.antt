@@ -1,12 +1,13 @@
 -- `reader::lists::separated` meets its contract. Assumes nothing.
 use borrow.Author.Needs.{needs}
 use native.Mathlib.Omega.{arith}
-use Rattle.reader.specs.Joined.{puts-none, puts-colons}
+use Rattle.grammar.specs.Text.{b}
+use Rattle.reader.specs.Separators.{puts-none, puts-some}
 use Rattle.reader.proofs.lists.separated.Statement.{statement}
 use Rattle.reader.proofs.lists.separated.Tie as tie
 
 returns : tie.Need-returns
-returns c = puts-none (c .before .before .before .args .parts .count) (omega arith) (c .before .before .before .pre .3 .1 .text)
+returns c = puts-none (b "::") (c .before .before .before .args .parts .count) (omega arith) (c .before .before .before .pre .3 .1 .text)
 
 slice-aggregate-put : tie.Need-slice-aggregate-put
 slice-aggregate-put c = search needs
@@ -18,7 +19,8 @@ same-length : tie.Need-same-length
 same-length c = search needs
 
 returns-2 : tie.Need-returns-2
-returns-2 c = puts-colons (c .before .before .before .before .before .before .before .before .args .parts .count) (omega arith) (c .before .before .put .ensures)
+unfolding b
+returns-2 c = puts-some (b "::") (c .before .before .before .before .before .before .before .before .args .parts .count) (omega arith) (c .before .before .put .ensures)
 
 pub separated-spec : {M : Type 1} → statement M
 separated-spec = tie.close (tie.spec returns slice-aggregate-put put-requires same-length returns-2)

@@ -3,12 +3,12 @@ use mathlib.Core.Path.{refl, sym, ap, _∙_}
 use Prim.Native.Nat.{ℕ}
 use borrow.Author.Tests.{not-true, not-false}
 use Rattle.parser.specs.declared.state.Parser.{Parser}
-use Rattle.parser.specs.Holds.{refuses}
+use Rattle.parser.specs.Holds.{refuses, keep}
 use Rattle.parser.specs.Laws.{by, less, sooner, holds-moved}
 use Rattle.parser.specs.Adds.{ready-moved, puts-from, clean-by}
 use Rattle.parser.specs.Halves.{wrote-one}
 use Rattle.parser.specs.Runs.{starts-inside}
-use Rattle.reader.specs.Heads.{inner-at}
+use Rattle.reader.specs.Opens.{call-moved}
 use Rattle.reader.specs.Closes.{ahead-is, arg-literal, arg-skipped, arg-open, arg-pack, arg-other, skips-to, skips-none}
 use borrow.Author.Needs.{needs}
 use native.Mathlib.Omega.{arith}
@@ -96,7 +96,7 @@ same-length-7 t c = search needs
 pub returns-4 : (t : ℕ) → lts.Need-returns-4 (arg-calls t) (arg-at t) arg.Post
 returns-4 t c = λ σ h.
     by (arg-pack (c .before .before .before .before .before .before .before .before .before .before .before .before .before .before .before .before .before .before .before .before .before .args .s .now) (c .before .before .before .before .before .before .before .before .before .before .before .before .before .before .before .before .before .before .before .before .before .args .p .at) σ (h .rest) (ahead-is _ _ _ (h .rest) (c .before .before .before .before .before .before .before .before .before .before .before .before .here3 .ensures) (c .before .before .before .before .before .before .before .before .before .before .before .if3 .taken)))
-    (sooner (omega arith) (inner-at (c .before .before .before .before .before .before .before .moved2 .ensures) (c .before .before .before .before .before .before .pack .ensures) h (omega (arith, starts-inside (c .before .before .before .before .before .before .before .before .before .before .before .before .before .before .before .before .before .before .before .before .before .args .s .now) (c .before .before .before .before .before .before .before .before .before .before .before .before .before .before .before .before .before .before .before .before .before .args .p .at) 74 (sym (c .before .before .before .before .before .before .before .before .before .before .before .before .here3 .ensures) ∙ c .before .before .before .before .before .before .before .before .before .before .before .if3 .taken)))))
+    (sooner (omega arith) (call-moved keep (c .before .before .before .before .before .before .before .moved2 .ensures) (c .before .before .before .before .before .before .pack .ensures) h (omega (arith, starts-inside (c .before .before .before .before .before .before .before .before .before .before .before .before .before .before .before .before .before .before .before .before .before .args .s .now) (c .before .before .before .before .before .before .before .before .before .before .before .before .before .before .before .before .before .before .before .before .before .args .p .at) 74 (sym (c .before .before .before .before .before .before .before .before .before .before .before .before .here3 .ensures) ∙ c .before .before .before .before .before .before .before .before .before .before .before .if3 .taken)))))
 
 pub ty-requires : (t : ℕ) → lts.Need-ty-requires (arg-calls t) (arg-at t) arg.Post
 ty-requires t c κs = (omega (arith, c .before .before .before .before .before .before .before .before .before .before .before .before .before .pre .0), c .before .before .before .before .before .before .before .before .before .before .before .before .before .pre .1)

@@ -1,10 +1,11 @@
 -- The answers of `array`. Assumes nothing.
-use Prim.Native.Nat.{ℕ}
+use Prim.Native.Nat.{ℕ, _+_}
 use mathlib.Core.Path.{_∙_}
-use Rattle.parser.specs.Holds.{refuses}
+use Rattle.parser.specs.Holds.{refuses, keep}
 use Rattle.parser.specs.Laws.{by, got, refused-on}
 use Rattle.parser.specs.Adds.{ready-moved}
-use Rattle.reader.specs.Opens.{at-of, on-got, stands-at, type-at}
+use Rattle.reader.specs.Opens.{at-of, on-got, call-moved}
+use Rattle.reader.specs.Standing.{stands-at}
 use Rattle.reader.specs.Arrays.{array-4, array-in, array-given, part-size}
 use borrow.Author.Needs.{needs}
 use native.Mathlib.Omega.{arith}
@@ -43,7 +44,7 @@ pub same-length-3 : (t : ℕ) → lts.Need-same-length-3 (array-calls t) (array-
 same-length-3 t c = search needs
 
 pub returns-2 : (t : ℕ) → lts.Need-returns-2 (array-calls t) (array-at t) array.Post
-returns-2 t c = λ σ h. by (array-in _ _ σ (h .rest) (c .before .before .before .before .before .before .before .before .before .before .before .before .before .before .before2 .ensures .0) (c .before .before .before .before .before .before .before .before .before .before .before .before .before .if1 .left)) (refused-on _ (c .enum-told .given .1) (type-at (c .before .before .before .before .before .before .before .before .before .moved .ensures) (c .before .before .before .before .before .before .before .before .ty .ensures) h (omega (arith, c .before .before .before .before .before .before .before .before .before .before .before .before .before .if1 .left))))
+returns-2 t c = λ σ h. by (array-in _ _ σ (h .rest) (c .before .before .before .before .before .before .before .before .before .before .before .before .before .before .before2 .ensures .0) (c .before .before .before .before .before .before .before .before .before .before .before .before .before .if1 .left)) (refused-on _ (c .enum-told .given .1) (call-moved (λ d. keep (d + 1)) (c .before .before .before .before .before .before .before .before .before .moved .ensures) (c .before .before .before .before .before .before .before .before .ty .ensures) h (omega (arith, c .before .before .before .before .before .before .before .before .before .before .before .before .before .if1 .left))))
 
 pub slice-aggregate-put : (t : ℕ) → lts.Need-slice-aggregate-put (array-calls t) (array-at t) array.Post
 slice-aggregate-put t c = search needs
@@ -51,7 +52,7 @@ slice-aggregate-put t c = search needs
 pub put-requires : (t : ℕ) → lts.Need-put-requires (array-calls t) (array-at t) array.Post
 put-requires t c κs =
     let h = c .before .before .before .before .before .before .before .before .before .before .before .before .before .before .before .before .before .before .before .before .before .before .pre .1 .1 in
-    let w = got (c .before .before .before .got .given .1) (type-at (c .before .before .before .before .before .before .before .before .before .before .before .before .moved .ensures) (c .before .before .before .before .before .before .before .before .before .before .before .ty .ensures) h (omega (arith, c .before .before .before .before .before .before .before .before .before .before .before .before .before .before .before .before .if1 .left))) in
+    let w = got (c .before .before .before .got .given .1) (call-moved (λ d. keep (d + 1)) (c .before .before .before .before .before .before .before .before .before .before .before .before .moved .ensures) (c .before .before .before .before .before .before .before .before .before .before .before .ty .ensures) h (omega (arith, c .before .before .before .before .before .before .before .before .before .before .before .before .before .before .before .before .if1 .left))) in
     (w .wrote .holds .text, omega arith)
 
 pub put-part-requires : (t : ℕ) → lts.Need-put-part-requires (array-calls t) (array-at t) array.Post
@@ -66,7 +67,7 @@ put-requires-2 t c κs = search needs
 pub add-given : (t : ℕ) → lts.Need-add-given (array-calls t) (array-at t) array.Post
 add-given t c =
     let h = c .before .before .before .before .before .before .before .before .before .before .before .before .before .before .before .before .before .before .before .before .before .before .before .before .before .before .before .before .before .before .before .before .before .before .pre .1 .1 in
-    let w = got (c .before .before .before .before .before .before .before .before .before .before .before .before .before .before .before .got .given .1) (type-at (c .before .before .before .before .before .before .before .before .before .before .before .before .before .before .before .before .before .before .before .before .before .before .before .before .moved .ensures) (c .before .before .before .before .before .before .before .before .before .before .before .before .before .before .before .before .before .before .before .before .before .before .before .ty .ensures) h (omega (arith, c .before .before .before .before .before .before .before .before .before .before .before .before .before .before .before .before .before .before .before .before .before .before .before .before .before .before .before .before .if1 .left))) in
+    let w = got (c .before .before .before .before .before .before .before .before .before .before .before .before .before .before .before .got .given .1) (call-moved (λ d. keep (d + 1)) (c .before .before .before .before .before .before .before .before .before .before .before .before .before .before .before .before .before .before .before .before .before .before .before .before .moved .ensures) (c .before .before .before .before .before .before .before .before .before .before .before .before .before .before .before .before .before .before .before .before .before .before .before .ty .ensures) h (omega (arith, c .before .before .before .before .before .before .before .before .before .before .before .before .before .before .before .before .before .before .before .before .before .before .before .before .before .before .before .before .if1 .left))) in
     omega (arith, w .wrote .size, w .wrote .short)
 
 pub sub-given : (t : ℕ) → lts.Need-sub-given (array-calls t) (array-at t) array.Post
@@ -75,7 +76,7 @@ sub-given t c = omega (arith, c .before .before .before .before .before .before 
 pub add-given-2 : (t : ℕ) → lts.Need-add-given-2 (array-calls t) (array-at t) array.Post
 add-given-2 t c =
     let h = c .before .before .before .before .before .before .before .before .before .before .before .before .before .before .before .before .before .before .before .before .before .before .before .before .before .before .before .before .before .before .before .before .before .before .pre .1 .1 in
-    let w = got (c .before .before .before .before .before .before .before .before .before .before .before .before .before .before .before .got .given .1) (type-at (c .before .before .before .before .before .before .before .before .before .before .before .before .before .before .before .before .before .before .before .before .before .before .before .before .moved .ensures) (c .before .before .before .before .before .before .before .before .before .before .before .before .before .before .before .before .before .before .before .before .before .before .before .ty .ensures) h (omega (arith, c .before .before .before .before .before .before .before .before .before .before .before .before .before .before .before .before .before .before .before .before .before .before .before .before .before .before .before .before .if1 .left))) in
+    let w = got (c .before .before .before .before .before .before .before .before .before .before .before .before .before .before .before .got .given .1) (call-moved (λ d. keep (d + 1)) (c .before .before .before .before .before .before .before .before .before .before .before .before .before .before .before .before .before .before .before .before .before .before .before .before .moved .ensures) (c .before .before .before .before .before .before .before .before .before .before .before .before .before .before .before .before .before .before .before .before .before .before .before .ty .ensures) h (omega (arith, c .before .before .before .before .before .before .before .before .before .before .before .before .before .before .before .before .before .before .before .before .before .before .before .before .before .before .before .before .if1 .left))) in
     omega (arith, w .wrote .size, w .wrote .short, c .before .before .before .before .before .before .before .before .before .before .before .before .before .before .before .before .before .before .before .before .before .before .before .before .before .before .before .before .if1 .left, h .source)
 
 pub given-requires : (t : ℕ) → lts.Need-given-requires (array-calls t) (array-at t) array.Post
@@ -92,7 +93,7 @@ same-length-6 t c = omega (arith, c .before .before .before .put2 .kept, c .befo
 
 pub returns-3 : (t : ℕ) → lts.Need-returns-3 (array-calls t) (array-at t) array.Post
 returns-3 t c = λ σ h.
-    let w = got (c .before .before .before .before .before .before .before .before .before .before .before .before .before .before .before .before .got .given .1) (type-at (c .before .before .before .before .before .before .before .before .before .before .before .before .before .before .before .before .before .before .before .before .before .before .before .before .before .moved .ensures) (c .before .before .before .before .before .before .before .before .before .before .before .before .before .before .before .before .before .before .before .before .before .before .before .before .ty .ensures) h (omega (arith, c .before .before .before .before .before .before .before .before .before .before .before .before .before .before .before .before .before .before .before .before .before .before .before .before .before .before .before .before .before .if1 .left))) in
+    let w = got (c .before .before .before .before .before .before .before .before .before .before .before .before .before .before .before .before .got .given .1) (call-moved (λ d. keep (d + 1)) (c .before .before .before .before .before .before .before .before .before .before .before .before .before .before .before .before .before .before .before .before .before .before .before .before .before .moved .ensures) (c .before .before .before .before .before .before .before .before .before .before .before .before .before .before .before .before .before .before .before .before .before .before .before .before .ty .ensures) h (omega (arith, c .before .before .before .before .before .before .before .before .before .before .before .before .before .before .before .before .before .before .before .before .before .before .before .before .before .before .before .before .before .if1 .left))) in
     let l = part-size h _ (c .before .before .before .before .before .before .before .before .before .before .before .before .before .before .before .before .before .before .before .before .before .before .before .before .before .before .before .before .before .before .before2 .ensures .1) in
     by (array-in _ _ σ (h .rest) (c .before .before .before .before .before .before .before .before .before .before .before .before .before .before .before .before .before .before .before .before .before .before .before .before .before .before .before .before .before .before .before2 .ensures .0) (c .before .before .before .before .before .before .before .before .before .before .before .before .before .before .before .before .before .before .before .before .before .before .before .before .before .before .before .before .before .if1 .left) ∙ on-got _ w)
     (array-given _ (stands-at _ _ (w .wrote) (omega arith) (omega (arith, c .before .before .before .before .before .before .before .before .before .before .before .before .before .before .before .before .before .before .before .before .before .before .before .before .before .before .before .before .before .before .before2 .ensures .0)) (omega arith) (omega (arith, h .deep))) (w .wrote .short) (omega (arith, l, c .before .before .before .before .before .before .before .before .before .before .before .before .before .before .before .before .before .before .before .before .before .before .before .before .before .before .before .before .before .if1 .left, h .source)) (c .before .before .before .before .before .before .before .before .before .before .before .before .put .ensures) (c .before .before .before .before .before .before .before .before .put-part .ensures) (c .before .before .before .put2 .ensures) (omega (arith, l)) (c .given .ensures))

@@ -10,8 +10,9 @@ use Rattle.parser.specs.declared.state.Parser.{Parser}
 use Rattle.parser.specs.Holds.{refuses}
 use Rattle.parser.specs.Laws.{by, got, refused-on, holds-puts}
 use Rattle.parser.specs.Runs.{starts-inside}
-use Rattle.reader.specs.Closes.{got-list, list-refused, refuses-list, closed-refused, closed-no, closed-yes, ahead-is, behind-is, then-refused, then-ok, stands-moved}
-use Rattle.reader.specs.Funcs.{function-open, function-of, func-stands, func-ended, stands-least}
+use Rattle.reader.specs.Closes.{got-list, list-refused, refuses-list, closed-no, closed-yes, ahead-is, behind-is, then-refused, then-ok}
+use Rattle.reader.specs.Standing.{stands-moved, stands-least}
+use Rattle.reader.specs.Funcs.{function-open, function-of, func-stands, func-ended}
 use Rattle.reader.proofs.cycle.func.Reads as func
 use Rattle.reader.proofs.cycle.+arg+args+array+class+func+inst_n+inst_t+item+items+lit+loc_fn+local+memb+name+nest_ty+nested+nm_in+oper+pack+part+plain+px+px_arg+px_new+s_nm+s_ty+std+ty+ty_in+unq+wrap.Lts-func as lts
 use Rattle.reader.proofs.cycle.+arg+args+array+class+func+inst_n+inst_t+item+items+lit+loc_fn+local+memb+name+nest_ty+nested+nm_in+oper+pack+part+plain+px+px_arg+px_new+s_nm+s_ty+std+ty+ty_in+unq+wrap.Proof.Cycle.{func-at, func-calls}
@@ -69,7 +70,7 @@ same-length-6 t c = omega (arith, c .before .before .before .before .before .bef
 pub returns-2 : (t : ℕ) → lts.Need-returns-2 (func-calls t) (func-at t) func.Post
 returns-2 t c = λ σ h.
     let g = got (c .before .before .before .before .before .before .before .before .before .before .before .before .before .before .before .before .before .before .before .got .given .1) (c .before .before .before .before .before .before .before .before .before .before .before .before .before .before .before .before .before .before .before .before .before .before .before .before .before .before .before .ty .ensures _ h) in
-    by (function-of σ (g .is) ∙ then-refused _ (closed-refused (list-refused (c .before .enum-told2 .given .1) (c .before .before .before .before .before .before .before .before .before .items .ensures _ (holds-puts (c .before .before .before .before .before .before .before .before .before .before .before .before .before .before .before .put .ensures) (g .wrote .holds))))))
+    by (function-of σ (g .is) ∙ then-refused _ (then-refused _ (list-refused (c .before .enum-told2 .given .1) (c .before .before .before .before .before .before .before .before .before .items .ensures _ (holds-puts (c .before .before .before .before .before .before .before .before .before .before .before .before .before .before .before .put .ensures) (g .wrote .holds))))))
     (refuses-list (c .before .enum-told2 .given .1) (c .refused .ensures))
 
 pub here-requires : (t : ℕ) → lts.Need-here-requires (func-calls t) (func-at t) func.Post

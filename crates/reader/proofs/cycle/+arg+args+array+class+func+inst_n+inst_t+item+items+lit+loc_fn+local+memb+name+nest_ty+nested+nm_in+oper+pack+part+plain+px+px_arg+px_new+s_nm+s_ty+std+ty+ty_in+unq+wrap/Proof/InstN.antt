@@ -1,6 +1,7 @@
 -- The answers of `reader::cycle::inst_n`.
 -- Assumes nothing.
 use mathlib.Core.Bool.{true}
+use Rattle.reader.specs.Standing.{stands-templated, joined, wrote-least}
 use mathlib.Core.List.{[], _++_}
 use mathlib.Core.Path.{_≡_, refl, ap, _∙_}
 use Rattle.grammar.specs.Text.{Text}
@@ -9,7 +10,7 @@ use Rattle.grammar.specs.Grammar.{reading, ⟨template-args⟩, name-args, name
 use Rattle.parser.specs.declared.state.Parser.{Parser}
 use Rattle.parser.specs.Laws.{by, by-state, got, refused-on, sooner, with-templated, holds-templated}
 use Rattle.parser.specs.Halves.{with-args}
-use Rattle.reader.proofs.cycle.+arg+args+array+class+func+inst_n+inst_t+item+items+lit+loc_fn+local+memb+name+nest_ty+nested+nm_in+oper+pack+part+plain+px+px_arg+px_new+s_nm+s_ty+std+ty+ty_in+unq+wrap.Proof.LawsJoin.{joined, top-least, stands-args, stands-templated}
+use Rattle.reader.proofs.cycle.+arg+args+array+class+func+inst_n+inst_t+item+items+lit+loc_fn+local+memb+name+nest_ty+nested+nm_in+oper+pack+part+plain+px+px_arg+px_new+s_nm+s_ty+std+ty+ty_in+unq+wrap.Proof.LawsJoin.{stands-args}
 use Prim.Native.Nat.{ℕ}
 use borrow.Author.Needs.{needs}
 use native.Mathlib.Omega.{arith}
@@ -61,7 +62,7 @@ add-recorded t c = let h = c .before .before .before .before .before .before .be
 pub recorded-requires : (t : ℕ) → lts.Need-recorded-requires (inst-n-calls t) (inst-n-at t) inst-n.Post
 recorded-requires t c κs = let h = c .before .before .before .before .before .before .before .before .before .before .before .before .before .before .before .before .before .before .before .before .before .clear-args .ensures .1 _ _ _ (c .before .before .before .before .before .before .before .before .before .before .before .before .before .before .before .before .before .before .before .before .before .before .before .before .before .before .before .before .pre .1 .0 .1) in
     let w = got (c .before .before .before .before .before .got .given .1) (c .before .before .before .before .before .before .before .before .before .before .before .before .before .args2 .ensures _ h) .wrote in
-    let i = top-least {x = c .before .before .before .before .before .before .before .before .before .before .before .before .before .before .before .before .before .before .before .before .before .before .before .before .before .before .before .before .args .x} h w (omega arith) (omega (arith, c .before .before .before .before .before .before .before .before .before .before .before .before .before .before .before .before .before .before .before .before .before .before .before .before .before .before .before .before .pre .1 .1 .1, ap (λ (q : Parser). q .top) (c .before .before .before .before .before .before .before .before .before .before .before .before .before .before .before .before .before .before .before .before .before .clear-args .ensures .0))) in
+    let i = wrote-least (h .text) w (omega arith) (c .before .before .before .before .before .before .before .before .before .before .before .before .before .before .before .before .before .before .before .before .before .before .before .before .before .before .before .before .args .x) (omega (arith, c .before .before .before .before .before .before .before .before .before .before .before .before .before .before .before .before .before .before .before .before .before .before .before .before .before .before .before .before .pre .1 .1 .1, ap (λ (q : Parser). q .top) (c .before .before .before .before .before .before .before .before .before .before .before .before .before .before .before .before .before .before .before .before .before .clear-args .ensures .0))) in
     ((_, (_, by-state (c .with-templated .ensures) (holds-templated (w .holds) true))), omega (arith, i, ap (λ (q : Parser). q .top) (c .with-templated .ensures)))
 
 pub same-length-4 : (t : ℕ) → lts.Need-same-length-4 (inst-n-calls t) (inst-n-at t) inst-n.Post

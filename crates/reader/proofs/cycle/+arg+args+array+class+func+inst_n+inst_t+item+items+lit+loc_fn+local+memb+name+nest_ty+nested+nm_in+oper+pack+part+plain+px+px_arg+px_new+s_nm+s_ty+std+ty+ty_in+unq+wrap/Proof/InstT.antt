@@ -1,11 +1,11 @@
 -- The answers of `reader::cycle::inst_t`.
 -- Assumes nothing.
 use mathlib.Core.List.{_++_}
+use Rattle.reader.specs.Standing.{joined, wrote-least}
 use mathlib.Core.Path.{ap}
 use Rattle.grammar.specs.Reader.{onto, recorded}
 use Rattle.grammar.specs.Grammar.{type-instance}
 use Rattle.parser.specs.Laws.{by, got, refused-on}
-use Rattle.reader.proofs.cycle.+arg+args+array+class+func+inst_n+inst_t+item+items+lit+loc_fn+local+memb+name+nest_ty+nested+nm_in+oper+pack+part+plain+px+px_arg+px_new+s_nm+s_ty+std+ty+ty_in+unq+wrap.Proof.LawsJoin.{joined, top-least}
 use Prim.Native.Nat.{ℕ}
 use borrow.Author.Needs.{needs}
 use native.Mathlib.Omega.{arith}
@@ -44,7 +44,7 @@ add-recorded t c = let w = got (c .before .before .before .before .got .given .1
 
 pub recorded-requires : (t : ℕ) → lts.Need-recorded-requires (inst-t-calls t) (inst-t-at t) inst-t.Post
 recorded-requires t c κs = let w = got (c .before .before .before .before .got .given .1) (c .before .before .before .before .before .before .before .before .before .before .before .before .args2 .ensures _ (c .before .before .before .before .before .before .before .before .before .before .before .before .before .before .before .before .before .before .before .before .pre .1 .0 .1)) .wrote in
-    ((_, (_, w .holds)), omega (arith, top-least (c .before .before .before .before .before .before .before .before .before .before .before .before .before .before .before .before .before .before .before .before .pre .1 .0 .1) w (omega arith) (c .before .before .before .before .before .before .before .before .before .before .before .before .before .before .before .before .before .before .before .before .pre .1 .1 .1)))
+    ((_, (_, w .holds)), omega (arith, wrote-least (c .before .before .before .before .before .before .before .before .before .before .before .before .before .before .before .before .before .before .before .before .pre .1 .0 .1 .text) w (omega arith) (c .before .before .before .before .before .before .before .before .before .before .before .before .before .before .before .before .before .before .before .before .args .x) (omega (arith, c .before .before .before .before .before .before .before .before .before .before .before .before .before .before .before .before .before .before .before .before .pre .1 .1 .1))))
 
 pub same-length-4 : (t : ℕ) → lts.Need-same-length-4 (inst-t-calls t) (inst-t-at t) inst-t.Post
 same-length-4 t c = search needs

@@ -1,24 +1,20 @@
--- Laws of a text that becomes an entry, and of a text that is read behind another. Assumes nothing.
-use mathlib.Core.Bool.{Bool}
-use mathlib.Core.List.{[], _++_}
+-- Laws of a text that becomes an entry, or that goes on with its arguments. Assumes nothing.
+use mathlib.Core.List.{[]}
 use mathlib.Core.Path.{_≡_, refl, sym, ap, _∙_, subst}
-use Prim.Native.Nat.{ℕ, _+_, _≤_, min}
+use Prim.Native.Nat.{ℕ, _+_, _≤_}
 use native.Mathlib.Omega.{arith}
-use lib.ListN.{length, take, drop, length-append}
+use lib.ListN.{length, take}
 use Rattle.grammar.specs.Text.{Text}
-use Rattle.grammar.specs.Reader.{State, Result, ok, Reader, onto, give}
-use Rattle.store.specs.Stack.{Tail}
-use Rattle.store.specs.Tails.{both, weaken, whole, put-tail, top-size, size as tail-size}
+use Rattle.grammar.specs.Reader.{State, Result, ok, Reader, onto}
 use Rattle.parser.specs.declared.state.Parser.{Parser}
 use Rattle.parser.specs.declared.state.Read.{Read}
 use Rattle.parser.specs.declared.state.Read.the-variants.{Text as read, Refused}
-use Rattle.parser.specs.States.{moved-to, subs-to, args-to, templated-to}
-use Rattle.parser.specs.Holds.{Memory, mem, window, Holds, Wrote, Stands, Refines, refuses, Puts, Pushes, pushed, full, keep, given-of}
-use Rattle.parser.specs.Laws.{with-templated, holds-templated, holds-moved, holds-puts, sooner, less, stands, given-refines}
-use Rattle.parser.specs.Adds.{puts-from}
-use Rattle.grammar.specs.Agree.{moved}
+use Rattle.parser.specs.States.{subs-to, args-to}
+use Rattle.parser.specs.Holds.{Memory, mem, Holds, Wrote, Stands, Refines, refuses, Pushes, pushed, full, keep}
+use Rattle.parser.specs.Laws.{sooner, less, stands}
 use Rattle.parser.specs.Halves.{with-args, newest-part}
 use Rattle.reader.specs.Cycle.{Instance}
+use Rattle.reader.specs.Standing.{stands-kept}
 
 -- a text of n bytes was pushed, and it stands in the state that the push hands back
 pub record Kept (k d : ℕ) (s base : Text) (from : ℕ) (m : Memory) (q : Parser) (j n : ℕ) (t : Text) (f : Result (Unit {0})) : Type 0 where
@@ -34,7 +30,7 @@ module _ {k d : ℕ} {s base : Text} {from : ℕ} {text store ends store' ends' 
       told : {q : Parser} {j : ℕ} {f : Result (Unit {0})} → Pushes s (mem text store' ends') n (subs-to p c b) (read q j) f → Kept k d s base from (mem text store' ends') q j n t f
       told (pushed {σ = σ'} v) = record {
         state = σ';
-        stands = record { holds = v; tail = h .tail; size = h .size; level = h .level; more = h .more; least = h .least; most = h .most };
+        stands = stands-kept h v refl refl (h .more);
         is = refl;
         size = refl;
       }
@@ -54,45 +50,12 @@ push-refused {k} {d} {s} {s'} {base} {from} {m} {m'} {p} {n} {r} {f} {j} g e u =
 pub answer-as : {k d : ℕ} {s base : Text} {from : ℕ} {m : Memory} {r : Read} {q : Parser} {j n : ℕ} {f : Result Text} → r ≡ read q j → j ≡ n → Refines k d s base from m (read q n) f → Refines k d s base from m r f
 answer-as {k} {d} {s} {base} {from} {m} {r} {q} {j} {n} {f} e i h = subst (λ (x : Read). Refines k d s base from m x f) (sym (e ∙ ap (λ (l : ℕ). read q l) i)) h
 
--- a text read behind another
-pub joined :
-    {k k' d : ℕ} {s base : Text} {from from' : ℕ} {m m' : Memory} {p p' : Parser} {n n' : ℕ} {t u : Text} {σ σ' : State} →
-    Stands k d s base from m p n t σ → Wrote k' (p .depth) s (window m p) from' m' p' n' u σ' → k ≤ k' → length t ≤ 32768 →
-    Stands k d s base from' m' p' (n + n') (t ++ u) σ'
-joined {base = base} {t = t} {u = u} h w l i = record {
-  holds = w .holds;
-  tail = both base t u (h .tail) (weaken l (w .tail));
-  size = omega (arith, h .size, w .size, w .short, length-append t u);
-  level = w .level ∙ h .level;
-  more = w .more;
-  least = h .least;
-  most = h .most;
-}
-
--- the same text with other arguments, and with another mark
+-- the same text with other arguments
 pub stands-args :
     {k d : ℕ} {s base : Text} {from : ℕ} {text store ends store' ends' : Text} {p q : Parser} {n : ℕ} {t : Text} {σ : State} →
     Stands k d s base from (mem text store ends) p n t σ → q ≡ args-to p 0 0 → Holds s (mem text store' ends') q (with-args [] σ) →
     Stands k d s base from (mem text store' ends') q n t (with-args [] σ)
-stands-args {k} {d} {s} {base} {from} {text} {store} {ends} {store'} {ends'} {p} {q} {n} {t} {σ} h e g = record {
-  holds = g;
-  tail = subst (λ (x : Parser). Tail-of x) (sym e) (h .tail);
-  size = h .size;
-  level = ap (λ (x : Parser). x .depth) e ∙ h .level;
-  more = omega (arith, h .more, ap (λ (x : Parser). x .at) e);
-  least = h .least;
-  most = h .most;
-}
-  where
-    Tail-of : Parser → Type 0
-    Tail-of x = Tail k (window (mem text store' ends') x) (base ++ t)
-
-pub stands-templated :
-    {k d : ℕ} {s base : Text} {from : ℕ} {m : Memory} {p q : Parser} {n : ℕ} {t : Text} {σ : State} (b : Bool) →
-    Stands k d s base from m p n t σ → q ≡ templated-to p b → Stands k d s base from m q n t (with-templated b σ)
-stands-templated {k} {d} {s} {base} {from} {m} {p} {q} {n} {t} {σ} b h e =
-    subst (λ (x : Parser). Stands k d s base from m x n t (with-templated b σ)) (sym e)
-    (record { holds = holds-templated (h .holds) b; tail = h .tail; size = h .size; level = h .level; more = h .more; least = h .least; most = h .most })
+stands-args {text = text} h e g = stands-kept h g (ap (λ (x : Parser). take (x .top) text) e) (ap (λ (x : Parser). x .depth) e) (omega (arith, h .more, ap (λ (x : Parser). x .at) e))
 
 -- what `inst_n` and `inst_t` promise, at the depth of the caller
 pub instance-at :
@@ -113,39 +76,3 @@ stood w = stands w (omega arith) (omega (arith, w .level, w .holds .deep))
 
 pub stands-top : {k d : ℕ} {s base : Text} {from : ℕ} {m : Memory} {p : Parser} {n : ℕ} {t : Text} {σ : State} → Stands k d s base from m p n t σ → length t ≤ 32768 → n ≤ p .top
 stands-top h l = newest-part h l .0
-
--- so many bytes are there after a text was read behind x bytes
-pub top-least :
-    {k d x : ℕ} {s : Text} {from : ℕ} {m m' : Memory} {p p' : Parser} {n : ℕ} {t : Text} {σ σ' : State} →
-    Holds s m p σ → Wrote k d s (window m p) from m' p' n t σ' → 32768 ≤ k → x ≤ p .top → min (x + n) 32768 ≤ p' .top
-top-least {m = m} {m' = m'} {p = p} {p' = p'} {t = t} h w l i =
-    omega (arith, top-size (h .text), top-size (w .holds .text), tail-size (w .tail), w .tail .most, length-append (window m p) t, w .size, w .short)
-
--- ---------------------------------------------------------------- a word put in front
-
-module _ {s text text' store ends : Text} {p a q : Parser} {at : ℕ} {word : Text} {σ : State} (e : a ≡ moved-to p at) (u : Puts text text' a q word) (h : Holds s (mem text store ends) p σ) (l : at ≤ length s) where
-  pub word-holds : Holds s (mem text' store ends) q (moved (drop at s) σ)
-  word-holds = holds-puts (puts-from e u) (holds-moved h at l)
-
-  -- the word, and a text that was read behind it
-  pub word-joined :
-      {m : Memory} {r : Parser} {n j : ℕ} {x : Text} {σ' : State} → p .at ≤ at → length word ≤ 16384 → n ≡ j + length word →
-      Wrote (keep (q .depth)) (q .depth) s (window (mem text' store ends) q) (q .at + 1) m r j x σ' →
-      Stands (keep (p .depth)) (p .depth) s (window (mem text store ends) p) (p .at + 1) m r n (word ++ x) σ'
-  word-joined {x = x} i b z w =
-      let v = puts-from e u in
-      let d : q .depth ≡ p .depth = ap (λ (y : Parser). y .depth) (v .same) in
-      let f : q .at ≡ at = ap (λ (y : Parser). y .at) (v .same) in
-      let k : keep (p .depth) ≤ 49152 = omega (arith, h .deep) in
-      record {
-        holds = w .holds;
-        tail = both (take (p .top) text) word x (put-tail word (h .text) k (v .put) (whole (keep (p .depth)) (take (p .top) text))) (weaken (omega (arith, d)) (w .tail));
-        size = omega (arith, w .size, w .short, length-append word x);
-        level = w .level ∙ d;
-        more = omega (arith, w .more, f);
-        least = omega arith;
-        most = k;
-      }
-
-pub given-as : {k d : ℕ} {s base : Text} {from : ℕ} {m : Memory} {p : Parser} {n : ℕ} {t : Text} {σ : State} {r : Read} → r ≡ given-of p n → Stands k d s base from m p n t σ → Refines k d s base from m r (give t σ)
-given-as {k} {d} {s} {base} {from} {m} {t = t} {σ = σ} e h = subst (λ (x : Read). Refines k d s base from m x (give t σ)) (sym e) (given-refines h)

@@ -1,13 +1,13 @@
 -- The answers of `nm_in`. Assumes nothing.
-use Prim.Native.Nat.{ℕ}
+use Prim.Native.Nat.{ℕ, _+_}
 use mathlib.Core.Path.{_∙_}
 use Rattle.grammar.specs.Grammar.{reading, ⟨nested-name⟩, name-inner, s-name, local-name, unscoped-name}
 use Rattle.grammar.specs.Steps.{from-text, same-from}
 use Rattle.grammar.specs.NameSteps.{name-N, name-S, name-L, name-Z, name-other, name-end}
-use Rattle.parser.specs.Holds.{refuses}
+use Rattle.parser.specs.Holds.{refuses, keep}
 use Rattle.parser.specs.Laws.{by, less, sooner}
 use Rattle.parser.specs.Adds.{ready-moved}
-use Rattle.reader.specs.Opens.{at-of, type-at}
+use Rattle.reader.specs.Opens.{at-of, call-moved}
 use Rattle.reader.specs.Arrays.{byte-at, byte-is, byte-inside, no-byte, no-name-code}
 use mathlib.Core.List.{[]}
 use borrow.Author.Needs.{needs}
@@ -88,7 +88,7 @@ pub returns-4 : (t : ℕ) → lts.Need-returns-4 (nm-in-calls t) (nm-in-at t) nm
 returns-4 t c = λ σ h.
     let l = byte-inside h (c .before .before .before .before .before .before .before .before .before .before .before .before .before .before .before .peek .ensures) (c .before .before .before .before .before .before .before .before .before .before .before .before .before .c .given .1) in
     by (from-text (name-inner reading) σ (byte-is h (c .before .before .before .before .before .before .before .before .before .before .before .before .before .before .before .peek .ensures) 76 (c .before .before .before .before .before .before .before .before .before .before .before .before .before .c .given .1) (c .before .before .before .before .before .before .before .before .before .before .before .match2 .keys3)) (name-L _ σ))
-    (less (omega arith) (sooner (omega arith) (type-at (c .before .before .before .before .before .before .before .moved .ensures) (c .before .before .before .before .before .before .name .ensures) h (omega (arith, l)))))
+    (less (omega arith) (sooner (omega arith) (call-moved (λ d. keep (d + 1)) (c .before .before .before .before .before .before .before .moved .ensures) (c .before .before .before .before .before .before .name .ensures) h (omega (arith, l)))))
 
 pub same-length-10 : (t : ℕ) → lts.Need-same-length-10 (nm-in-calls t) (nm-in-at t) nm-in.Post
 same-length-10 t c = search needs

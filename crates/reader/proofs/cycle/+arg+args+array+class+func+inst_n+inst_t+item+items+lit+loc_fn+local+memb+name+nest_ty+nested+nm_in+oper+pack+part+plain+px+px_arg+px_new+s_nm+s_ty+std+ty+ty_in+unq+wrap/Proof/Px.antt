@@ -9,7 +9,9 @@ use Rattle.grammar.specs.Grammar.{structor-ahead}
 use Rattle.parser.specs.Laws.{holds-puts, got}
 use Rattle.parser.specs.declared.state.Parser.{Parser}
 use Rattle.reader.specs.Lists.{parted}
-use Rattle.reader.specs.Joined.{parted-more, parted-as, parts-by, unread-on, onto-ok, old-is, prefix-structor, prefix-S, prefix-I, prefix-new, two-bytes, fewer}
+use Rattle.reader.specs.Closes.{then-ok}
+use Rattle.reader.specs.Joined.{parted-more, parted-as, parts-by, unread-on, old-is, prefix-structor, prefix-S, prefix-I, prefix-new, two-bytes}
+use Rattle.reader.specs.Standing.{fewer}
 use Rattle.reader.proofs.cycle.px.Reads as px
 use Rattle.reader.proofs.cycle.+arg+args+array+class+func+inst_n+inst_t+item+items+lit+loc_fn+local+memb+name+nest_ty+nested+nm_in+oper+pack+part+plain+px+px_arg+px_new+s_nm+s_ty+std+ty+ty_in+unq+wrap.Lts-px as lts
 use Rattle.reader.proofs.cycle.+arg+args+array+class+func+inst_n+inst_t+item+items+lit+loc_fn+local+memb+name+nest_ty+nested+nm_in+oper+pack+part+plain+px+px_arg+px_new+s_nm+s_ty+std+ty+ty_in+unq+wrap.Proof.Cycle.{px-at, px-calls}
@@ -97,7 +99,7 @@ pub returns-4 : (t : ℕ) → lts.Need-returns-4 (px-calls t) (px-at t) px.Post
 returns-4 t c rest e base from ps σ h =
     let u = c .before .before .before .before .before .before .before .before .before .before .before .before .separated .ensures in
     let a = got (c .before .before .got .given .1) (c .before .before .before .before .before .before .substitution .ensures σ (holds-puts u (h .stands .holds))) in
-    parts-by (prefix-S ps σ (ap structor-ahead (h .stands .holds .rest) ∙ sym (c .before .before .before .before .before .before .before .before .before .before .before .before .before .before .before .before .structor .ensures) ∙ c .before .before .before .before .before .before .before .before .before .before .before .before .before .before .before .if1 .left) (h .stands .holds .rest ∙ e) (c .before .before .before .before .before .before .before .before .before .before .before .before .before .before .match .keys2) ∙ old-is ps σ ∙ onto-ok _ (a .is))
+    parts-by (prefix-S ps σ (ap structor-ahead (h .stands .holds .rest) ∙ sym (c .before .before .before .before .before .before .before .before .before .before .before .before .before .before .before .before .structor .ensures) ∙ c .before .before .before .before .before .before .before .before .before .before .before .before .before .before .before .if1 .left) (h .stands .holds .rest ∙ e) (c .before .before .before .before .before .before .before .before .before .before .before .before .before .before .match .keys2) ∙ old-is ps σ ∙ then-ok _ (a .is))
     (parted (parted-as (c .longer .ensures) (parted-more h u (fewer (omega (arith, h .stands .level, h .stands .holds .deep, ap (λ (r : Parser). r .depth) (u .same))) (a .wrote)))))
 
 pub same-length-11 : (t : ℕ) → lts.Need-same-length-11 (px-calls t) (px-at t) px.Post

@@ -9,8 +9,10 @@ use Rattle.parser.specs.Laws.{got}
 use Rattle.parser.specs.Halves.{with-args}
 use Rattle.parser.specs.declared.state.Parser.{Parser}
 use Rattle.reader.specs.Lists.{unparted}
-use Rattle.reader.specs.Joined.{parts-by, pushes-alike, unread-on, unpushed-on, onto-ok}
-use Rattle.reader.specs.Argued.{Ended, After, args-is, after-none, after-some, argued-parts, argued-top, args-pushed}
+use Rattle.reader.specs.Closes.{then-ok}
+use Rattle.reader.specs.Joined.{parts-by, pushes-alike, unread-on, unpushed-on}
+use Rattle.reader.specs.Argued.{Ended, After, args-is, after-none, after-some, argued-parts, args-pushed}
+use Rattle.reader.specs.Standing.{wrote-least}
 use Rattle.reader.proofs.cycle.px_arg.Reads as px-arg
 use Rattle.reader.proofs.cycle.+arg+args+array+class+func+inst_n+inst_t+item+items+lit+loc_fn+local+memb+name+nest_ty+nested+nm_in+oper+pack+part+plain+px+px_arg+px_new+s_nm+s_ty+std+ty+ty_in+unq+wrap.Lts-px_arg as lts
 use Rattle.reader.proofs.cycle.+arg+args+array+class+func+inst_n+inst_t+item+items+lit+loc_fn+local+memb+name+nest_ty+nested+nm_in+oper+pack+part+plain+px+px_arg+px_new+s_nm+s_ty+std+ty+ty_in+unq+wrap.Proof.Cycle.{px-arg-at, px-arg-calls}
@@ -59,7 +61,7 @@ returns-2 t c base from ps σ h =
     let k = c .before .before .before .before .before .before .before .before .before .before .before .before .before .before .before .before .before .before .before .clear-args .ensures in
     let a = got (c .before .before .before .got .given .1) (c .before .before .before .before .before .before .before .before .before .before .before .args2 .ensures (with-args [] σ) (k .1 _ _ σ (h .stands .holds))) in
     let z : length (ps .texts) ≡ 0 = omega (arith, h .count, c .if1 .taken) in
-    parts-by (args-is ps σ ∙ onto-ok (After ps) (a .is) ∙ after-none ps (a .said) (a .state) z) unparted
+    parts-by (args-is ps σ ∙ then-ok (After ps) (a .is) ∙ after-none ps (a .said) (a .state) z) unparted
 
 pub sum-requires : (t : ℕ) → lts.Need-sum-requires (px-arg-calls t) (px-arg-at t) px-arg.Post
 sum-requires t c κs =
@@ -74,7 +76,7 @@ push-sub-requires t c κs =
     let h = k .1 _ _ (c .before .before .before .before .before .before .before .before .before .before .before .before .before .before .before .before .before .before .before .before .before .before .before .before .before .before .before .before .before .before .pre .1 .0 .0) (c .before .before .before .before .before .before .before .before .before .before .before .before .before .before .before .before .before .before .before .before .before .before .before .before .before .before .before .before .before .before .pre .1 .0 .1) in
     let a = got (c .before .before .before .before .before .before .before .got .given .1) (c .before .before .before .before .before .before .before .before .before .before .before .before .before .before .before .args2 .ensures (with-args [] (c .before .before .before .before .before .before .before .before .before .before .before .before .before .before .before .before .before .before .before .before .before .before .before .before .before .before .before .before .before .before .pre .1 .0 .0)) h) in (
       (c .before .before .before .before .before .before .before .before .before .before .before .before .before .before .before .before .before .before .before .before .before .before .before .before .before .before .before .before .before .before .args .s .now, (a .state, a .wrote .holds)),
-      omega (arith, c .before .before .before .sum .ensures, argued-top (h .text) (a .wrote) (omega arith) (c .before .before .before .before .before .before .before .before .before .before .before .before .before .before .before .before .before .before .before .before .before .before .before .before .before .before .before .before .before .before .args .parts .n) (omega (arith, c .before .before .before .before .before .before .before .before .before .before .before .before .before .before .before .before .before .before .before .before .before .before .before .before .before .before .before .before .before .before .pre .1 .1 .1 .1, ap (λ (r : Parser). r .top) (k .0)))),
+      omega (arith, c .before .before .before .sum .ensures, wrote-least (h .text) (a .wrote) (omega arith) (c .before .before .before .before .before .before .before .before .before .before .before .before .before .before .before .before .before .before .before .before .before .before .before .before .before .before .before .before .before .before .args .parts .n) (omega (arith, c .before .before .before .before .before .before .before .before .before .before .before .before .before .before .before .before .before .before .before .before .before .before .before .before .before .before .before .before .before .before .pre .1 .1 .1 .1, ap (λ (r : Parser). r .top) (k .0)))),
     )
 
 pub enum-known-kept : (t : ℕ) → lts.Need-enum-known-kept (px-arg-calls t) (px-arg-at t) px-arg.Post
@@ -101,7 +103,7 @@ returns-3 t c base from ps σ h =
     let a = got (c .before .before .before .before .before .before .before .before .before .before .before .before .before .before .before .got .given .1) (c .before .before .before .before .before .before .before .before .before .before .before .before .before .before .before .before .before .before .before .before .before .before .before .args2 .ensures (with-args [] σ) (k .1 _ _ σ (h .stands .holds))) in
     let z : 0 < length (ps .texts) = omega (arith, h .count, c .before .before .before .before .before .before .before .before .before .before .before .before .if1 .left) in
     let v = argued-parts h (k .0) (a .wrote) z (c .before .before .before .before .before .before .before .before .before .before .before .sum .result) _ (c .before .before .before .before .before .before .before .before .before .before .before .sum .ensures) refl in
-    parts-by (args-is ps σ ∙ onto-ok (After ps) (a .is) ∙ after-some ps (a .said) (a .state) z)
+    parts-by (args-is ps σ ∙ then-ok (After ps) (a .is) ∙ after-some ps (a .said) (a .state) z)
     (unpushed-on (Ended ps (a .said)) (c .before .enum-told2 .given .1) (c .unread2 .ensures) (pushes-alike (a .state) (v .alike) (c .before .before .before .before .before .before .before .push-sub .ensures _ _ _ _ _ _ _ (v .stands))))
 
 pub here-requires : (t : ℕ) → lts.Need-here-requires (px-arg-calls t) (px-arg-at t) px-arg.Post
@@ -132,5 +134,5 @@ returns-4 t c base from ps σ h =
     let a = got (c .before .before .before .before .before .before .before .before .before .before .before .before .before .before .before .before .before .before .got .given .1) (c .before .before .before .before .before .before .before .before .before .before .before .before .before .before .before .before .before .before .before .before .before .before .before .before .before .before .args2 .ensures (with-args [] σ) (k .1 _ _ σ (h .stands .holds))) in
     let z : 0 < length (ps .texts) = omega (arith, h .count, c .before .before .before .before .before .before .before .before .before .before .before .before .before .before .before .if1 .left) in
     let v = argued-parts h (k .0) (a .wrote) z (c .before .before .before .before .before .before .before .before .before .before .before .before .before .before .sum .result) (c .sum2 .result) (c .before .before .before .before .before .before .before .before .before .before .before .before .before .before .sum .ensures) (c .sum2 .ensures) in
-    parts-by (args-is ps σ ∙ onto-ok (After ps) (a .is) ∙ after-some ps (a .said) (a .state) z)
+    parts-by (args-is ps σ ∙ then-ok (After ps) (a .is) ∙ after-some ps (a .said) (a .state) z)
     (args-pushed ps (a .said) (c .before .before .before .before .kept .given .1) refl (c .before .with-templated .ensures) (c .before .before .here .ensures) v (pushes-alike (a .state) (v .alike) (c .before .before .before .before .before .before .before .before .before .before .push-sub .ensures _ _ _ _ _ _ _ (v .stands))))

@@ -1,14 +1,15 @@
 -- Answers for `px_new`: a new part, which is an entry unless it is the last. Assumes nothing.
-use mathlib.Core.Path.{refl, sym, ap, _∙_}
+use mathlib.Core.Path.{refl, ap, _∙_}
 use Prim.Native.Nat.{ℕ}
 use borrow.Author.Needs.{needs}
 use native.Mathlib.Omega.{arith}
-use Rattle.parser.specs.Holds.{mem, Holds}
+use Rattle.grammar.specs.Text.{b}
 use Rattle.parser.specs.Laws.{holds-puts, got}
 use Rattle.parser.specs.declared.state.Parser.{Parser}
 use Rattle.reader.specs.declared.lists.Parts.{Parts}
 use Rattle.reader.specs.Lists.{parted}
-use Rattle.reader.specs.Joined.{parted-more, parted-as, pushes-alike, parts-by, unread-on, unpushed-on, pushed-on, Behind, new-is, behind-last, behind-more, onto-ok, more-top, at-E}
+use Rattle.reader.specs.Closes.{ahead-is, then-ok}
+use Rattle.reader.specs.Joined.{parted-more, parted-as, pushes-alike, parts-by, unread-on, unpushed-on, pushed-on, Behind, new-is, behind-last, behind-more, more-top}
 use Rattle.reader.proofs.cycle.px_new.Reads as px-new
 use Rattle.reader.proofs.cycle.+arg+args+array+class+func+inst_n+inst_t+item+items+lit+loc_fn+local+memb+name+nest_ty+nested+nm_in+oper+pack+part+plain+px+px_arg+px_new+s_nm+s_ty+std+ty+ty_in+unq+wrap.Lts-px_new as lts
 use Rattle.reader.proofs.cycle.+arg+args+array+class+func+inst_n+inst_t+item+items+lit+loc_fn+local+memb+name+nest_ty+nested+nm_in+oper+pack+part+plain+px+px_arg+px_new+s_nm+s_ty+std+ty+ty_in+unq+wrap.Proof.Cycle.{px-new-at, px-new-calls}
@@ -64,10 +65,11 @@ pub same-length-6 : (t : ℕ) → lts.Need-same-length-6 (px-new-calls t) (px-ne
 same-length-6 t c = search needs
 
 pub returns-2 : (t : ℕ) → lts.Need-returns-2 (px-new-calls t) (px-new-at t) px-new.Post
+unfolding b
 returns-2 t c base from ps σ h =
     let u = c .before .before .before .before .before .before .before .before .before .before .before .before .before .before .before .before .before .before .separated .ensures in
     let a = got (c .before .before .before .before .got .given .1) (c .before .before .before .before .before .before .before .before .before .before .before .before .part .ensures σ (holds-puts u (h .stands .holds))) in
-    parts-by (new-is _ ps σ ∙ onto-ok (Behind ps) (a .is) ∙ behind-last ps (a .said) (a .state) (at-E (a .wrote .holds) (c .before .here .ensures) (c .if1 .taken)))
+    parts-by (new-is _ ps σ ∙ then-ok (Behind ps) (a .is) ∙ behind-last ps (a .said) (a .state) (ahead-is _ _ _ (a .wrote .holds .rest) (c .before .here .ensures) (c .if1 .taken)))
     (parted (parted-as (c .before .before .longer .ensures) (parted-more h u (a .wrote))))
 
 pub push-sub-requires : (t : ℕ) → lts.Need-push-sub-requires (px-new-calls t) (px-new-at t) px-new.Post
@@ -98,11 +100,12 @@ pub same-length-9 : (t : ℕ) → lts.Need-same-length-9 (px-new-calls t) (px-ne
 same-length-9 t c = search needs
 
 pub returns-3 : (t : ℕ) → lts.Need-returns-3 (px-new-calls t) (px-new-at t) px-new.Post
+unfolding b
 returns-3 t c base from ps σ h =
     let u = c .before .before .before .before .before .before .before .before .before .before .before .before .before .before .before .before .before .before .before .before .before .before .before .before .before .before .before .before .before .separated .ensures in
     let a = got (c .before .before .before .before .before .before .before .before .before .before .before .before .before .before .before .got .given .1) (c .before .before .before .before .before .before .before .before .before .before .before .before .before .before .before .before .before .before .before .before .before .before .before .part .ensures σ (holds-puts u (h .stands .holds))) in
     let v = parted-as (c .before .before .before .before .before .before .before .before .before .before .before .before .before .longer .ensures) (parted-more h u (a .wrote)) in
-    parts-by (new-is _ ps σ ∙ onto-ok (Behind ps) (a .is) ∙ behind-more ps (a .said) (a .state) (at-E (a .wrote .holds) (c .before .before .before .before .before .before .before .before .before .before .before .before .here .ensures) (c .before .before .before .before .before .before .before .before .before .before .before .if1 .left)))
+    parts-by (new-is _ ps σ ∙ then-ok (Behind ps) (a .is) ∙ behind-more ps (a .said) (a .state) (ahead-is _ _ _ (a .wrote .holds .rest) (c .before .before .before .before .before .before .before .before .before .before .before .before .here .ensures) (c .before .before .before .before .before .before .before .before .before .before .before .if1 .left)))
     (unpushed-on _ (c .before .enum-told2 .given .1) (c .unread2 .ensures) (pushes-alike (a .state) (v .alike) (c .before .before .before .before .before .before .before .push-sub .ensures _ _ _ _ _ _ _ (v .stands))))
 
 pub same-length-10 : (t : ℕ) → lts.Need-same-length-10 (px-new-calls t) (px-new-at t) px-new.Post
@@ -115,9 +118,10 @@ pub same-length-12 : (t : ℕ) → lts.Need-same-length-12 (px-new-calls t) (px-
 same-length-12 t c = omega (arith, c .before .before .before .before .before .before .before .before .before .before .before .before .before .before .before .before .before .before .before .before .before .before .before .before .before .before .before .before .before .separated .kept, c .before .before .before .before .before .before .before .before .before .before .before .before .before .before .before .before .before .before .before .before .before .before .before .part .kept, c .before .before .before .before .before .before .before .push-sub .kept)
 
 pub returns-4 : (t : ℕ) → lts.Need-returns-4 (px-new-calls t) (px-new-at t) px-new.Post
+unfolding b
 returns-4 t c base from ps σ h =
     let u = c .before .before .before .before .before .before .before .before .before .before .before .before .before .before .before .before .before .before .before .before .before .before .before .before .before .before .before .before .before .separated .ensures in
     let a = got (c .before .before .before .before .before .before .before .before .before .before .before .before .before .before .before .got .given .1) (c .before .before .before .before .before .before .before .before .before .before .before .before .before .before .before .before .before .before .before .before .before .before .before .part .ensures σ (holds-puts u (h .stands .holds))) in
     let v = parted-as (c .before .before .before .before .before .before .before .before .before .before .before .before .before .longer .ensures) (parted-more h u (a .wrote)) in
-    parts-by (new-is _ ps σ ∙ onto-ok (Behind ps) (a .is) ∙ behind-more ps (a .said) (a .state) (at-E (a .wrote .holds) (c .before .before .before .before .before .before .before .before .before .before .before .before .here .ensures) (c .before .before .before .before .before .before .before .before .before .before .before .if1 .left)))
+    parts-by (new-is _ ps σ ∙ then-ok (Behind ps) (a .is) ∙ behind-more ps (a .said) (a .state) (ahead-is _ _ _ (a .wrote .holds .rest) (c .before .before .before .before .before .before .before .before .before .before .before .before .here .ensures) (c .before .before .before .before .before .before .before .before .before .before .before .if1 .left)))
     (pushed-on (c .before .kept .given .1) refl v (pushes-alike (a .state) (v .alike) (c .before .before .before .before .before .before .before .push-sub .ensures _ _ _ _ _ _ _ (v .stands))))

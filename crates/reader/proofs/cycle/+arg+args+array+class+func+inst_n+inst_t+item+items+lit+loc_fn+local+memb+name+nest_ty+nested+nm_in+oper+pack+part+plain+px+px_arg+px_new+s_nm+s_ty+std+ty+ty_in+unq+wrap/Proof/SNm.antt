@@ -1,13 +1,10 @@
 -- The answers of `reader::cycle::s_nm`.
 -- Assumes nothing.
-use mathlib.Core.Bool.{true, false}
-use mathlib.Core.List.{[], _∷_}
-use mathlib.Core.Path.{_≡_, ap, sym, _∙_}
-use Rattle.grammar.specs.Text.{Text, b, starts, if_then_else_}
-use Rattle.grammar.specs.Tables.{_⇒_}
-use Rattle.grammar.specs.Reader.{State, ok, onto, return, at-code}
-use Rattle.grammar.specs.Grammar.{reading, ⟨substitution⟩, std-ahead, std-name, s-name, name-instance}
+use mathlib.Core.Path.{ap, sym, _∙_}
+use Rattle.grammar.specs.Text.{b, starts}
+use Rattle.grammar.specs.Grammar.{reading, std-ahead, s-name, name-instance}
 use Rattle.grammar.specs.Steps.{at-code-yes, at-code-no}
+use Rattle.reader.specs.Opens.{s-name-is, s-std, s-sub, s-sub-read}
 use Rattle.parser.specs.Holds.{reads}
 use Rattle.parser.specs.Laws.{by, got, refused-on}
 use Rattle.reader.proofs.cycle.+arg+args+array+class+func+inst_n+inst_t+item+items+lit+loc_fn+local+memb+name+nest_ty+nested+nm_in+oper+pack+part+plain+px+px_arg+px_new+s_nm+s_ty+std+ty+ty_in+unq+wrap.Proof.LawsJoin.{narrow, stood, stands-top, instance-at}
@@ -17,19 +14,6 @@ use native.Mathlib.Omega.{arith}
 use Rattle.reader.proofs.cycle.s_nm.Reads as s-nm
 use Rattle.reader.proofs.cycle.+arg+args+array+class+func+inst_n+inst_t+item+items+lit+loc_fn+local+memb+name+nest_ty+nested+nm_in+oper+pack+part+plain+px+px_arg+px_new+s_nm+s_ty+std+ty+ty_in+unq+wrap.Lts-s_nm as lts
 use Rattle.reader.proofs.cycle.+arg+args+array+class+func+inst_n+inst_t+item+items+lit+loc_fn+local+memb+name+nest_ty+nested+nm_in+oper+pack+part+plain+px+px_arg+px_new+s_nm+s_ty+std+ty+ty_in+unq+wrap.Proof.Cycle.{s-nm-at, s-nm-calls}
-
--- the two ways, and a reference that was read
-s-std : (σ : State) → std-ahead (σ .rest) ≡ true → s-name reading σ ≡ std-name reading σ
-unfolding s-name onto if_then_else_
-s-std σ e = rw e
-
-s-sub : (σ : State) → std-ahead (σ .rest) ≡ false → s-name reading σ ≡ onto (λ x. at-code ("I" ⇒ name-instance reading x ∷ []) (return x)) (reading ⟨substitution⟩ σ)
-unfolding s-name onto if_then_else_
-s-sub σ e = rw e
-
-s-sub-read : (σ : State) {x : Text} {σ₁ : State} → std-ahead (σ .rest) ≡ false → reading ⟨substitution⟩ σ ≡ ok x σ₁ → s-name reading σ ≡ at-code ("I" ⇒ name-instance reading x ∷ []) (return x) σ₁
-unfolding onto
-s-sub-read σ e f = s-sub σ e ∙ ap (onto (λ x. at-code ("I" ⇒ name-instance reading x ∷ []) (return x))) f
 
 pub std-ahead-requires : (t : ℕ) → lts.Need-std-ahead-requires (s-nm-calls t) (s-nm-at t) s-nm.Post
 std-ahead-requires t c κs = search needs
@@ -47,7 +31,7 @@ pub same-length-3 : (t : ℕ) → lts.Need-same-length-3 (s-nm-calls t) (s-nm-at
 same-length-3 t c = search needs
 
 pub returns : (t : ℕ) → lts.Need-returns (s-nm-calls t) (s-nm-at t) s-nm.Post
-returns t c = λ σ h. by (s-std σ (ap std-ahead (h .rest) ∙ sym (c .before .before .before .before .before .before .before .before .before .before .before .std-ahead .ensures) ∙ c .before .before .before .before .before .before .before .before .before .before .if1 .taken)) (c .before .before .before .before .before .before .std .ensures σ h)
+returns t c = λ σ h. by (s-std (s-name reading) (name-instance reading) s-name-is σ (ap std-ahead (h .rest) ∙ sym (c .before .before .before .before .before .before .before .before .before .before .before .std-ahead .ensures) ∙ c .before .before .before .before .before .before .before .before .before .before .if1 .taken)) (c .before .before .before .before .before .before .std .ensures σ h)
 
 pub substitution-requires : (t : ℕ) → lts.Need-substitution-requires (s-nm-calls t) (s-nm-at t) s-nm.Post
 substitution-requires t c κs = search needs
@@ -68,7 +52,7 @@ pub same-length-6 : (t : ℕ) → lts.Need-same-length-6 (s-nm-calls t) (s-nm-at
 same-length-6 t c = search needs
 
 pub returns-2 : (t : ℕ) → lts.Need-returns-2 (s-nm-calls t) (s-nm-at t) s-nm.Post
-returns-2 t c = λ σ h. by (s-sub σ (ap std-ahead (h .rest) ∙ sym (c .before .before .before .before .before .before .before .before .before .std-ahead .ensures) ∙ c .before .before .before .before .before .before .before .before .if1 .left)) (refused-on _ (c .enum-told .given .1) (c .before .before .before .before .substitution .ensures σ h))
+returns-2 t c = λ σ h. by (s-sub (s-name reading) (name-instance reading) s-name-is σ (ap std-ahead (h .rest) ∙ sym (c .before .before .before .before .before .before .before .before .before .std-ahead .ensures) ∙ c .before .before .before .before .before .before .before .before .if1 .left)) (refused-on _ (c .enum-told .given .1) (c .before .before .before .before .substitution .ensures σ h))
 
 pub here-requires : (t : ℕ) → lts.Need-here-requires (s-nm-calls t) (s-nm-at t) s-nm.Post
 here-requires t c κs = search needs
@@ -90,7 +74,7 @@ same-length-9 t c = search needs
 pub returns-3 : (t : ℕ) → lts.Need-returns-3 (s-nm-calls t) (s-nm-at t) s-nm.Post
 unfolding b
 returns-3 t c = λ σ h. let g = got (c .before .before .before .before .before .before .before .before .before .before .before .before .before .got .given .1) (narrow h (c .before .before .before .before .before .before .before .before .before .before .before .before .before .before .before .before .before .substitution .ensures σ h)) in
-    by (s-sub-read σ (ap std-ahead (h .rest) ∙ sym (c .before .before .before .before .before .before .before .before .before .before .before .before .before .before .before .before .before .before .before .before .before .before .std-ahead .ensures) ∙ c .before .before .before .before .before .before .before .before .before .before .before .before .before .before .before .before .before .before .before .before .before .if1 .left) (g .is) ∙ at-code-yes "I" _ _ _ (ap (λ u. starts u (b "I")) (g .wrote .holds .rest) ∙ sym (c .before .before .before .before .before .before .before .before .before .before .before .here .ensures) ∙ c .before .before .before .before .before .before .before .before .before .before .if2 .taken))
+    by (s-sub-read (s-name reading) (name-instance reading) s-name-is σ (ap std-ahead (h .rest) ∙ sym (c .before .before .before .before .before .before .before .before .before .before .before .before .before .before .before .before .before .before .before .before .before .before .std-ahead .ensures) ∙ c .before .before .before .before .before .before .before .before .before .before .before .before .before .before .before .before .before .before .before .before .before .if1 .left) (g .is) ∙ at-code-yes "I" _ _ _ (ap (λ u. starts u (b "I")) (g .wrote .holds .rest) ∙ sym (c .before .before .before .before .before .before .before .before .before .before .before .here .ensures) ∙ c .before .before .before .before .before .before .before .before .before .before .if2 .taken))
     (instance-at (c .before .before .before .before .before .before .inst-n .ensures) (stood (g .wrote)) (omega (arith, g .wrote .short)) (omega (arith, g .wrote .more)))
 
 pub same-length-10 : (t : ℕ) → lts.Need-same-length-10 (s-nm-calls t) (s-nm-at t) s-nm.Post
@@ -105,5 +89,5 @@ same-length-12 t c = search needs
 pub returns-4 : (t : ℕ) → lts.Need-returns-4 (s-nm-calls t) (s-nm-at t) s-nm.Post
 unfolding b
 returns-4 t c = λ σ h. let g = got (c .before .before .before .got .given .1) (narrow h (c .before .before .before .before .before .before .before .substitution .ensures σ h)) in
-    by (s-sub-read σ (ap std-ahead (h .rest) ∙ sym (c .before .before .before .before .before .before .before .before .before .before .before .before .std-ahead .ensures) ∙ c .before .before .before .before .before .before .before .before .before .before .before .if1 .left) (g .is) ∙ at-code-no "I" _ _ _ (ap (λ u. starts u (b "I")) (g .wrote .holds .rest) ∙ sym (c .before .here .ensures) ∙ c .if2 .left))
+    by (s-sub-read (s-name reading) (name-instance reading) s-name-is σ (ap std-ahead (h .rest) ∙ sym (c .before .before .before .before .before .before .before .before .before .before .before .before .std-ahead .ensures) ∙ c .before .before .before .before .before .before .before .before .before .before .before .if1 .left) (g .is) ∙ at-code-no "I" _ _ _ (ap (λ u. starts u (b "I")) (g .wrote .holds .rest) ∙ sym (c .before .here .ensures) ∙ c .if2 .left))
     (reads (g .wrote))

@@ -6,13 +6,13 @@ use Rattle.grammar.specs.Tables.{d-letters}
 use Rattle.grammar.specs.Reader.{by-code, give, refused}
 use Rattle.grammar.specs.Grammar.{reading, ⟨template-param⟩, type-inner, nested-type, s-type, class-type}
 use Rattle.grammar.specs.Steps.{from-text, same-from, inner-end, inner-letter, inner-A, inner-F, inner-M, inner-D, inner-u, inner-N, inner-T, inner-S, inner-class, inner-wrapper, inner-4}
-use Rattle.parser.specs.Holds.{refuses}
+use Rattle.parser.specs.Holds.{refuses, keep}
 use Rattle.parser.specs.Laws.{by, less, sooner}
 use Rattle.parser.specs.Adds.{ready-moved, reads-moved, clean-by}
 use Rattle.parser.specs.Wraps.{picked-at}
-use Rattle.reader.specs.Opens.{at-of}
+use Rattle.reader.specs.Opens.{at-of, call-moved}
 use Rattle.reader.specs.Arrays.{byte-at, byte-is, byte-inside, no-byte}
-use Rattle.reader.specs.Heads.{inner-at, leaf-at, no-letter, either, lettered-row, between-row, no-head, digit-not}
+use Rattle.reader.specs.Heads.{no-letter, either, lettered-row, between-row, no-head, digit-not}
 use borrow.Author.Needs.{needs}
 use native.Mathlib.Omega.{arith}
 use Rattle.reader.proofs.cycle.ty_in.Reads as ty-in
@@ -109,7 +109,7 @@ pub returns-3 : (t : ℕ) → lts.Need-returns-3 (ty-in-calls t) (ty-in-at t) ty
 returns-3 t c = λ σ h.
     let l = byte-inside h (c .before .before .before .before .before .before .before .before .before .before .before .before .before .before .before .before .before .before .peek .ensures) (c .before .before .before .before .before .before .before .before .before .before .before .before .before .before .before .before .c .given .1) in
     by (from-text (type-inner reading) σ (byte-is h (c .before .before .before .before .before .before .before .before .before .before .before .before .before .before .before .before .before .before .peek .ensures) 65 (c .before .before .before .before .before .before .before .before .before .before .before .before .before .before .before .before .c .given .1) (c .before .before .before .before .before .before .before .before .before .before .match3 .keys2)) (inner-A _ σ))
-    (sooner (omega arith) (inner-at (c .before .before .before .before .before .before .before .before .before .before .before .before .before .before .moved .ensures) (c .before .before .before .before .before .before .array .ensures) h (omega (arith, l))))
+    (sooner (omega arith) (call-moved keep (c .before .before .before .before .before .before .before .before .before .before .before .before .before .before .moved .ensures) (c .before .before .before .before .before .before .array .ensures) h (omega (arith, l))))
 
 pub same-length-5 : (t : ℕ) → lts.Need-same-length-5 (ty-in-calls t) (ty-in-at t) ty-in.Post
 same-length-5 t c = search needs
@@ -124,7 +124,7 @@ pub returns-4 : (t : ℕ) → lts.Need-returns-4 (ty-in-calls t) (ty-in-at t) ty
 returns-4 t c = λ σ h.
     let l = byte-inside h (c .before .before .before .before .before .before .before .before .before .before .before .before .before .before .before .before .before .before .peek .ensures) (c .before .before .before .before .before .before .before .before .before .before .before .before .before .before .before .before .c .given .1) in
     by (from-text (type-inner reading) σ (byte-is h (c .before .before .before .before .before .before .before .before .before .before .before .before .before .before .before .before .before .before .peek .ensures) 70 (c .before .before .before .before .before .before .before .before .before .before .before .before .before .before .before .before .c .given .1) (c .before .before .before .before .before .before .before .before .before .before .match3 .keys3)) (inner-F _ σ))
-    (sooner (omega arith) (inner-at (c .before .before .before .before .before .before .before .before .before .before .before .before .before .before .moved .ensures) (c .before .before .before .before .before .before .func .ensures) h (omega (arith, l))))
+    (sooner (omega arith) (call-moved keep (c .before .before .before .before .before .before .before .before .before .before .before .before .before .before .moved .ensures) (c .before .before .before .before .before .before .func .ensures) h (omega (arith, l))))
 
 pub same-length-8 : (t : ℕ) → lts.Need-same-length-8 (ty-in-calls t) (ty-in-at t) ty-in.Post
 same-length-8 t c = search needs
@@ -139,7 +139,7 @@ pub returns-5 : (t : ℕ) → lts.Need-returns-5 (ty-in-calls t) (ty-in-at t) ty
 returns-5 t c = λ σ h.
     let l = byte-inside h (c .before .before .before .before .before .before .before .before .before .before .before .before .before .before .before .before .before .before .peek .ensures) (c .before .before .before .before .before .before .before .before .before .before .before .before .before .before .before .before .c .given .1) in
     by (from-text (type-inner reading) σ (byte-is h (c .before .before .before .before .before .before .before .before .before .before .before .before .before .before .before .before .before .before .peek .ensures) 77 (c .before .before .before .before .before .before .before .before .before .before .before .before .before .before .before .before .c .given .1) (c .before .before .before .before .before .before .before .before .before .before .match3 .keys4)) (inner-M _ σ))
-    (sooner (omega arith) (inner-at (c .before .before .before .before .before .before .before .before .before .before .before .before .before .before .moved .ensures) (c .before .before .before .before .before .before .memb .ensures) h (omega (arith, l))))
+    (sooner (omega arith) (call-moved keep (c .before .before .before .before .before .before .before .before .before .before .before .before .before .before .moved .ensures) (c .before .before .before .before .before .before .memb .ensures) h (omega (arith, l))))
 
 pub same-length-11 : (t : ℕ) → lts.Need-same-length-11 (ty-in-calls t) (ty-in-at t) ty-in.Post
 same-length-11 t c = search needs
@@ -157,7 +157,7 @@ pub returns-7 : (t : ℕ) → lts.Need-returns-7 (ty-in-calls t) (ty-in-at t) ty
 returns-7 t c = λ σ h.
     let l = byte-inside h (c .before .before .before .before .before .before .before .before .before .before .before .before .peek .ensures) (c .before .before .before .before .before .before .before .before .before .before .c .given .1) in
     by (from-text (type-inner reading) σ (byte-is h (c .before .before .before .before .before .before .before .before .before .before .before .before .peek .ensures) 117 (c .before .before .before .before .before .before .before .before .before .before .c .given .1) (c .before .before .before .before .match3 .keys6)) (inner-u _ σ))
-    (less (omega (arith, h .deep)) (sooner (omega arith) (leaf-at (c .before .before .before .before .before .before .before .before .moved .ensures) (c .before .before .source-name .ensures _ _) h (omega (arith, l)))))
+    (less (omega (arith, h .deep)) (sooner (omega arith) (call-moved (λ _. 49152) (c .before .before .before .before .before .before .before .before .moved .ensures) (c .before .before .source-name .ensures _ _) h (omega (arith, l)))))
 
 pub same-length-13 : (t : ℕ) → lts.Need-same-length-13 (ty-in-calls t) (ty-in-at t) ty-in.Post
 same-length-13 t c = search needs
@@ -230,7 +230,7 @@ returns-15 t c = λ σ h.
     let l = byte-inside h (c .before .before .before .before .before .before .before .before .before .before .before .before .before .before .before .before .before .before .peek .ensures) (c .before .before .before .before .before .before .before .before .before .before .before .before .before .before .before .before .c .given .1) in
     let v = either (c .before .before .before .before .before .before .before .before .before .before .match3 .came) (λ x. lettered-row _ (x .keys1)) (λ y. between-row _ (y .0 .rest .0 .0 .0 .0 .0 .1) (y .0 .rest .0 .0 .1) (y .3 .left) (y .4 .taken)) in
     by (from-text (type-inner reading) σ (byte-at h (c .before .before .before .before .before .before .before .before .before .before .before .before .before .before .before .before .before .before .peek .ensures) (c .before .before .before .before .before .before .before .before .before .before .before .before .before .before .before .before .c .given .1)) (inner-wrapper _ _ σ (v .0) (no-letter _ _ (c .before .before .before .before .before .before .before .before .before .before .before .before .before .builtin .ensures) (c .before .before .before .before .before .before .before .before .before .before .before .enum-told2 .given .1)) (v .1 .1) (v .1 .0 _)))
-    (sooner (omega arith) (inner-at (c .before .before .before .before .before .before .before .before .before .before .before .before .before .before .moved .ensures) (c .before .before .before .before .before .before .wrap .ensures (v .0) (v .1 .0)) h (omega (arith, l))))
+    (sooner (omega arith) (call-moved keep (c .before .before .before .before .before .before .before .before .before .before .before .before .before .before .moved .ensures) (c .before .before .before .before .before .before .wrap .ensures (v .0) (v .1 .0)) h (omega (arith, l))))
 
 pub enum-told-2 : (t : ℕ) → lts.Need-enum-told-2 (ty-in-calls t) (ty-in-at t) ty-in.Post
 enum-told-2 t c = search needs

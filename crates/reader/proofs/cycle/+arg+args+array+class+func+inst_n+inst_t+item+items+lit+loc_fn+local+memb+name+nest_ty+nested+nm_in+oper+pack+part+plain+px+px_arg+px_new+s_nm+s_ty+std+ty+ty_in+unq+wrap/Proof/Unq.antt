@@ -1,10 +1,12 @@
 -- The answers of `reader::cycle::unq`: letters L are passed over, and the byte behind them settles the rest.
 -- Assumes nothing.
-use mathlib.Core.Path.{ap}
+use mathlib.Core.Path.{refl, ap}
 use Rattle.grammar.specs.Text.{b}
+use Rattle.grammar.specs.NameSteps.{unqualified-C, unqualified-D, unqualified-C-4, unqualified-D-4}
 use Rattle.parser.specs.declared.state.Parser.{Parser}
 use Rattle.parser.specs.Adds.{clean-by}
-use Rattle.reader.specs.Opers.{either, digit-low, digit-high, digit-in, unq-ready, unq-end, unq-C-4, unq-D-4, unq-C, unq-D, unq-U, unq-digit, unq-operator}
+use Rattle.reader.specs.Heads.{either, digit-not, digit-in}
+use Rattle.reader.specs.Opers.{unq-ready, unq-end, unq-short, unq-structor, unq-U, unq-digit, unq-operator}
 use Prim.Native.Nat.{ℕ}
 use borrow.Author.Needs.{needs}
 use native.Mathlib.Omega.{arith}
@@ -34,7 +36,7 @@ pub add-if1 : (t : ℕ) → lts.Need-add-if1 (unq-calls t) (unq-at t) unq.Post
 add-if1 t c = search needs
 
 pub returns-2 : (t : ℕ) → lts.Need-returns-2 (unq-calls t) (unq-at t) unq.Post
-returns-2 t c = λ σ h. unq-C-4 h (c .before .before .before .before .before .before .before .behind .ensures) (c .before .before .before .before .before .before .moved .ensures) (c .before .before .before .before .before .peek .ensures) (c .before .before .before .c .given .1) (c .before .match2 .keys1) (c .if1 .taken)
+returns-2 t c = λ σ h. unq-short h (c .before .before .before .before .before .before .before .behind .ensures) (c .before .before .before .before .before .before .moved .ensures) (c .before .before .before .before .before .peek .ensures) (c .before .before .before .c .given .1) 67 (unqualified-C-4 σ) (c .before .match2 .keys1) (c .if1 .taken)
 
 pub add-moved : (t : ℕ) → lts.Need-add-moved (unq-calls t) (unq-at t) unq.Post
 add-moved t c = search needs
@@ -53,7 +55,7 @@ pub add-if2 : (t : ℕ) → lts.Need-add-if2 (unq-calls t) (unq-at t) unq.Post
 add-if2 t c = search needs
 
 pub returns-3 : (t : ℕ) → lts.Need-returns-3 (unq-calls t) (unq-at t) unq.Post
-returns-3 t c = λ σ h. unq-D-4 h (c .before .before .before .before .before .before .before .behind .ensures) (c .before .before .before .before .before .before .moved .ensures) (c .before .before .before .before .before .peek .ensures) (c .before .before .before .c .given .1) (c .before .match2 .keys2) (c .if2 .taken)
+returns-3 t c = λ σ h. unq-short h (c .before .before .before .before .before .before .before .behind .ensures) (c .before .before .before .before .before .before .moved .ensures) (c .before .before .before .before .before .peek .ensures) (c .before .before .before .c .given .1) 68 (unqualified-D-4 σ) (c .before .match2 .keys2) (c .if2 .taken)
 
 pub add-moved-2 : (t : ℕ) → lts.Need-add-moved-2 (unq-calls t) (unq-at t) unq.Post
 add-moved-2 t c = search needs
@@ -90,14 +92,14 @@ same-length t c = search needs
 
 pub returns-4 : (t : ℕ) → lts.Need-returns-4 (unq-calls t) (unq-at t) unq.Post
 unfolding b
-returns-4 t c = λ σ h. unq-C h (c .before .before .before .before .before .before .before .before .before .before .before .before .before .behind .ensures) (c .before .before .before .before .before .before .before .before .before .before .before .before .moved .ensures) (c .before .before .before .before .before .before .before .before .before .before .before .peek .ensures) (c .before .before .before .before .before .before .before .before .before .c .given .1) (c .before .before .before .before .before .before .if1 .left) (c .before .before .before .before .moved2 .ensures) (c .before .before .before .before .before .before .before .match2 .keys1) (c .before .before .put .ensures)
+returns-4 t c = λ σ h. unq-structor h (c .before .before .before .before .before .before .before .before .before .before .before .before .before .behind .ensures) (c .before .before .before .before .before .before .before .before .before .before .before .before .moved .ensures) (c .before .before .before .before .before .before .before .before .before .before .before .peek .ensures) (c .before .before .before .before .before .before .before .before .before .c .given .1) (c .before .before .before .before .before .before .if1 .left) (c .before .before .before .before .moved2 .ensures) 67 refl (λ u. unqualified-C u σ) (c .before .before .before .before .before .before .before .match2 .keys1) (c .before .before .put .ensures)
 
 pub same-length-2 : (t : ℕ) → lts.Need-same-length-2 (unq-calls t) (unq-at t) unq.Post
 same-length-2 t c = search needs
 
 pub returns-5 : (t : ℕ) → lts.Need-returns-5 (unq-calls t) (unq-at t) unq.Post
 unfolding b
-returns-5 t c = λ σ h. unq-D h (c .before .before .before .before .before .before .before .before .before .before .before .before .before .behind .ensures) (c .before .before .before .before .before .before .before .before .before .before .before .before .moved .ensures) (c .before .before .before .before .before .before .before .before .before .before .before .peek .ensures) (c .before .before .before .before .before .before .before .before .before .c .given .1) (c .before .before .before .before .before .before .if2 .left) (c .before .before .before .before .moved3 .ensures) (c .before .before .before .before .before .before .before .match2 .keys2) (c .before .before .put2 .ensures)
+returns-5 t c = λ σ h. unq-structor h (c .before .before .before .before .before .before .before .before .before .before .before .before .before .behind .ensures) (c .before .before .before .before .before .before .before .before .before .before .before .before .moved .ensures) (c .before .before .before .before .before .before .before .before .before .before .before .peek .ensures) (c .before .before .before .before .before .before .before .before .before .c .given .1) (c .before .before .before .before .before .before .if2 .left) (c .before .before .before .before .moved3 .ensures) 68 refl (λ u. unqualified-D u σ) (c .before .before .before .before .before .before .before .match2 .keys2) (c .before .before .put2 .ensures)
 
 pub same-length-3 : (t : ℕ) → lts.Need-same-length-3 (unq-calls t) (unq-at t) unq.Post
 same-length-3 t c = search needs
@@ -121,4 +123,4 @@ pub same-length-7 : (t : ℕ) → lts.Need-same-length-7 (unq-calls t) (unq-at t
 same-length-7 t c = search needs
 
 pub returns-8 : (t : ℕ) → lts.Need-returns-8 (unq-calls t) (unq-at t) unq.Post
-returns-8 t c = λ σ h. unq-operator h (c .before .before .before .before .before .before .before .before .before .before .before .before .before .before .before .before .before .behind .ensures) (c .before .before .before .before .before .before .before .before .before .before .before .before .before .before .before .before .moved .ensures) (c .before .before .before .before .before .before .before .before .before .before .before .before .before .before .before .peek .ensures) (c .before .before .before .before .before .before .before .before .before .before .before .before .before .c .given .1) (c .before .before .before .before .before .before .before .before .before .before .before .match2 .rest .0 .0 .1) (c .before .before .before .before .before .before .before .before .before .before .before .match2 .rest .0 .1) (c .before .before .before .before .before .before .before .before .before .before .before .match2 .rest .1) (either (λ x. digit-low _ (x .taken)) (λ x. digit-high _ (x .1 .left)) (c .before .before .before .before .before .before .before .before .before .before .if3 .came)) (c .before .before .before .before .before .before .oper .ensures)
+returns-8 t c = λ σ h. unq-operator h (c .before .before .before .before .before .before .before .before .before .before .before .before .before .before .before .before .before .behind .ensures) (c .before .before .before .before .before .before .before .before .before .before .before .before .before .before .before .before .moved .ensures) (c .before .before .before .before .before .before .before .before .before .before .before .before .before .before .before .peek .ensures) (c .before .before .before .before .before .before .before .before .before .before .before .before .before .c .given .1) (c .before .before .before .before .before .before .before .before .before .before .before .match2 .rest .0 .0 .1) (c .before .before .before .before .before .before .before .before .before .before .before .match2 .rest .0 .1) (c .before .before .before .before .before .before .before .before .before .before .before .match2 .rest .1) (either (c .before .before .before .before .before .before .before .before .before .before .if3 .came) (λ x. digit-not _ (λ i. omega (arith, i, x .taken))) (λ x. digit-not _ (λ i. x .1 .left))) (c .before .before .before .before .before .before .oper .ensures)

@@ -2,7 +2,8 @@
 use Prim.Native.Nat.{ℕ}
 use Rattle.parser.specs.Laws.{by, got, refused-on}
 use mathlib.Core.Path.{_∙_}
-use Rattle.reader.specs.Opens.{on-got, wrote-fits, stands-at, wrapped-is}
+use Rattle.reader.specs.Opens.{on-got, wrote-fits, wrapped-is}
+use Rattle.reader.specs.Standing.{stands-at}
 use borrow.Author.Needs.{needs}
 use native.Mathlib.Omega.{arith}
 use Rattle.reader.proofs.cycle.wrap.Reads as wrap
