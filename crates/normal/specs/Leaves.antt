@@ -83,7 +83,7 @@ module _ (s : Text) (at from : ℕ) (e : from ≡ at + length (run (digit 10) (d
 
 -- ---------------------------------------------------------------- references
 
-no-entry : {A : Type 0} (vs : List A) (j : ℕ) → length vs ≤ j → getElem? vs j ≡ none
+pub no-entry : {A : Type 0} (vs : List A) (j : ℕ) → length vs ≤ j → getElem? vs j ≡ none
 no-entry [] zero h = refl
 no-entry [] (suc j) h = refl
 no-entry (x ∷ vs) zero h = absurd (omega arith)

@@ -4,3 +4,14 @@ pub mod Answers
 pub mod Leads
 pub mod Leaves
 pub mod Written
+pub mod States
+pub mod Holds
+pub mod Seeks
+pub mod Rows
+pub mod Regions
+pub mod Firsts
+pub mod Keeps
+pub mod Tags
+pub mod Changes
+pub mod HoldLaws
+pub mod ReadLaws

@@ -26,7 +26,7 @@ module _ (c : ℕ) where
   pub inside : (s : Text) (at : ℕ) → starts (drop at s) (c ∷ []) ≡ true → at < length s
   inside s at h = omega (arith, some-there (drop at s) h, length-drop at s)
 
-  first-is : (d : ℕ) (t : Text) → starts (d ∷ t) (c ∷ []) ≡ eqb d c
+  pub first-is : (d : ℕ) (t : Text) → starts (d ∷ t) (c ∷ []) ≡ eqb d c
   unfolding starts
   first-is d t = rw (starts-nothing t) (go (eqb d c))
     where

@@ -3,14 +3,12 @@ use mathlib.Core.Path.{_≡_, refl, sym, ap, subst, _∙_}
 use mathlib.Core.Logic.{⊎-elim}
 use mathlib.Core.List.{[], _∷_, _++_, append-assoc}
 use Prim.Native.Nat.{ℕ, zero, suc, _+_, _-_, _/_, _%_, _≤_, _<_}
-use native.Mathlib.Nat.{eq-zero-or-pos}
 use native.Mathlib.Omega.{arith}
 use borrow.Author.Tests.{lt-ltb, le-ltb}
 use lib.ListN.{length, take, drop, set, length-append}
 use lib.Seq.{sets-eq, take-at, drop-at, drop-drop, length-take-le}
 use Rattle.grammar.specs.Text.{Text, if_then_else_, decimal}
 use Rattle.catalogue.specs.Spelling.{digitOf, base36, refDigits, refBytes, lengthDigits, nameBytes}
-use Rattle.walk.specs.Walk.{most-reference}
 use Rattle.normal.specs.Tests.{lt-or-le}
 
 pub record Wrote (out out' : Text) (at r : ℕ) (w : Text) : Type 0 where
@@ -56,6 +54,15 @@ module _ (out : Text) (at a : ℕ) where
                 ∙ sets-eq (a ∷ b ∷ c ∷ d ∷ []) out at h;
             end = refl;
           }
+
+      pub wrote-five : (d f : ℕ) → at + 5 ≤ length out
+          → Wrote out (set (set (set (set (set out at a) (at + 1) b) (at + 2) c) (at + 3) d) (at + 4) f) at (at + 5) (a ∷ b ∷ c ∷ d ∷ f ∷ [])
+      wrote-five d f h =
+          let e : at + 1 ≡ suc at = omega arith in
+          let g : at + 2 ≡ suc (suc at) = omega arith in
+          let i : at + 3 ≡ suc (suc (suc at)) = omega arith in
+          let j : at + 4 ≡ suc (suc (suc (suc at))) = omega arith in
+          record { is = rw (e, g, i, j) (sets-eq (a ∷ b ∷ c ∷ d ∷ f ∷ []) out at h); end = refl }
 
 -- one text behind another
 pub wrote-both : {o o' o'' v w : Text} {at m r : ℕ} → at + length v ≤ length o → Wrote o o' at m v → Wrote o' o'' m r w → Wrote o o'' at r (v ++ w)
@@ -127,6 +134,9 @@ base36-more : (k n : ℕ) → 36 ≤ n → base36 (suc k) n ≡ base36 k (n / 36
 unfolding base36 if_then_else_
 base36-more k n h = rw (le-ltb n 36 h) refl
 
+base36-two : (k n : ℕ) → 36 ≤ n → n < 1296 → base36 (suc k) n ≡ digitOf (n / 36) ∷ digitOf (n % 36) ∷ []
+base36-two k n h l = base36-more k n h ∙ ap (λ (d : Text). d ++ (digitOf (n % 36) ∷ [])) (base36-last k (n / 36) (omega arith))
+
 pub ref-none : (i : ℕ) → i ≡ 0 → refBytes i ≡ 83 ∷ 95 ∷ []
 unfolding refDigits
 ref-none zero e = refl
@@ -141,24 +151,23 @@ module _ (i : ℕ) (some : 0 < i) where
   pub ref-one : i - 1 < 36 → refBytes i ≡ 83 ∷ digitOf (i - 1) ∷ 95 ∷ []
   ref-one h = ap (λ (d : Text). 83 ∷ (d ++ (95 ∷ []))) (ref-digits i some ∙ base36-last (i - 1) (i - 1) h)
 
-  pub ref-two : 36 ≤ i - 1 → i < 1024 → refBytes i ≡ 83 ∷ digitOf ((i - 1) / 36) ∷ digitOf ((i - 1) % 36) ∷ 95 ∷ []
+  pub ref-two : 36 ≤ i - 1 → i - 1 < 1296 → refBytes i ≡ 83 ∷ digitOf ((i - 1) / 36) ∷ digitOf ((i - 1) % 36) ∷ 95 ∷ []
   ref-two h l =
       ap (λ (d : Text). 83 ∷ (d ++ (95 ∷ [])))
+      (ref-digits i some ∙ ap (λ (k : ℕ). base36 k (i - 1)) {x = i - 1} {y = suc (i - 2)} (omega arith) ∙ base36-two (i - 2) (i - 1) h l)
+
+  pub ref-three : 1296 ≤ i - 1 → i - 1 < 46656 → refBytes i ≡ 83 ∷ digitOf ((i - 1) / 36 / 36) ∷ digitOf ((i - 1) / 36 % 36) ∷ digitOf ((i - 1) % 36) ∷ 95 ∷ []
+  ref-three h l =
+      ap (λ (d : Text). 83 ∷ (d ++ (95 ∷ [])))
       (ref-digits i some
-      ∙ ap (λ (k : ℕ). base36 k (i - 1)) {x = i - 1} {y = suc (i - 2)} (omega arith)
-      ∙ base36-more (i - 2) (i - 1) h
-      ∙ ap (λ (d : Text). d ++ (digitOf ((i - 1) % 36) ∷ [])) (base36-last (i - 2) ((i - 1) / 36) (omega arith)))
+      ∙ ap (λ (k : ℕ). base36 k (i - 1)) {x = i - 1} {y = suc (suc (i - 3))} (omega arith)
+      ∙ base36-more (suc (i - 3)) (i - 1) (omega arith)
+      ∙ ap (λ (d : Text). d ++ (digitOf ((i - 1) % 36) ∷ [])) (base36-two (i - 3) ((i - 1) / 36) (omega arith) (omega arith)))
+
+pub three-as : {a b c x y z : ℕ} → a ≡ x → b ≡ y → c ≡ z → _≡_ {A = Text} (83 ∷ a ∷ b ∷ c ∷ 95 ∷ []) (83 ∷ x ∷ y ∷ z ∷ 95 ∷ [])
+three-as p q r = λ i. 83 ∷ p i ∷ q i ∷ r i ∷ 95 ∷ []
 
 -- ---------------------------------------------------------------- how long they are
-
-pub ref-short : (i : ℕ) → i < 1024 → length (refBytes i) ≤ most-reference
-ref-short i h = ⊎-elim
-    (λ (z : i ≡ 0). omega (arith, ap length (ref-none i z)))
-    (λ (z : 0 < i). ⊎-elim
-    (λ (l : i - 1 < 36). omega (arith, ap length (ref-one i z l)))
-    (λ (l : 36 ≤ i - 1). omega (arith, ap length (ref-two i z l h)))
-    (lt-or-le (i - 1) 36))
-    (eq-zero-or-pos i)
 
 pub name-short : (n : Text) → length n < 10000 → length (nameBytes n) ≤ length n + 4
 name-short n h = let e = length-append (lengthDigits n) n in ⊎-elim

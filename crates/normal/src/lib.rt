@@ -1,5 +1,8 @@
-// Leaves of the reading that writes normal symbols: identifiers, references, literals, first bytes.
+// The state of the writing of normal symbols, its work slices, and the steps that call no reading back.
 pub mod lead;
 pub mod marks;
+pub mod memory;
+pub mod state;
+pub mod steps;
 pub mod words;
 pub mod write;

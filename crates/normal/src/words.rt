@@ -1,6 +1,7 @@
 // Identifiers, and source names: an identifier behind its length.
 use grammar::numbers;
 use grammar::text;
+use store::stack;
 ghost use mathlib.Core.Path.{_≡_};
 ghost use Prim.Native.Nat.{_≤_};
 ghost use lib.ListN.{length, drop};
@@ -48,6 +49,18 @@ pub fn is_word(s: &[u8], from: usize, to: usize, word: &[u8]) -> bool
         return false;
     }
     text::starts_with(s, from, word)
+}
+
+// Whether two parts are the same word.
+pub fn same_word(s: &[u8], a: usize, b: usize, from: usize, to: usize) -> bool
+    requires { ⌜ ((a ≤ b) × (b ≤ length (now s))) × ((from ≤ to) × (to ≤ length (now s))) ⌝ }
+    ensures { λ r. ⌜ r ≡ same (part (now (s .entry)) a b) (part (now (s .entry)) from to) ⌝ }
+{
+    let n = b - a;
+    if n != to - from {
+        return false;
+    }
+    stack::same_part(s, a, s, from, n)
 }
 
 // Whether a part is one of the last seven reserved words.

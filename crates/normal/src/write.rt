@@ -5,7 +5,6 @@ ghost use Prim.Native.Nat.{suc, _+_, _-_, _≤_, _<_};
 ghost use lib.ListN.{length};
 ghost use Rattle.grammar.specs.Text.{decimal};
 ghost use Rattle.catalogue.specs.Spelling.{digitOf, refBytes, nameBytes};
-ghost use Rattle.walk.specs.Walk.{most-reference};
 ghost use Rattle.normal.specs.Places.{part};
 ghost use Rattle.normal.specs.Written.{Wrote};
 
@@ -23,8 +22,8 @@ fn digit_of(d: usize) -> u8
 
 // The reference to entry i.
 pub fn write_reference(out: &mut [u8], at: usize, i: usize) -> usize
-    requires { ⌜ (i < 1024) × (at + length (refBytes i) ≤ length (now out)) ⌝ }
-    ensures { λ r. ⌜ Wrote (now (out .entry)) (now (out .exit)) at r (refBytes i) × (length (refBytes i) ≤ most-reference) ⌝ }
+    requires { ⌜ (i ≤ 4096) × (at + length (refBytes i) ≤ length (now out)) ⌝ }
+    ensures { λ r. ⌜ Wrote (now (out .entry)) (now (out .exit)) at r (refBytes i) ⌝ }
 {
     out[at] = b'S';
     if i == 0 {
@@ -37,10 +36,17 @@ pub fn write_reference(out: &mut [u8], at: usize, i: usize) -> usize
         out[at + 2] = b'_';
         return at + 3;
     }
-    out[at + 1] = digit_of(n / 36);
-    out[at + 2] = digit_of(n % 36);
-    out[at + 3] = b'_';
-    at + 4
+    if n < 1296 {
+        out[at + 1] = digit_of(n / 36);
+        out[at + 2] = digit_of(n % 36);
+        out[at + 3] = b'_';
+        return at + 4;
+    }
+    out[at + 1] = digit_of(n / 36 / 36);
+    out[at + 2] = digit_of(n / 36 % 36);
+    out[at + 3] = digit_of(n % 36);
+    out[at + 4] = b'_';
+    at + 5
 }
 
 // A number of at most four digits.

@@ -1,0 +1,66 @@
+-- `normal::steps::arg` notes an argument behind what has the number t, and counts it. Assumes nothing.
+use native.Mathlib.Omega.{arith}
+use borrow.Author.Needs.{needs}
+use Rattle.normal.specs.HoldLaws.{told, never, counted-is, tells-as, by-state, holds-counted, took-counted}
+use Rattle.normal.proofs.steps.arg.Statement.{statement}
+use Rattle.normal.proofs.steps.arg.Tie as tie
+
+add-note : tie.Need-add-note
+add-note c = search needs
+
+note-requires : tie.Need-note-requires
+note-requires c κs = search needs
+
+enum-known-noted : tie.Need-enum-known-noted
+enum-known-noted c = search needs
+
+enum-told : tie.Need-enum-told
+enum-told c = search needs
+
+same-length : tie.Need-same-length
+same-length c = search needs
+
+returns : tie.Need-returns
+returns c o σ h = absurd (never (c .before .before .before .before .note .ensures o σ h) (c .enum-told .given .1))
+
+add-counted : tie.Need-add-counted
+add-counted c =
+    let m = c .before .before .before .before .before .before .before .before .before .pre .1 .1 .0 in
+    let r = c .before .before .before .before .before .before .before .before .before .pre .1 .1 .1 in
+    let h = r .1 .1 in
+    let t = told (c .before .before .before .before .before .note .ensures (r .0) (r .1 .0) h) (c .before .noted .given .1) in
+    let k = t .0 in
+    omega arith
+
+counted-requires : tie.Need-counted-requires
+counted-requires c κs = search needs
+
+same-length-2 : tie.Need-same-length-2
+same-length-2 c = search needs
+
+returns-2 : tie.Need-returns-2
+returns-2 c o σ h =
+    let a = c .before .before .before .before .before .before .before .before .before .before .args in
+    let m = c .before .before .before .before .before .before .before .before .before .before .pre .1 .1 .0 in
+    let t = told (c .before .before .before .before .before .before .note .ensures o σ h) (c .before .before .noted .given .1) in
+    let k = t .0 in
+    let l = t .1 .0 in
+    tells-as (counted-is (a .t) (a .x) σ (t .1 .1 .0))
+    (by-state (c .counted .ensures) (holds-counted k (omega arith)))
+    (took-counted l (c .counted .ensures) (omega arith))
+    (t .1 .1 .1)
+
+pub arg-spec : {M : Type 1} → statement M
+arg-spec =
+    tie.close
+    (tie.spec
+    add-note
+    note-requires
+    enum-known-noted
+    enum-told
+    same-length
+    returns
+    add-counted
+    counted-requires
+    same-length-2
+    returns-2)

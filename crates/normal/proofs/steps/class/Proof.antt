@@ -1,0 +1,22 @@
+-- `normal::steps::class` tests a tag. Assumes nothing.
+use mathlib.Core.Path.{refl, sym, _∙_}
+use borrow.Author.Needs.{needs}
+use Rattle.normal.proofs.steps.class.Statement.{statement}
+use Rattle.normal.proofs.steps.class.Tie as tie
+
+bare-requires : tie.Need-bare-requires
+bare-requires c κs = search needs
+
+returns : tie.Need-returns
+returns c = rw (sym (c .before .bare .ensures) ∙ c .if1 .taken) refl
+
+returns-2 : tie.Need-returns-2
+returns-2 c = rw (sym (c .before .bare .ensures) ∙ c .if1 .left) refl
+
+pub class-spec : {M : Type 1} → statement M
+class-spec =
+    tie.close
+    (tie.spec
+    bare-requires
+    returns
+    returns-2)

@@ -1,0 +1,51 @@
+-- `normal::steps::copy_byte` goes on by a byte, which has room for itself, and writes it. Assumes nothing.
+use native.Mathlib.Omega.{arith}
+use borrow.Author.Needs.{needs}
+use mathlib.Core.List.{[], _∷_}
+use lib.ListN.{getD}
+use Rattle.normal.specs.Keeps.{out-size}
+use Rattle.normal.specs.HoldLaws.{wrote-none, wrote-more, next-byte, put-moved}
+use Rattle.normal.proofs.steps.copy_byte.Statement.{statement}
+use Rattle.normal.proofs.steps.copy_byte.Tie as tie
+
+add-moved : tie.Need-add-moved
+add-moved c = search needs
+
+moved-requires : tie.Need-moved-requires
+moved-requires c κs = search needs
+
+shared-slice-read-put-byte : tie.Need-shared-slice-read-put-byte
+shared-slice-read-put-byte c = search needs
+
+put-byte-requires : tie.Need-put-byte-requires
+put-byte-requires c κs =
+    let h = c .before .before .before .before .before .pre .1 .1 .1 in
+    let w = wrote-none (c .before .before .before .before .before .args .p) (c .before .moved .ensures) in
+    let l = c .before .before .before .before .before .pre .0 in
+    omega (arith, out-size h)
+
+same-length : tie.Need-same-length
+same-length c = search needs
+
+returns : tie.Need-returns
+returns c =
+    let a = c .before .before .before .before .before .before .before .before .args in
+    let l = c .before .before .before .before .before .before .before .before .pre .0 in
+    let x = c .before .before .put-byte .ensures in
+    let w = wrote-more 1 (wrote-none (c .before .before .before .before .before .before .before .before .args .p) (c .before .before .before .before .moved .ensures)) (x .0) in (
+      record { at = w .at; out = w .out; nodes = w .nodes; table = w .table; args = w .args },
+      λ n σ h k t e.
+          let f = next-byte h l e in
+          rw (f .0, f .1) (put-moved h (getD (a .s .now) (a .p .at) 0 ∷ []) (c .before .before .before .before .moved .ensures) x (omega arith) (omega arith) (omega arith)),
+    )
+
+pub copy-byte-spec : {M : Type 1} → statement M
+copy-byte-spec =
+    tie.close
+    (tie.spec
+    add-moved
+    moved-requires
+    shared-slice-read-put-byte
+    put-byte-requires
+    same-length
+    returns)

@@ -1,0 +1,81 @@
+-- `normal::steps::part` reads a source name, writes it, and notes it behind what has the number t. Assumes nothing.
+use mathlib.Core.Path.{refl, _∙_, ap}
+use native.Mathlib.Omega.{arith}
+use Rattle.walk.specs.Walk.{name}
+use borrow.Author.Needs.{needs}
+use Rattle.normal.specs.HoldLaws.{room-less, refuses-as, refines-as, with-none, with-some, spent}
+use Rattle.normal.specs.ReadLaws.{no-name-at, name-at, name-size, name-fits, name-wrote, name-held, name-room}
+use Rattle.normal.proofs.steps.part.Statement.{statement}
+use Rattle.normal.proofs.steps.part.Tie as tie
+
+source-name-requires : tie.Need-source-name-requires
+source-name-requires c κs = search needs
+
+enum-known-from : tie.Need-enum-known-from
+enum-known-from c = search needs
+
+enum-told : tie.Need-enum-told
+enum-told c = search needs
+
+returns : tie.Need-returns
+returns c σ h =
+    let a = c .before .before .before .before .before .before .args in
+    let e = no-name-at (a .s .now) (a .p .at) (c .before .before .source-name .ensures) (c .enum-told .given .1) in
+    refuses-as (with-none _ (ap name (h .rest) ∙ e))
+
+moved-requires : tie.Need-moved-requires
+moved-requires c κs = search needs
+
+put-name-requires : tie.Need-put-name-requires
+put-name-requires c κs =
+    let a = c .before .before .before .before .before .before .before .before .before .args in
+    let h = c .before .before .before .before .before .before .before .before .before .pre .1 .1 in
+    let x = name-at (a .s .now) (a .p .at) (c .before .before .before .before .before .source-name .ensures) (c .before .before .before .from .given .1) in
+    (omega arith, (x .inside, (omega arith, name-fits x h refl (c .moved .ensures))))
+
+cast-note : tie.Need-cast-note
+cast-note c = search needs
+
+note-requires : tie.Need-note-requires
+note-requires c κs =
+    let a = c .before .before .before .before .before .before .before .before .before .before .before .before .before .args in
+    let t = c .before .before .before .before .before .before .before .before .before .before .before .before .before .pre .0 in
+    let h = c .before .before .before .before .before .before .before .before .before .before .before .before .before .pre .1 .1 in
+    let x = name-at (a .s .now) (a .p .at) (c .before .before .before .before .before .before .before .before .before .source-name .ensures) (c .before .before .before .before .before .before .before .from .given .1) in
+    let e = c .before .before .before .before .moved .ensures in
+    let y = c .before .before .before .put-name .ensures in
+    ((omega arith, omega arith), ((omega arith, x .inside), (room-less (name-room x h refl e y), (_, (_, name-held x h refl e y)))))
+
+same-length : tie.Need-same-length
+same-length c = search needs
+
+same-length-2 : tie.Need-same-length-2
+same-length-2 c = search needs
+
+returns-2 : tie.Need-returns-2
+returns-2 c σ h =
+    let a = c .before .before .before .before .before .before .before .before .before .before .before .before .before .before .before .before .args in
+    let x = name-at (a .s .now) (a .p .at) (c .before .before .before .before .before .before .before .before .before .before .before .before .source-name .ensures) (c .before .before .before .before .before .before .before .before .before .before .from .given .1) in
+    let e = c .before .before .before .before .before .before .before .moved .ensures in
+    let y = c .before .before .before .before .before .before .put-name .ensures in
+    let z = name-size x in
+    let w = name-wrote x h refl e y in
+    refines-as (with-some _ (ap name (h .rest) ∙ x .is))
+    (λ q l. let g = l .at in (omega arith, spent w l (omega arith) (omega arith) (omega arith) (omega arith)))
+    (c .before .before .note .ensures _ _ (name-held x h refl e y))
+
+pub part-spec : {M : Type 1} → statement M
+part-spec =
+    tie.close
+    (tie.spec
+    source-name-requires
+    enum-known-from
+    enum-told
+    returns
+    moved-requires
+    put-name-requires
+    cast-note
+    note-requires
+    same-length
+    same-length-2
+    returns-2)

@@ -1,0 +1,89 @@
+-- `normal::symbol::scoped` writes a nested name behind _ZN or _ZNK. Assumes nothing.
+use borrow.Author.Tests.{not-true, not-false}
+use Rattle.writer.specs.Symbols.{begun-by, scoped-holds, scoped-none, scoped-ready, scoped-room, scoped-full, scoped-heads}
+use borrow.Author.Needs.{needs}
+use Rattle.writer.proofs.symbol.scoped.Statement.{statement}
+use Rattle.writer.proofs.symbol.scoped.Tie as tie
+
+begin-requires : tie.Need-begin-requires
+begin-requires c κs = search needs
+
+parts-requires : tie.Need-parts-requires
+parts-requires c κs =
+    let b = begun-by {s = c .before .before .before .before .before .before .before .before .before .before .args .s .now} {w = c .before .before .before .before .before .before .before .before .before .before .args .word .now} (c .before .before .before .before .before .before .before .before .before .before .pre) (c .before .before .before .before .begin .ensures) in
+    (_, scoped-holds b)
+
+enum-known-next : tie.Need-enum-known-next
+enum-known-next c = search needs
+
+enum-told : tie.Need-enum-told
+enum-told c = search needs
+
+same-length : tie.Need-same-length
+same-length c = search needs
+
+same-length-2 : tie.Need-same-length-2
+same-length-2 c = search needs
+
+returns : tie.Need-returns
+returns c =
+    let b = begun-by {s = c .before .before .before .before .before .before .before .before .before .before .before .before .before .before .before .before .before .args .s .now} {w = c .before .before .before .before .before .before .before .before .before .before .before .before .before .before .before .before .before .args .word .now} (c .before .before .before .before .before .before .before .before .before .before .before .before .before .before .before .before .before .pre) (c .before .before .before .before .before .before .before .before .before .before .before .begin .ensures) in
+    scoped-none b (c .before .before .before .before .before .before .parts .ensures) (c .before .before .before .before .before .before .before .before .before .before .before .before .before .before .before .before .before .args .constant) (c .enum-told .given .1)
+
+tag-of-requires : tie.Need-tag-of-requires
+tag-of-requires c κs =
+    let b = begun-by {s = c .before .before .before .before .before .before .before .before .before .before .before .before .before .before .before .before .before .before .before .args .s .now} {w = c .before .before .before .before .before .before .before .before .before .before .before .before .before .before .before .before .before .before .before .args .word .now} (c .before .before .before .before .before .before .before .before .before .before .before .before .before .before .before .before .before .before .before .pre) (c .before .before .before .before .before .before .before .before .before .before .before .before .before .begin .ensures) in
+    let t = scoped-ready b (c .before .before .before .before .before .before .before .before .parts .ensures) (c .before .before .next .given .1) in
+    (_, (_, (t .state, t .holds)))
+
+bare-requires : tie.Need-bare-requires
+bare-requires c κs = search needs
+
+same-length-3 : tie.Need-same-length-3
+same-length-3 c = search needs
+
+same-length-4 : tie.Need-same-length-4
+same-length-4 c = search needs
+
+returns-2 : tie.Need-returns-2
+returns-2 c =
+    let b = begun-by {s = c .before .before .before .before .before .before .before .before .before .before .before .before .before .before .before .before .before .before .before .before .before .before .args .s .now} {w = c .before .before .before .before .before .before .before .before .before .before .before .before .before .before .before .before .before .before .before .before .before .before .args .word .now} (c .before .before .before .before .before .before .before .before .before .before .before .before .before .before .before .before .before .before .before .before .before .before .pre) (c .before .before .before .before .before .before .before .before .before .before .before .before .before .before .before .before .begin .ensures) in
+    scoped-full b (c .before .before .before .before .before .before .before .before .before .before .before .parts .ensures) (c .before .before .before .before .before .next .given .1) (c .before .before .before .before .before .before .before .before .before .before .before .before .before .before .before .before .before .before .before .before .before .before .args .constant) (c .before .before .tag-of .ensures) (c .before .bare .ensures) (not-true _ (c .if1 .taken))
+
+close-requires : tie.Need-close-requires
+close-requires c κs =
+    let b = begun-by {s = c .before .before .before .before .before .before .before .before .before .before .before .before .before .before .before .before .before .before .before .before .before .before .before .args .s .now} {w = c .before .before .before .before .before .before .before .before .before .before .before .before .before .before .before .before .before .before .before .before .before .before .before .args .word .now} (c .before .before .before .before .before .before .before .before .before .before .before .before .before .before .before .before .before .before .before .before .before .before .before .pre) (c .before .before .before .before .before .before .before .before .before .before .before .before .before .before .before .before .before .begin .ensures) in
+    let t = scoped-ready b (c .before .before .before .before .before .before .before .before .before .before .before .before .parts .ensures) (c .before .before .before .before .before .before .next .given .1) in
+    (scoped-room b (c .before .before .before .before .before .before .before .before .before .before .before .before .parts .ensures) (c .before .before .before .before .before .before .next .given .1), (_, (_, (t .state, t .holds))))
+
+same-length-5 : tie.Need-same-length-5
+same-length-5 c = search needs
+
+same-length-6 : tie.Need-same-length-6
+same-length-6 c = search needs
+
+returns-3 : tie.Need-returns-3
+returns-3 c =
+    let b = begun-by {s = c .before .before .before .before .before .before .before .before .before .before .before .before .before .before .before .before .before .before .before .before .before .before .before .before .before .before .args .s .now} {w = c .before .before .before .before .before .before .before .before .before .before .before .before .before .before .before .before .before .before .before .before .before .before .before .before .before .before .args .word .now} (c .before .before .before .before .before .before .before .before .before .before .before .before .before .before .before .before .before .before .before .before .before .before .before .before .before .before .pre) (c .before .before .before .before .before .before .before .before .before .before .before .before .before .before .before .before .before .before .before .before .begin .ensures) in
+    scoped-heads b (c .before .before .before .before .before .before .before .before .before .before .before .before .before .before .before .parts .ensures) (c .before .before .before .before .before .before .before .before .before .next .given .1) (c .before .before .before .before .before .before .before .before .before .before .before .before .before .before .before .before .before .before .before .before .before .before .before .before .before .before .args .constant) (c .before .before .before .before .before .before .tag-of .ensures) (c .before .before .before .before .before .bare .ensures) (not-false _ (c .before .before .before .before .if1 .left)) (c .before .before .close .ensures)
+
+pub scoped-spec : {M : Type 1} → statement M
+scoped-spec =
+    tie.close
+    (tie.spec
+    begin-requires
+    parts-requires
+    enum-known-next
+    enum-told
+    same-length
+    same-length-2
+    returns
+    tag-of-requires
+    bare-requires
+    same-length-3
+    same-length-4
+    returns-2
+    close-requires
+    same-length-5
+    same-length-6
+    returns-3)
