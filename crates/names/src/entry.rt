@@ -156,7 +156,7 @@ fn wipe_args(store: &mut [u8], ends: &mut [u16], count: usize, bytes: usize)
     table::wipe(&mut store[32768..], &mut ends[1024..], count, bytes);
 }
 
-fn refused(front: Front) -> Answer
+pub fn refused(front: Front) -> Answer
     ensures { λ r. ⌜ r ≡ refused-of front ⌝ }
 {
     match front {

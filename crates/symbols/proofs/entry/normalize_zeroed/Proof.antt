@@ -1,0 +1,103 @@
+-- `symbols::entry::normalize_zeroed` meets its contract, test by test. Assumes nothing.
+use mathlib.Core.Path.{refl, sym, ap, _∙_}
+use native.Mathlib.Omega.{arith}
+use borrow.Author.Tests.{not-true, not-false}
+use Rattle.store.specs.Stack.{zeros}
+use Rattle.names.specs.Outcome.{slices}
+use Rattle.symbols.specs.Answers.{again, fit-long, front-refuses, front-inside, front-short, reading-refuses, normal-written}
+use borrow.Author.Needs.{needs}
+use Rattle.symbols.proofs.entry.normalize_zeroed.Statement.{statement}
+use Rattle.symbols.proofs.entry.normalize_zeroed.Tie as tie
+
+behind-front-requires : tie.Need-behind-front-requires
+behind-front-requires c κs = search needs
+
+enum-told : tie.Need-enum-told
+enum-told c = search needs
+
+enum-told-2 : tie.Need-enum-told-2
+enum-told-2 c = search needs
+
+refused-requires : tie.Need-refused-requires
+refused-requires c κs = search needs
+
+returns : tie.Need-returns
+returns c = front-refuses (c .before .before .before .behind-front .ensures) _ (c .before .enum-told2 .given .1) (c .refused .ensures) (c .before .before .before .before .before .before .before .before .before .pre)
+
+work-fits-requires : tie.Need-work-fits-requires
+work-fits-requires c κs = search needs
+
+returns-2 : tie.Need-returns-2
+returns-2 c = front-short (c .before .before .before .before .behind-front .ensures) (c .before .before .enum-told .given .1) _ (sym (c .before .work-fits .ensures) ∙ not-true _ (c .if1 .taken)) (c .before .before .before .before .before .before .before .before .before .before .pre)
+
+accepted-requires : tie.Need-accepted-requires
+accepted-requires c κs =
+    let z = c .before .before .before .before .before .before .before .before .before .before .before .before .before .pre in
+    (fit-long _ (sym (c .before .before .before .before .work-fits .ensures) ∙ not-false _ (c .before .before .before .if1 .left)), record { text = z .text; store = z .store; ends = z .ends })
+
+same-length : tie.Need-same-length
+same-length c = search needs
+
+same-length-2 : tie.Need-same-length-2
+same-length-2 c = search needs
+
+same-length-3 : tie.Need-same-length-3
+same-length-3 c = search needs
+
+returns-3 : tie.Need-returns-3
+returns-3 c =
+    let a = c .before .before .before .before .before .before .before .before .before .before .before .before .before .before .before .before .before .before .before .before .before .args in
+    reading-refuses (c .before .before .before .before .before .before .before .before .before .before .before .before .before .before .before .behind-front .ensures) (c .before .before .before .before .before .before .before .before .before .before .before .before .before .enum-told .given .1) (slices (a .out .now) (a .text .now) (a .store .now) (a .ends .now))
+    (sym (c .before .before .before .before .before .before .before .before .before .before .before .before .work-fits .ensures) ∙ not-false _ (c .before .before .before .before .before .before .before .before .before .before .before .if1 .left)) (c .before .before .before .before .before .before .before .accepted .ensures) (c .if2 .taken)
+
+write-within-requires : tie.Need-write-within-requires
+write-within-requires c κs =
+    let a = c .before .before .before .before .before .before .before .before .before .before .before .before .before .before .before .before .before .before .before .before .before .before .before .before .args in
+    let l = fit-long (slices (a .out .now) (a .text .now) (a .store .now) (a .ends .now)) (sym (c .before .before .before .before .before .before .before .before .before .before .before .before .before .before .before .work-fits .ensures) ∙ not-false _ (c .before .before .before .before .before .before .before .before .before .before .before .before .before .before .if1 .left)) in
+    let h = c .before .before .before .before .before .before .before .before .before .before .accepted .ensures in
+    let e = again (a .text .now) _ (h .text) in
+    let f = again (a .ends .now) _ (h .ends) in (
+      front-inside (c .before .before .before .before .before .before .before .before .before .before .before .before .before .before .before .before .before .before .behind-front .ensures) (c .before .before .before .before .before .before .before .before .before .before .before .before .before .before .before .before .enum-told .given .1) .1,
+      ((omega (arith, l .text, e), h .text ∙ ap zeros (sym e)), (omega (arith, l .ends, f), h .ends ∙ ap zeros (sym f))),
+    )
+
+same-length-4 : tie.Need-same-length-4
+same-length-4 c = search needs
+
+same-length-5 : tie.Need-same-length-5
+same-length-5 c = search needs
+
+same-length-6 : tie.Need-same-length-6
+same-length-6 c = search needs
+
+same-length-7 : tie.Need-same-length-7
+same-length-7 c = search needs
+
+returns-4 : tie.Need-returns-4
+returns-4 c =
+    let a = c .before .before .before .before .before .before .before .before .before .before .before .before .before .before .before .before .before .before .before .before .before .before .before .before .before .before .before .before .before .before .before .args in
+    normal-written (c .before .before .before .before .before .before .before .before .before .before .before .before .before .before .before .before .before .before .before .before .before .before .before .before .before .behind-front .ensures) (c .before .before .before .before .before .before .before .before .before .before .before .before .before .before .before .before .before .before .before .before .before .before .before .enum-told .given .1) (slices (a .out .now) (a .text .now) (a .store .now) (a .ends .now))
+    (sym (c .before .before .before .before .before .before .before .before .before .before .before .before .before .before .before .before .before .before .before .before .before .before .work-fits .ensures) ∙ not-false _ (c .before .before .before .before .before .before .before .before .before .before .before .before .before .before .before .before .before .before .before .before .before .if1 .left)) (c .before .before .before .before .before .before .before .before .before .before .before .before .before .before .before .before .before .accepted .ensures) _ (c .before .before .before .before .before .before .before .before .before .before .if2 .left) (c .before .before .before .before .before .before .write-within .ensures) refl
+
+pub normalize-zeroed-spec : {M : Type 1} → statement M
+normalize-zeroed-spec =
+    tie.close
+    (tie.spec
+    behind-front-requires
+    enum-told
+    enum-told-2
+    refused-requires
+    returns
+    work-fits-requires
+    returns-2
+    accepted-requires
+    same-length
+    same-length-2
+    same-length-3
+    returns-3
+    write-within-requires
+    same-length-4
+    same-length-5
+    same-length-6
+    same-length-7
+    returns-4)

@@ -1,0 +1,167 @@
+-- Laws of the answer of the entry for normal symbols, by what is told on the way. Assumes nothing.
+use mathlib.Core.Bool.{Bool, true, false, _&&_}
+use mathlib.Core.List.{[], _++_}
+use mathlib.Core.Option.{Option, none, some}
+use mathlib.Core.Path.{_≡_, refl, sym, ap, ap₂, _∙_, subst}
+use Prim.Native.Nat.{ℕ, _+_, _≤_, _<_}
+use native.Mathlib.Omega.{arith}
+use borrow.Author.Tests.{le-leb, lt-leb, leb-true}
+use lib.Dec.{leb}
+use lib.ListN.{length, drop}
+use lib.Seq.{paste, take-length}
+use Rattle.grammar.specs.Text.{Text, if_then_else_}
+use Rattle.grammar.specs.Names.{refusal, named, demangle, mangled-name, within, work-fits, most-symbol-bytes, number-of}
+use Rattle.grammar.specs.Names as n
+use Rattle.grammar.specs.Fuel.{never-0}
+use Rattle.catalogue.specs.Recogniser.{classify}
+use Rattle.catalogue.specs.Answer.{normalIn, normal-told, normal-after, normal-answer, normal-work-fits}
+use Rattle.walk.specs.Equal.{walk-is}
+use Rattle.nodes.specs.Nodes.{note-symbol}
+use Rattle.nodes.specs.Equal.{nodes-are-walk}
+use Rattle.store.specs.Stack.{zeros}
+use Rattle.store.specs.Lists.{length-zeros}
+use Rattle.names.specs.declared.entry.Answer.{Answer}
+use Rattle.names.specs.declared.entry.Answer.the-variants.{Name, Refused}
+use Rattle.names.specs.declared.symbol.Front.{Front}
+use Rattle.names.specs.declared.symbol.Front.the-variants as front-as
+use Rattle.names.specs.Outcome.{Slices, Outcome, slices, lent, leaves, demangled, Demangles, Leaves, Zero, number-in}
+use Rattle.names.specs.Symbols.{Fronts, Front-inside}
+use Rattle.names.specs.Fronts.{both-true}
+use Rattle.names.specs.Printed.{Tells, refused-of}
+use Rattle.names.specs.Tells.{tells-refusal, tells-name, tells-as}
+use Rattle.names.specs.Told.{told-leaves}
+use Rattle.names.specs.Lengths.{answer-is}
+use Rattle.symbols.specs.Outcome.{normalized, Normalizes}
+use Rattle.symbols.specs.Parts.{Long, Accepts, Normal}
+
+-- ---- a normal symbol, told
+
+module _ (w out : Text) where
+  pub told-13 : most-symbol-bytes < length w → Tells (within (length out) (normal-told (some w))) out out (Refused 13)
+  unfolding normal-told within if_then_else_
+  told-13 h = tells-refusal (rw (lt-leb (length w) 4096 h))
+
+  pub told-12 : length w ≤ most-symbol-bytes → length out < length w → Tells (within (length out) (normal-told (some w))) out out (Refused 12)
+  unfolding normal-told within if_then_else_
+  told-12 h l = tells-refusal (rw (le-leb (length w) 4096 h, lt-leb (length w) (length out) l))
+
+  pub told-name : length w ≤ most-symbol-bytes → length w ≤ length out → {out' : Text} {n : ℕ} → n ≡ length w → out' ≡ paste out 0 w (length w)
+      → Tells (within (length out) (normal-told (some w))) out out' (Name n)
+  unfolding normal-told within if_then_else_
+  told-name h l e f =
+      tells-name {t = w} (rw (le-leb (length w) 4096 h, le-leb (length w) (length out) l)) e
+      (f ∙ ap₂ (λ (x : Text) (k : ℕ). x ++ drop k out) (take-length w) (let e : 0 + length w ≡ length w = omega arith in e))
+
+-- the code's walk finds what the recogniser finds
+pub note-is : (s : Text) → note-symbol s ≡ normalIn (classify s)
+note-is s = nodes-are-walk s ∙ walk-is s
+
+module _ (s out : Text) where
+  pub told-6 : note-symbol s ≡ none → Tells (within (length out) (normal-told (normalIn (classify s)))) out out (Refused 6)
+  unfolding normal-told within
+  told-6 e = tells-refusal (ap (λ (x : Option Text). within (length out) (normal-told x)) (sym (note-is s) ∙ e))
+
+  pub told-normal : {v w out' : Text} {r : Answer} → note-symbol s ≡ some v → w ≡ v → Tells (within (length out) (normal-told (some w))) out out' r
+      → Tells (within (length out) (normal-told (normalIn (classify s)))) out out' r
+  told-normal e f h = tells-as (ap (λ (x : Option Text). within (length out) (normal-told x)) (ap some f ∙ sym e ∙ note-is s)) h
+
+-- ---- the reading for the name
+
+long-fits : (l : Slices) → Long l → work-fits (lent l) ≡ true
+unfolding work-fits
+long-fits l h =
+    rw (le-leb 65536 (length (l .text)) (h .text), le-leb 65536 (length (l .store)) (h .store), le-leb 2048 (length (l .ends)) (omega (arith, h .ends)))
+
+pub accepts : (s out text store ends : Text) (l' : Slices) (r : Answer) {k : ℕ} → Demangles s (slices out text store ends) l' r → 16384 ≤ length out
+    → Long (slices [] text store ends) → k ≡ number-in r → Accepts s (slices [] text store ends) (slices [] (l' .text) (l' .store) (l' .ends)) k
+unfolding demangled leaves
+accepts s out text store ends l' r e h f g =
+    let l = slices out text store ends in
+    record {
+      number = g ∙ ap (λ (o : Outcome). o .number) e ∙ ap number-of (answer-is l s h (long-fits l (record { text = f .text; store = f .store; ends = f .ends })));
+      text = ap (λ (o : Outcome). o .slices .text) e;
+      store = ap (λ (o : Outcome). o .slices .store) e;
+      ends = ap (λ (o : Outcome). o .slices .ends) e;
+    }
+
+after-refused : (s : Text) (a : n.Answer) {k : ℕ} → k ≡ number-of a → (k ≡ 0 → ⊥) → normal-after s a ≡ refusal k
+unfolding number-of normal-after
+after-refused s (named x) e h = absurd (h e)
+after-refused s (refusal r) e h = ap refusal (sym e)
+
+after-accepted : (s : Text) (a : n.Answer) {k : ℕ} → (a ≡ refusal 0 → ⊥) → k ≡ number-of a → k ≡ 0 → normal-after s a ≡ normal-told (normalIn (classify s))
+unfolding number-of normal-after
+after-accepted s (named x) z e h = refl
+after-accepted s (refusal r) z e h = absurd (z (ap refusal (sym e ∙ h)))
+
+-- ---- the lengths of the work slices
+
+abbrev pub fit : Slices → Bool
+fit l = leb 65536 (length (l .text)) && leb 65536 (length (l .store)) && leb 24576 (length (l .ends))
+
+pub fit-long : (l : Slices) → fit l ≡ true → Long l
+fit-long l h =
+    let (i, k) = both-true (leb 65536 (length (l .text)) && leb 65536 (length (l .store))) (leb 24576 (length (l .ends))) h in
+    let (x, y) = both-true (leb 65536 (length (l .text))) (leb 65536 (length (l .store))) i in
+    record { text = leb-true 65536 (length (l .text)) x; store = leb-true 65536 (length (l .store)) y; ends = leb-true 24576 (length (l .ends)) k }
+
+-- ---- by the front
+
+-- a slice that was cleared has its length
+pub again : (x y : Text) → y ≡ zeros (length x) → length y ≡ length x
+again x y e = ap length e ∙ length-zeros (length x)
+
+refusal-leaves : (l : Slices) {k : ℕ} → Zero l → Leaves (refusal k) l l (Refused k)
+refusal-leaves l z = told-leaves l l (tells-refusal refl) (z .text) (z .store) (z .ends)
+
+module _ {s : Text} {f : Front} (h : Fronts s f) where
+  pub front-refuses : (l : Slices) {r : Answer} {k : ℕ} → f ≡ front-as.Refused k → r ≡ refused-of f → Zero l → Normalizes s l l r
+  unfolding normalized normal-answer
+  front-refuses l {r} {k} e g z =
+      let i : Fronts s (front-as.Refused k) = subst (Fronts s) e h in
+      subst (λ (x : Answer). Normalizes s l l x) (sym (g ∙ ap refused-of e)) (refusal-leaves l z ∙ ap (λ (a : n.Answer). leaves a l) (sym (i .is _)))
+
+  module _ {k : ℕ} (e : f ≡ front-as.Behind k) where
+    pub front-inside : (k ≤ length s) × (length s ≤ 4096)
+    front-inside = subst (Front-inside s) e (h .inside)
+
+    abbrev here : Fronts s (front-as.Behind k)
+    here = subst (Fronts s) e h
+
+    pub front-short : (l : Slices) → fit l ≡ false → Zero l → Normalizes s l l (Refused 14)
+    unfolding normalized normal-answer normal-work-fits if_then_else_
+    front-short l g z = refusal-leaves l z ∙ ap (λ (a : n.Answer). leaves a l) (sym (here .is _ ∙ rw g))
+
+    after-is : (l : Slices) → fit l ≡ true → normal-answer (lent l) s ≡ within (length (l .out)) (normal-after s (demangle most-symbol-bytes s))
+    unfolding normal-answer normal-work-fits if_then_else_ demangle
+    after-is l g = here .is _ ∙ rw g (ap (λ (a : n.Answer). within (length (l .out)) (normal-after s a)) (sym (here .is mangled-name)))
+
+    module _ (l : Slices) (g : fit l ≡ true) {text store ends : Text} {j : ℕ} (a : Accepts s (slices [] (l .text) (l .store) (l .ends)) (slices [] text store ends) j) where
+      pub reading-refuses : (j ≡ 0 → ⊥) → Normalizes s l (slices (l .out) text store ends) (Refused j)
+      unfolding normalized within
+      reading-refuses z =
+          told-leaves l (slices (l .out) text store ends)
+          (tells-refusal (after-is l g ∙ ap (within (length (l .out))) (after-refused s (demangle most-symbol-bytes s) (a .number) z)))
+          (a .text) (a .store) (a .ends)
+
+      pub normal-written : (m : Slices) {r : Answer} → j ≡ 0 → Normal s (l .out) (m .out) (zeros (length text)) (m .text) (zeros (length ends)) (m .ends) r
+          → m .store ≡ store → Normalizes s l m r
+      unfolding normalized
+      normal-written m z i c =
+          told-leaves l m
+          (tells-as (sym (after-is l g ∙ ap (within (length (l .out))) (after-accepted s (demangle most-symbol-bytes s) (never-0 most-symbol-bytes s) (a .number) z))) (i .tells))
+          (i .text-is ∙ ap zeros (again (l .text) text (a .text))) (c ∙ a .store) (i .ends-is ∙ ap zeros (again (l .ends) ends (a .ends)))
+
+-- ---- only the lengths of the work slices matter
+
+module _ (text store ends : Text) {text' store' ends' : Text} (e : text' ≡ zeros (length text)) (f : store' ≡ zeros (length store)) (g : ends' ≡ zeros (length ends)) where
+  pub cleared-zero : (out : Text) → Zero (slices out text' store' ends')
+  cleared-zero out = record {
+    text = e ∙ ap zeros (sym (again text text' e));
+    store = f ∙ ap zeros (sym (again store store' f));
+    ends = g ∙ ap zeros (sym (again ends ends' g));
+  }
+
+  pub cleared-normalized : (s out : Text) → normalized s (slices out text' store' ends') ≡ normalized s (slices out text store ends)
+  unfolding normalized leaves
+  cleared-normalized s out = rw (again text text' e, again store store' f, again ends ends' g)

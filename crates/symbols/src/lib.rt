@@ -1,0 +1,2 @@
+// The entry for normal symbols.
+pub mod entry;
