@@ -1,0 +1,175 @@
+//! Names of C++ symbols, by the proved library libpatchname.a.
+//!
+//! ```
+//! use patchname::{Demangler, Refusal};
+//!
+//! let mut demangler = Demangler::new();
+//! assert_eq!(demangler.name(b"_ZNK1a1bEi"), Ok(&b"a::b(int) const"[..]));
+//! assert_eq!(demangler.name(b"_Z0v"), Err(Refusal::Unreadable));
+//! ```
+#![warn(missing_docs)]
+
+mod refusal;
+#[cfg(test)]
+mod tests;
+
+pub use refusal::Refusal;
+
+/// The longest symbol that is read, in bytes.
+pub const SYMBOL_BYTES: usize = 4096;
+
+/// So many bytes are enough for every name.
+pub const NAME_BYTES: usize = 16384;
+
+/// So many bytes are enough for every normal symbol.
+#[cfg(feature = "normalize")]
+pub const NORMAL_SYMBOL_BYTES: usize = 4096;
+
+// The least lengths of the work slices. The library clears all of what it is lent, so no more than that is lent.
+const TEXT_LENGTH: usize = 65536;
+const STORE_LENGTH: usize = 65536;
+const ENDS_LENGTH: usize = 2048;
+#[cfg(feature = "normalize")]
+const NORMALIZE_ENDS_LENGTH: usize = 24576;
+
+#[cfg(not(feature = "normalize"))]
+const MOST_ENDS: usize = ENDS_LENGTH;
+#[cfg(feature = "normalize")]
+const MOST_ENDS: usize = NORMALIZE_ENDS_LENGTH;
+
+// A slice is a pointer and a length; include/patchname.h says what a caller owes. Slices of Rust fulfil it: they are never null, and those
+// that can be written overlap nothing.
+type Entry = unsafe extern "C" fn(
+    symbol: *const u8,
+    symbol_length: usize,
+    out: *mut u8,
+    out_length: usize,
+    text: *mut u8,
+    text_length: usize,
+    store: *mut u8,
+    store_length: usize,
+    ends: *mut u16,
+    ends_length: usize,
+    bytes: *mut usize,
+) -> u8;
+
+extern "C" {
+    fn patchname_demangle(
+        symbol: *const u8,
+        symbol_length: usize,
+        out: *mut u8,
+        out_length: usize,
+        text: *mut u8,
+        text_length: usize,
+        store: *mut u8,
+        store_length: usize,
+        ends: *mut u16,
+        ends_length: usize,
+        bytes: *mut usize,
+    ) -> u8;
+
+    #[cfg(feature = "normalize")]
+    fn patchname_normalize(
+        symbol: *const u8,
+        symbol_length: usize,
+        out: *mut u8,
+        out_length: usize,
+        text: *mut u8,
+        text_length: usize,
+        store: *mut u8,
+        store_length: usize,
+        ends: *mut u16,
+        ends_length: usize,
+        bytes: *mut usize,
+    ) -> u8;
+}
+
+/// What a call is lent for work. The contents don't matter before it, and are zero after it.
+struct Work<'a> {
+    text: &'a mut [u8],
+    store: &'a mut [u8],
+    ends: &'a mut [u16],
+}
+
+/// The length of the result, which is in the front of `out`.
+///
+/// # Safety
+///
+/// `entry` is a function of the library.
+unsafe fn call(entry: Entry, symbol: &[u8], out: &mut [u8], work: Work) -> Result<usize, Refusal> {
+    let mut bytes = 0;
+    let Work { text, store, ends } = work;
+    let number = entry(
+        symbol.as_ptr(),
+        symbol.len(),
+        out.as_mut_ptr(),
+        out.len(),
+        text.as_mut_ptr(),
+        text.len(),
+        store.as_mut_ptr(),
+        store.len(),
+        ends.as_mut_ptr(),
+        ends.len(),
+        &mut bytes,
+    );
+    match number {
+        0 => Ok(bytes),
+        _ => Err(Refusal::of(number).expect("the library has another refusal")),
+    }
+}
+
+fn name_into(symbol: &[u8], out: &mut [u8], work: Work) -> Result<usize, Refusal> {
+    unsafe { call(patchname_demangle, symbol, out, work) }
+}
+
+#[cfg(feature = "normalize")]
+fn normal_symbol_into(symbol: &[u8], out: &mut [u8], work: Work) -> Result<usize, Refusal> {
+    unsafe { call(patchname_normalize, symbol, out, work) }
+}
+
+/// Names symbols, one after another. It has all the memory that this takes, about 150 KB, allocated once.
+pub struct Demangler {
+    out: Box<[u8]>,
+    text: Box<[u8]>,
+    store: Box<[u8]>,
+    ends: Box<[u16]>,
+}
+
+impl Demangler {
+    /// The memory is allocated here, and nowhere else.
+    pub fn new() -> Demangler {
+        Demangler {
+            out: vec![0; NAME_BYTES].into(),
+            text: vec![0; TEXT_LENGTH].into(),
+            store: vec![0; STORE_LENGTH].into(),
+            ends: vec![0; MOST_ENDS].into(),
+        }
+    }
+
+    /// The name of a symbol. It stays until the next call.
+    pub fn name(&mut self, symbol: &[u8]) -> Result<&[u8], Refusal> {
+        let (out, work) = self.lent(ENDS_LENGTH);
+        let bytes = name_into(symbol, out, work)?;
+        Ok(&self.out[..bytes])
+    }
+
+    /// The normal symbol of a catalogue symbol. Two of them have the same one exactly when they have the same name. It stays until the next
+    /// call.
+    #[cfg(feature = "normalize")]
+    pub fn normal_symbol(&mut self, symbol: &[u8]) -> Result<&[u8], Refusal> {
+        let (out, work) = self.lent(NORMALIZE_ENDS_LENGTH);
+        let bytes = normal_symbol_into(symbol, out, work)?;
+        Ok(&self.out[..bytes])
+    }
+
+    fn lent(&mut self, ends_length: usize) -> (&mut [u8], Work<'_>) {
+        let work = Work { text: &mut self.text, store: &mut self.store, ends: &mut self.ends[..ends_length] };
+        (&mut self.out, work)
+    }
+}
+
+impl Default for Demangler {
+    fn default() -> Demangler {
+        Demangler::new()
+    }
+}

@@ -1,0 +1,97 @@
+/* Names of C++ symbols, for C and C++. The library is target/staticlib/libpatchname.a, for Linux on x86-64: `rt staticlib patchname` writes it.
+ *
+ * The functions allocate nothing, call nothing of the operating system and keep nothing between calls: threads may call them at the same time,
+ * each with slices of its own. Nothing proves a bound of the machine stack; the deepest symbols known were answered with 512 KiB.
+ */
+#ifndef PATCHNAME_H
+#define PATCHNAME_H
+
+#include <stddef.h>
+#include <stdint.h>
+
+#ifdef __cplusplus
+extern "C" {
+#endif
+
+/* The longest symbol that is read, in bytes: a longer one is refused with 1. */
+#define PATCHNAME_SYMBOL_BYTES 4096
+
+/* An output of so many bytes is long enough for every name. */
+#define PATCHNAME_NAME_BYTES 16384
+
+/* The least lengths of the work slices: bytes, bytes, and numbers of 16 bits. A call clears all of what it is lent, so that longer ones only
+ * cost time. */
+#define PATCHNAME_TEXT_LENGTH 65536
+#define PATCHNAME_STORE_LENGTH 65536
+#define PATCHNAME_ENDS_LENGTH 2048
+
+/* What a call returns. Where more than one refusal would fit, the first in this order is told: 1, 2, 3, 14, then 4 and 7 to 11 as the reading
+ * first meets them, 5, 6, 13, 12. */
+enum patchname_number {
+    PATCHNAME_OK = 0,                     /* the result is in `out` */
+    PATCHNAME_SYMBOL_TOO_LONG = 1,        /* the symbol is longer than 4,096 bytes */
+    PATCHNAME_HIGH_BYTE = 2,              /* it has a byte of 128 or more */
+    PATCHNAME_NO_PREFIX = 3,              /* neither _Z nor __Z stands in front */
+    PATCHNAME_UNREADABLE = 4,             /* no rule of the reading fits */
+    PATCHNAME_BYTES_LEFT = 5,             /* bytes are left that don't begin with a dot */
+    PATCHNAME_NOT_IN_CATALOGUE = 6,       /* read, but no catalogue symbol (normal symbols only) */
+    PATCHNAME_NO_SUCH_REFERENCE = 7,      /* a reference past the table */
+    PATCHNAME_TOO_DEEP = 8,               /* a 97th name, type or list of template arguments would be open */
+    PATCHNAME_TABLE_FULL = 9,             /* an entry past 1,024, or entries past 32,768 bytes */
+    PATCHNAME_ARGUMENTS_FULL = 10,        /* the same for template arguments */
+    PATCHNAME_TEXT_TOO_LONG = 11,         /* a text longer than 16,384 bytes */
+    PATCHNAME_OUTPUT_TOO_SHORT = 12,      /* `out` is shorter than the result */
+    PATCHNAME_NORMAL_SYMBOL_TOO_LONG = 13, /* the normal symbol is longer than 4,096 bytes (normal symbols only) */
+    PATCHNAME_WORK_TOO_SHORT = 14         /* a work slice is below its least length */
+};
+
+/* The name of a symbol.
+ *
+ * symbol, symbol_length   the symbol: any bytes, any length, no 0 at its end. It is only read.
+ * out, out_length         where the name goes: its bytes from the front on, no 0 behind them.
+ * text, text_length       work slices, with any contents. They end all zero, whatever is returned.
+ * store, store_length
+ * ends, ends_length       counted in numbers, not in bytes.
+ * bytes                   where the length of the name goes; its value before the call doesn't matter.
+ *
+ * Returned is a number of `enum patchname_number`. With 0, the first *bytes bytes of `out` are the name, and those behind them are as they were.
+ * With any other number *bytes is 0, and all of `out` is as it was. A name can be empty.
+ *
+ * What a caller owes: each pointer and its length are a slice of memory that the caller may read, and, but for the symbol, write. No two of the
+ * slices overlap, and none has *bytes in it. No pointer is null, where its length is 0 either; but then it need not point to any memory. `ends`
+ * and `bytes` are aligned as their types are. A work slice may be shorter than its least length, or empty: that is refused with 14.
+ */
+uint8_t patchname_demangle(
+    const uint8_t *symbol, size_t symbol_length,
+    uint8_t *out, size_t out_length,
+    uint8_t *text, size_t text_length,
+    uint8_t *store, size_t store_length,
+    uint16_t *ends, size_t ends_length,
+    size_t *bytes);
+
+/* To be defined where the library has the entry for normal symbols. */
+#ifdef PATCHNAME_NORMALIZE
+
+/* An output of so many bytes is long enough for every normal symbol. */
+#define PATCHNAME_NORMAL_SYMBOL_BYTES 4096
+
+/* The least length of `ends` for normal symbols; `text` and `store` are as long as for names. */
+#define PATCHNAME_NORMALIZE_ENDS_LENGTH 24576
+
+/* The normal symbol of a catalogue symbol: two of them have the same normal symbol exactly when they have the same name. Parameters, what is
+ * returned and what a caller owes are those of `patchname_demangle`, but for the least length of `ends`. Only here 6 and 13 are returned. */
+uint8_t patchname_normalize(
+    const uint8_t *symbol, size_t symbol_length,
+    uint8_t *out, size_t out_length,
+    uint8_t *text, size_t text_length,
+    uint8_t *store, size_t store_length,
+    uint16_t *ends, size_t ends_length,
+    size_t *bytes);
+
+#endif
+
+#ifdef __cplusplus
+}
+#endif
+
+#endif
