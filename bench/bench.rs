@@ -1,0 +1,287 @@
+//! One pass over the symbols of a file by each contender in this process. Names are compared before anything is measured.
+//!
+//!     bench list FILE             compares the library with the Rust, and writes the library's listing
+//!     bench time FILE ROUND       one pass of each, the first another one in each round: `contender nanoseconds`
+//!     bench count FILE..          one pass of each over each file, to be counted from outside: `contender file`
+//!     bench agree FILE            how many symbols of the file libiberty reads, and how many of these get the library's name
+use std::io::Write;
+
+/// The Rust original, unchanged.
+mod itanium;
+
+extern "C" {
+    fn patchname_demangle(
+        symbol: *const u8, symbol_length: usize, out: *mut u8, out_length: usize, text: *mut u8, text_length: usize,
+        store: *mut u8, store_length: usize, ends: *mut u16, ends_length: usize, bytes: *mut usize,
+    ) -> u8;
+    #[cfg(normalize)]
+    fn patchname_normalize(
+        symbol: *const u8, symbol_length: usize, out: *mut u8, out_length: usize, text: *mut u8, text_length: usize,
+        store: *mut u8, store_length: usize, ends: *mut u16, ends_length: usize, bytes: *mut usize,
+    ) -> u8;
+    #[cfg(cxa)]
+    fn __cxa_demangle(symbol: *const u8, out: *mut u8, length: *mut usize, status: *mut i32) -> *mut u8;
+    #[cfg(cxa)]
+    fn malloc(bytes: usize) -> *mut u8;
+    fn clock_gettime(clock: i32, time: *mut [i64; 2]) -> i32;
+}
+
+// ---------------------------------------------------------------- the library
+
+/// The output and the work slices, of their least lengths: each call clears the work slices, so that longer ones would cost more.
+struct Lent {
+    out: Vec<u8>,
+    text: Vec<u8>,
+    store: Vec<u8>,
+    ends: Vec<u16>,
+}
+
+const ENDS: usize = 2048;
+#[cfg(normalize)]
+const NORMALIZE_ENDS: usize = 24576;
+
+impl Lent {
+    fn new(ends: usize) -> Lent {
+        Lent { out: vec![0; 16384], text: vec![0; 65536], store: vec![0; 65536], ends: vec![0; ends] }
+    }
+
+    /// The number, and the length of the name.
+    fn demangle(&mut self, symbol: &[u8]) -> (u8, usize) {
+        let mut bytes = 0;
+        let number = unsafe {
+            patchname_demangle(
+                symbol.as_ptr(), symbol.len(), self.out.as_mut_ptr(), self.out.len(), self.text.as_mut_ptr(), self.text.len(),
+                self.store.as_mut_ptr(), self.store.len(), self.ends.as_mut_ptr(), self.ends.len(), &mut bytes,
+            )
+        };
+        (number, bytes)
+    }
+
+    #[cfg(normalize)]
+    fn normalize(&mut self, symbol: &[u8]) -> (u8, usize) {
+        let mut bytes = 0;
+        let number = unsafe {
+            patchname_normalize(
+                symbol.as_ptr(), symbol.len(), self.out.as_mut_ptr(), self.out.len(), self.text.as_mut_ptr(), self.text.len(),
+                self.store.as_mut_ptr(), self.store.len(), self.ends.as_mut_ptr(), self.ends.len(), &mut bytes,
+            )
+        };
+        (number, bytes)
+    }
+
+    fn name(&mut self, symbol: &[u8]) -> Result<Vec<u8>, u8> {
+        let (number, bytes) = self.demangle(symbol);
+        if number == 0 { Ok(self.out[..bytes].to_vec()) } else { Err(number) }
+    }
+}
+
+// ---------------------------------------------------------------- passes
+
+/// A symbol as each contender takes it: bytes, text, and bytes ended by 0.
+struct Symbol {
+    text: String,
+    ended: Vec<u8>,
+}
+
+impl Symbol {
+    fn bytes(&self) -> &[u8] {
+        self.text.as_bytes()
+    }
+}
+
+struct Bench {
+    names: Lent,
+    #[cfg(normalize)]
+    normals: Lent,
+    #[cfg(cxa)]
+    buffer: (*mut u8, usize),
+}
+
+/// Called before and behind each pass that is counted: callgrind is told to write its counts where this function begins.
+#[no_mangle]
+#[inline(never)]
+extern "C" fn between_passes() {
+    std::hint::black_box(());
+}
+
+// The sum is returned so that no call can be left out.
+
+fn pass_library(bench: &mut Bench, symbols: &[Symbol]) -> usize {
+    symbols.iter().map(|symbol| bench.names.demangle(symbol.bytes()).1).sum()
+}
+
+/// As many calls that are refused before anything is read: what clearing costs.
+fn pass_clearing(bench: &mut Bench, symbols: &[Symbol]) -> usize {
+    symbols.iter().map(|_| bench.names.demangle(b"").1).sum()
+}
+
+fn pass_rust(_: &mut Bench, symbols: &[Symbol]) -> usize {
+    symbols.iter().map(|symbol| itanium::demangle(&symbol.text).map_or(0, |name| name.len())).sum()
+}
+
+/// The buffer is handed on from call to call, as its manual advises.
+#[cfg(cxa)]
+fn pass_cxa(bench: &mut Bench, symbols: &[Symbol]) -> usize {
+    symbols.iter().filter(|symbol| bench.cxa(&symbol.ended).is_some()).count()
+}
+
+#[cfg(normalize)]
+fn pass_normalize(bench: &mut Bench, symbols: &[Symbol]) -> usize {
+    symbols.iter().map(|symbol| bench.normals.normalize(symbol.bytes()).1).sum()
+}
+
+type Pass = fn(&mut Bench, &[Symbol]) -> usize;
+
+fn passes() -> Vec<(&'static str, Pass)> {
+    vec![
+        ("library", pass_library),
+        ("clearing", pass_clearing),
+        ("rust", pass_rust),
+        #[cfg(cxa)]
+        ("cxa", pass_cxa),
+        #[cfg(normalize)]
+        ("normalize", pass_normalize),
+    ]
+}
+
+impl Bench {
+    fn new() -> Bench {
+        Bench {
+            names: Lent::new(ENDS),
+            #[cfg(normalize)]
+            normals: Lent::new(NORMALIZE_ENDS),
+            #[cfg(cxa)]
+            buffer: (unsafe { malloc(16384) }, 16384),
+        }
+    }
+
+    #[cfg(cxa)]
+    fn cxa(&mut self, ended: &[u8]) -> Option<&[u8]> {
+        let (mut length, mut status) = (self.buffer.1, 0);
+        let name = unsafe { __cxa_demangle(ended.as_ptr(), self.buffer.0, &mut length, &mut status) };
+        if name.is_null() {
+            return None;
+        }
+        self.buffer = (name, length.max(self.buffer.1));
+        Some(unsafe { std::ffi::CStr::from_ptr(name.cast()) }.to_bytes())
+    }
+}
+
+/// Processor time, so that other work on the machine counts less.
+fn nanoseconds() -> i64 {
+    const PROCESS_CPU_TIME: i32 = 2;
+    let mut time = [0; 2];
+    assert_eq!(unsafe { clock_gettime(PROCESS_CPU_TIME, &mut time) }, 0);
+    time[0] * 1_000_000_000 + time[1]
+}
+
+// ---------------------------------------------------------------- what is asked for
+
+fn symbols_of(file: &str) -> Vec<Symbol> {
+    let text = String::from_utf8(std::fs::read(file).unwrap()).unwrap();
+    text.lines().map(|line| Symbol { text: line.to_string(), ended: [line.as_bytes(), b"\0"].concat() }).collect()
+}
+
+/// The Rust has no numbers. It has no limits either, but the depth: where it prints and the library refuses, a limit must be the reason.
+fn agrees(library: &Result<Vec<u8>, u8>, rust: &Option<String>) -> bool {
+    match (library, rust) {
+        (Ok(name), Some(text)) => name == text.as_bytes(),
+        (Ok(_), None) => false,
+        (Err(number), Some(_)) => [1, 2, 9, 10, 11].contains(number),
+        (Err(_), None) => true,
+    }
+}
+
+fn different(symbol: &Symbol) -> ! {
+    eprintln!("the library and the Rust differ: {}", symbol.text);
+    std::process::exit(1);
+}
+
+/// A normal symbol has the name of its symbol.
+#[cfg(normalize)]
+fn check_normal_symbol(bench: &mut Bench, symbol: &Symbol) {
+    let (number, bytes) = bench.normals.normalize(symbol.bytes());
+    if number == 0 {
+        let normal = bench.normals.out[..bytes].to_vec();
+        assert_eq!(bench.names.name(&normal), bench.names.name(symbol.bytes()), "{}", symbol.text);
+    }
+}
+
+fn list(file: &str) {
+    let mut bench = Bench::new();
+    let mut listing = b"code,bytes,name\n".to_vec();
+    for symbol in symbols_of(file) {
+        let name = bench.names.name(symbol.bytes());
+        if !agrees(&name, &itanium::demangle(&symbol.text)) {
+            different(&symbol);
+        }
+        #[cfg(normalize)]
+        check_normal_symbol(&mut bench, &symbol);
+        let (number, text) = match name {
+            Ok(text) => (0, text),
+            Err(number) => (number, vec![]),
+        };
+        listing.extend(format!("{number},{},", text.len()).bytes());
+        listing.extend(text);
+        listing.push(b'\n');
+    }
+    std::io::stdout().write_all(&listing).unwrap();
+}
+
+fn time(file: &str, round: usize) {
+    let mut bench = Bench::new();
+    let symbols = symbols_of(file);
+    let mut passes = passes();
+    let first = round % passes.len();
+    passes.rotate_left(first);
+    for (name, pass) in passes {
+        let before = nanoseconds();
+        let sum = pass(&mut bench, &symbols);
+        let after = nanoseconds();
+        std::hint::black_box(sum);
+        println!("{name} {}", after - before);
+    }
+}
+
+fn count(files: &[String]) {
+    let mut bench = Bench::new();
+    for file in files {
+        let symbols = symbols_of(file);
+        for (name, pass) in passes() {
+            between_passes();
+            let sum = pass(&mut bench, &symbols);
+            between_passes();
+            std::hint::black_box(sum);
+            println!("{name} {file}");
+        }
+    }
+}
+
+#[cfg(cxa)]
+fn agree(file: &str) {
+    let mut bench = Bench::new();
+    let (mut read, mut same) = (0, 0);
+    let symbols = symbols_of(file);
+    for symbol in &symbols {
+        let name = bench.names.name(symbol.bytes());
+        if let Some(other) = bench.cxa(&symbol.ended) {
+            read += 1;
+            same += (name == Ok(other.to_vec())) as usize;
+        }
+    }
+    println!("{read} {same}");
+}
+
+#[cfg(not(cxa))]
+fn agree(_: &str) {}
+
+fn main() {
+    let args: Vec<String> = std::env::args().skip(1).collect();
+    match args[0].as_str() {
+        "list" => list(&args[1]),
+        "time" => time(&args[1], args[2].parse().unwrap()),
+        "count" => count(&args[1..]),
+        "agree" => agree(&args[1]),
+        other => panic!("{other}: not known"),
+    }
+}
