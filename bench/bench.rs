@@ -3,7 +3,7 @@
 //!     bench list FILE             compares the library with the Rust, and writes the library's listing
 //!     bench time FILE ROUND       one pass of each, the first another one in each round: `contender nanoseconds`
 //!     bench count FILE..          one pass of each over each file, to be counted from outside: `contender file`
-//!     bench agree FILE            how many symbols of the file libiberty reads, and how many of these get the library's name
+//!     bench read FILE CONTENDER   how many symbols of the file it reads, and how many of these get the library's name
 use std::io::Write;
 
 /// The Rust original, unchanged.
@@ -228,6 +228,11 @@ fn list(file: &str) {
     std::io::stdout().write_all(&listing).unwrap();
 }
 
+/// Memory that is touched for the first time costs the operating system's time, and the allocator's.
+fn warm(bench: &mut Bench, pass: Pass, symbols: &[Symbol]) {
+    std::hint::black_box(pass(bench, &symbols[..symbols.len().min(100)]));
+}
+
 fn time(file: &str, round: usize) {
     let mut bench = Bench::new();
     let symbols = symbols_of(file);
@@ -235,6 +240,7 @@ fn time(file: &str, round: usize) {
     let first = round % passes.len();
     passes.rotate_left(first);
     for (name, pass) in passes {
+        warm(&mut bench, pass, &symbols);
         let before = nanoseconds();
         let sum = pass(&mut bench, &symbols);
         let after = nanoseconds();
@@ -248,6 +254,7 @@ fn count(files: &[String]) {
     for file in files {
         let symbols = symbols_of(file);
         for (name, pass) in passes() {
+            warm(&mut bench, pass, &symbols);
             between_passes();
             let sum = pass(&mut bench, &symbols);
             between_passes();
@@ -257,23 +264,33 @@ fn count(files: &[String]) {
     }
 }
 
-#[cfg(cxa)]
-fn agree(file: &str) {
+impl Bench {
+    /// The name by one of the contenders that are no processes; a normal symbol for `normalize`.
+    fn answer(&mut self, contender: &str, symbol: &Symbol) -> Option<Vec<u8>> {
+        match contender {
+            #[cfg(cxa)]
+            "cxa" => self.cxa(&symbol.ended).map(<[u8]>::to_vec),
+            #[cfg(normalize)]
+            "normalize" => match self.normals.normalize(symbol.bytes()) {
+                (0, bytes) => Some(self.normals.out[..bytes].to_vec()),
+                _ => None,
+            },
+            _ => self.names.name(symbol.bytes()).ok(),
+        }
+    }
+}
+
+fn read(file: &str, contender: &str) {
     let mut bench = Bench::new();
     let (mut read, mut same) = (0, 0);
-    let symbols = symbols_of(file);
-    for symbol in &symbols {
-        let name = bench.names.name(symbol.bytes());
-        if let Some(other) = bench.cxa(&symbol.ended) {
+    for symbol in &symbols_of(file) {
+        if let Some(answer) = bench.answer(contender, symbol) {
             read += 1;
-            same += (name == Ok(other.to_vec())) as usize;
+            same += (bench.names.name(symbol.bytes()) == Ok(answer)) as usize;
         }
     }
     println!("{read} {same}");
 }
-
-#[cfg(not(cxa))]
-fn agree(_: &str) {}
 
 fn main() {
     let args: Vec<String> = std::env::args().skip(1).collect();
@@ -281,7 +298,7 @@ fn main() {
         "list" => list(&args[1]),
         "time" => time(&args[1], args[2].parse().unwrap()),
         "count" => count(&args[1..]),
-        "agree" => agree(&args[1]),
+        "read" => read(&args[1], &args[2]),
         other => panic!("{other}: not known"),
     }
 }
