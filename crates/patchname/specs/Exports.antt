@@ -1,13 +1,13 @@
 -- What the C functions promise: the same equation as the entries.
-use mathlib.Core.Path.{_≡_, sym, ap, _∙_}
+use mathlib.Core.Path.{_≡_, ap₂, _∙_}
 use Prim.Native.Nat.{ℕ}
-use Rattle.grammar.specs.Text.{Text}
 use Rattle.names.specs.declared.entry.Answer.{Answer}
-use Rattle.names.specs.Outcome.{Slices, Outcome, demangled, number-in, bytes-in, Demangles}
+use Rattle.names.specs.Outcome.{Slices, Outcome, number-in, bytes-in}
 
-abbrev pub Tells : Text → Slices → Slices → ℕ → ℕ → Type 0
-Tells s l l' number bytes = _≡_ {A = Outcome} (record { number = number; bytes = bytes; slices = l' }) (demangled s l)
+abbrev pub Tells : Outcome → Slices → ℕ → ℕ → Type 0
+Tells o l' number bytes = _≡_ {A = Outcome} (record { number = number; bytes = bytes; slices = l' }) o
 
 -- the entry's answer, taken apart
-pub told : (s : Text) (l l' : Slices) {r a : Answer} → r ≡ a → Demangles s l l' r → Tells s l l' (number-in a) (bytes-in a)
-told s l l' e h = ap (λ (x : Answer). record { number = number-in x; bytes = bytes-in x; slices = l' }) (sym e) ∙ h
+pub told : {o : Outcome} {l' : Slices} {number bytes : ℕ} (r : Answer) → (number ≡ number-in r) × (bytes ≡ bytes-in r)
+    → Tells o l' (number-in r) (bytes-in r) → Tells o l' number bytes
+told {o} {l'} r (e, f) h = ap₂ (λ (n b : ℕ). record { number = n; bytes = b; slices = l' }) e f ∙ h

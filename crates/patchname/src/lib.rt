@@ -1,8 +1,27 @@
 // The entries as C functions. A slice is a pointer and a length.
 use names::entry;
 use names::entry::Answer;
-ghost use Rattle.names.specs.Outcome.{slices};
+use symbols::entry as symbol;
+ghost use mathlib.Core.Path.{_≡_};
+ghost use Rattle.names.specs.Outcome.{slices, demangled, number-in, bytes-in};
+ghost use Rattle.symbols.specs.Outcome.{normalized};
 ghost use Rattle.patchname.specs.Exports.{Tells};
+
+// The number of an answer; its length goes to `bytes`.
+fn tell(answer: Answer, bytes: &mut usize) -> u8
+    ensures { λ r. ⌜ (r ≡ number-in answer) × (now (bytes .exit) ≡ bytes-in answer) ⌝ }
+{
+    match answer {
+        Answer::Name(n) => {
+            *bytes = n;
+            0
+        }
+        Answer::Refused(k) => {
+            *bytes = 0;
+            k
+        }
+    }
+}
 
 // The name of a symbol, into `out`: its number is returned, and its length goes to `bytes`.
 #[no_mangle]
@@ -14,18 +33,26 @@ pub extern "C" fn patchname_demangle(
     ends: &mut [u16],
     bytes: &mut usize,
 ) -> u8
-    ensures { λ r. ⌜ Tells (now (s .entry)) (slices (now (out .entry)) (now (text .entry)) (now (store .entry)) (now (ends .entry)))
+    ensures { λ r. ⌜ Tells (demangled (now (s .entry)) (slices (now (out .entry)) (now (text .entry)) (now (store .entry)) (now (ends .entry))))
         (slices (now (out .exit)) (now (text .exit)) (now (store .exit)) (now (ends .exit))) r (now (bytes .exit)) ⌝ }
 {
     let answer = entry::demangle(s, out, text, store, ends);
-    match answer {
-        Answer::Name(n) => {
-            *bytes = n;
-            0
-        }
-        Answer::Refused(k) => {
-            *bytes = 0;
-            k
-        }
-    }
+    tell(answer, bytes)
+}
+
+// The normal symbol of a symbol, the same way.
+#[no_mangle]
+pub extern "C" fn patchname_normalize(
+    s: &[u8],
+    out: &mut [u8],
+    text: &mut [u8],
+    store: &mut [u8],
+    ends: &mut [u16],
+    bytes: &mut usize,
+) -> u8
+    ensures { λ r. ⌜ Tells (normalized (now (s .entry)) (slices (now (out .entry)) (now (text .entry)) (now (store .entry)) (now (ends .entry))))
+        (slices (now (out .exit)) (now (text .exit)) (now (store .exit)) (now (ends .exit))) r (now (bytes .exit)) ⌝ }
+{
+    let answer = symbol::normalize(s, out, text, store, ends);
+    tell(answer, bytes)
 }

@@ -1,4 +1,4 @@
--- `patchname::patchname_demangle` meets its contract: the answer of the entry, taken apart. Assumes nothing.
+-- `patchname::patchname_demangle` meets its contract: the answer of the entry, told. Assumes nothing.
 use borrow.Author.Needs.{needs}
 use Rattle.patchname.specs.Exports.{told}
 use Rattle.patchname.proofs.patchname_demangle.Statement.{statement}
@@ -7,11 +7,8 @@ use Rattle.patchname.proofs.patchname_demangle.Tie as tie
 demangle-requires : tie.Need-demangle-requires
 demangle-requires c κs = search needs
 
-enum-known-answer : tie.Need-enum-known-answer
-enum-known-answer c = search needs
-
-enum-known-answer-2 : tie.Need-enum-known-answer-2
-enum-known-answer-2 c = search needs
+tell-requires : tie.Need-tell-requires
+tell-requires c κs = search needs
 
 same-length : tie.Need-same-length
 same-length c = search needs
@@ -26,37 +23,16 @@ same-length-4 : tie.Need-same-length-4
 same-length-4 c = search needs
 
 returns : tie.Need-returns
-returns c = told _ _ _ (c .before .answer .given .1) (c .before .before .before .before .before .before .before .before .before .before .before .demangle .ensures)
-
-same-length-5 : tie.Need-same-length-5
-same-length-5 c = search needs
-
-same-length-6 : tie.Need-same-length-6
-same-length-6 c = search needs
-
-same-length-7 : tie.Need-same-length-7
-same-length-7 c = search needs
-
-same-length-8 : tie.Need-same-length-8
-same-length-8 c = search needs
-
-returns-2 : tie.Need-returns-2
-returns-2 c = told _ _ _ (c .before .answer2 .given .1) (c .before .before .before .before .before .before .before .before .before .before .before .demangle .ensures)
+returns c = told (c .before .before .before .before .before .before .before .before .before .before .demangle .result) (c .tell .ensures) (c .before .before .before .before .before .before .before .before .before .before .demangle .ensures)
 
 pub patchname-demangle-spec : {M : Type 1} → statement M
 patchname-demangle-spec =
     tie.close
     (tie.spec
     demangle-requires
-    enum-known-answer
-    enum-known-answer-2
+    tell-requires
     same-length
     same-length-2
     same-length-3
     same-length-4
-    returns
-    same-length-5
-    same-length-6
-    same-length-7
-    same-length-8
-    returns-2)
+    returns)
