@@ -14,7 +14,6 @@ extern "C" {
         symbol: *const u8, symbol_length: usize, out: *mut u8, out_length: usize, text: *mut u8, text_length: usize,
         store: *mut u8, store_length: usize, ends: *mut u16, ends_length: usize, bytes: *mut usize,
     ) -> u8;
-    #[cfg(normalize)]
     fn patchname_normalize(
         symbol: *const u8, symbol_length: usize, out: *mut u8, out_length: usize, text: *mut u8, text_length: usize,
         store: *mut u8, store_length: usize, ends: *mut u16, ends_length: usize, bytes: *mut usize,
@@ -37,7 +36,6 @@ struct Lent {
 }
 
 const ENDS: usize = 2048;
-#[cfg(normalize)]
 const NORMALIZE_ENDS: usize = 24576;
 
 impl Lent {
@@ -57,7 +55,6 @@ impl Lent {
         (number, bytes)
     }
 
-    #[cfg(normalize)]
     fn normalize(&mut self, symbol: &[u8]) -> (u8, usize) {
         let mut bytes = 0;
         let number = unsafe {
@@ -91,7 +88,6 @@ impl Symbol {
 
 struct Bench {
     names: Lent,
-    #[cfg(normalize)]
     normals: Lent,
     #[cfg(cxa)]
     buffer: (*mut u8, usize),
@@ -125,7 +121,6 @@ fn pass_cxa(bench: &mut Bench, symbols: &[Symbol]) -> usize {
     symbols.iter().filter(|symbol| bench.cxa(&symbol.ended).is_some()).count()
 }
 
-#[cfg(normalize)]
 fn pass_normalize(bench: &mut Bench, symbols: &[Symbol]) -> usize {
     symbols.iter().map(|symbol| bench.normals.normalize(symbol.bytes()).1).sum()
 }
@@ -139,7 +134,6 @@ fn passes() -> Vec<(&'static str, Pass)> {
         ("rust", pass_rust),
         #[cfg(cxa)]
         ("cxa", pass_cxa),
-        #[cfg(normalize)]
         ("normalize", pass_normalize),
     ]
 }
@@ -148,7 +142,6 @@ impl Bench {
     fn new() -> Bench {
         Bench {
             names: Lent::new(ENDS),
-            #[cfg(normalize)]
             normals: Lent::new(NORMALIZE_ENDS),
             #[cfg(cxa)]
             buffer: (unsafe { malloc(16384) }, 16384),
@@ -198,7 +191,6 @@ fn different(symbol: &Symbol) -> ! {
 }
 
 /// A normal symbol has the name of its symbol.
-#[cfg(normalize)]
 fn check_normal_symbol(bench: &mut Bench, symbol: &Symbol) {
     let (number, bytes) = bench.normals.normalize(symbol.bytes());
     if number == 0 {
@@ -215,7 +207,6 @@ fn list(file: &str) {
         if !agrees(&name, &itanium::demangle(&symbol.text)) {
             different(&symbol);
         }
-        #[cfg(normalize)]
         check_normal_symbol(&mut bench, &symbol);
         let (number, text) = match name {
             Ok(text) => (0, text),
@@ -270,7 +261,6 @@ impl Bench {
         match contender {
             #[cfg(cxa)]
             "cxa" => self.cxa(&symbol.ended).map(<[u8]>::to_vec),
-            #[cfg(normalize)]
             "normalize" => match self.normals.normalize(symbol.bytes()) {
                 (0, bytes) => Some(self.normals.out[..bytes].to_vec()),
                 _ => None,

@@ -69,9 +69,6 @@ uint8_t patchname_demangle(
     uint16_t *ends, size_t ends_length,
     size_t *bytes);
 
-/* To be defined where the library has the entry for normal symbols. */
-#ifdef PATCHNAME_NORMALIZE
-
 /* An output of so many bytes is long enough for every normal symbol. */
 #define PATCHNAME_NORMAL_SYMBOL_BYTES 4096
 
@@ -87,8 +84,6 @@ uint8_t patchname_normalize(
     uint8_t *store, size_t store_length,
     uint16_t *ends, size_t ends_length,
     size_t *bytes);
-
-#endif
 
 #ifdef __cplusplus
 }

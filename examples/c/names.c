@@ -21,11 +21,7 @@ struct entry {
 static uint8_t out[PATCHNAME_NAME_BYTES];
 static uint8_t text[PATCHNAME_TEXT_LENGTH];
 static uint8_t store[PATCHNAME_STORE_LENGTH];
-#ifdef PATCHNAME_NORMALIZE
 static uint16_t ends[PATCHNAME_NORMALIZE_ENDS_LENGTH];
-#else
-static uint16_t ends[PATCHNAME_ENDS_LENGTH];
-#endif
 
 static const char *message(uint8_t number)
 {
@@ -87,13 +83,11 @@ int main(int argc, char **argv)
 {
     struct entry entry = { patchname_demangle, PATCHNAME_ENDS_LENGTH };
     int first = 1;
-#ifdef PATCHNAME_NORMALIZE
     if (first < argc && strcmp(argv[first], "-n") == 0) {
         entry.function = patchname_normalize;
         entry.ends_length = PATCHNAME_NORMALIZE_ENDS_LENGTH;
         first++;
     }
-#endif
     if (first == argc) {
         answer_lines(entry);
     }

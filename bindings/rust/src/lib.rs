@@ -22,20 +22,13 @@ pub const SYMBOL_BYTES: usize = 4096;
 pub const NAME_BYTES: usize = 16384;
 
 /// So many bytes are enough for every normal symbol.
-#[cfg(feature = "normalize")]
 pub const NORMAL_SYMBOL_BYTES: usize = 4096;
 
 // The least lengths of the work slices. The library clears all of what it is lent, so no more than that is lent.
 const TEXT_LENGTH: usize = 65536;
 const STORE_LENGTH: usize = 65536;
 const ENDS_LENGTH: usize = 2048;
-#[cfg(feature = "normalize")]
 const NORMALIZE_ENDS_LENGTH: usize = 24576;
-
-#[cfg(not(feature = "normalize"))]
-const MOST_ENDS: usize = ENDS_LENGTH;
-#[cfg(feature = "normalize")]
-const MOST_ENDS: usize = NORMALIZE_ENDS_LENGTH;
 
 // A slice is a pointer and a length; include/patchname.h says what a caller owes. Slices of Rust fulfil it: they are never null, and those
 // that can be written overlap nothing.
@@ -68,7 +61,6 @@ extern "C" {
         bytes: *mut usize,
     ) -> u8;
 
-    #[cfg(feature = "normalize")]
     fn patchname_normalize(
         symbol: *const u8,
         symbol_length: usize,
@@ -122,7 +114,6 @@ fn name_into(symbol: &[u8], out: &mut [u8], work: Work) -> Result<usize, Refusal
     unsafe { call(patchname_demangle, symbol, out, work) }
 }
 
-#[cfg(feature = "normalize")]
 fn normal_symbol_into(symbol: &[u8], out: &mut [u8], work: Work) -> Result<usize, Refusal> {
     unsafe { call(patchname_normalize, symbol, out, work) }
 }
@@ -142,7 +133,7 @@ impl Demangler {
             out: vec![0; NAME_BYTES].into(),
             text: vec![0; TEXT_LENGTH].into(),
             store: vec![0; STORE_LENGTH].into(),
-            ends: vec![0; MOST_ENDS].into(),
+            ends: vec![0; NORMALIZE_ENDS_LENGTH].into(),
         }
     }
 
@@ -155,7 +146,6 @@ impl Demangler {
 
     /// The normal symbol of a catalogue symbol. Two of them have the same one exactly when they have the same name. It stays until the next
     /// call.
-    #[cfg(feature = "normalize")]
     pub fn normal_symbol(&mut self, symbol: &[u8]) -> Result<&[u8], Refusal> {
         let (out, work) = self.lent(NORMALIZE_ENDS_LENGTH);
         let bytes = normal_symbol_into(symbol, out, work)?;

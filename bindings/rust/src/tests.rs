@@ -147,7 +147,6 @@ fn numbers_and_messages() {
     assert_eq!(Refusal::of(15), None);
 }
 
-#[cfg(feature = "normalize")]
 mod normal_symbols {
     use super::*;
 

@@ -19,7 +19,6 @@ fn answer(out: &mut impl Write, result: Result<&[u8], Refusal>) -> io::Result<()
 fn entry_and_symbols() -> (Entry, Vec<Vec<u8>>) {
     #[allow(unused_mut)]
     let mut arguments: Vec<Vec<u8>> = std::env::args_os().skip(1).map(OsStringExt::into_vec).collect();
-    #[cfg(feature = "normalize")]
     if arguments.first().is_some_and(|first| first == b"-n") {
         arguments.remove(0);
         return (Demangler::normal_symbol, arguments);
