@@ -1,8 +1,9 @@
+pub mod Answers
+pub mod Cut
+pub mod Entry
+pub mod Examples
+pub mod Inside
+pub mod Kinds
+pub mod Lines
 pub mod Listing
-pub mod ListingCut
-pub mod ListingEntry
-pub mod ListingExamples
-pub mod ListingInside
-pub mod ListingLines
-pub mod ListingNames
-pub mod ListingText
+pub mod Printed

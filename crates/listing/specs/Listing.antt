@@ -1,4 +1,4 @@
--- The listing: for each line of the input a line with the number, the length and the name that the symbol gets.
+-- The listing: for each line of the input a line with the number, the length and the name or the normal symbol that the symbol gets.
 use mathlib.Core.Bool.{Bool, _&&_}
 use mathlib.Core.List.{List, [], _∷_, _++_}
 use mathlib.Core.Path.{_≡_}
@@ -8,14 +8,17 @@ use lib.ListN.{length, drop}
 use lib.Dec.{eqb, leb}
 use Rattle.grammar.specs.Text.{Text, if_then_else_, decimal}
 use Rattle.grammar.specs.Names.{Answer, named, refusal, demangle, most-symbol-bytes, number-of, length-of, least-text, least-store, least-ends}
+use Rattle.catalogue.specs.Answer.{normal-symbol, least-normal-ends}
 use Rattle.store.specs.Stack.{zeros}
 use Rattle.names.specs.Outcome.{Slices}
+use Rattle.listing.specs.declared.listing.Kind.{Kind}
+use Rattle.listing.specs.declared.listing.Kind.the-variants.{Names, Symbols}
 use Rattle.listing.specs.declared.listing.Listed.{Listed}
 
 abbrev pub line-feed : ℕ
 line-feed = 10
 
--- five digits are enough: the entry tells the number in a byte, and no name has more than 16,384 bytes (ListingNames)
+-- five digits are enough: the entry tells the number in a byte, and no answer has more than 16,384 bytes (Kinds)
 unfoldable pub head : ℕ → ℕ → Text
 head number bytes = decimal 5 number ++ (code "," ∷ (decimal 5 bytes ++ (code "," ∷ [])))
 
@@ -26,9 +29,18 @@ unfoldable pub name-of : Answer → Text
 name-of (named t) = t
 name-of (refusal r) = []
 
+-- the line for an answer
+unfoldable pub line-for : Answer → Text
+line-for a = line (number-of a) (length-of a) (name-of a)
+
+-- what is listed of a symbol: its name, or its normal symbol
+unfoldable pub answer-of : Kind → Text → Answer
+answer-of Names s = demangle most-symbol-bytes s
+answer-of Symbols s = normal-symbol s
+
 -- the line for a symbol
-unfoldable pub listing-line : Text → Text
-listing-line s = let a = demangle most-symbol-bytes s in line (number-of a) (length-of a) (name-of a)
+unfoldable pub listing-line : Kind → Text → Text
+listing-line kind s = line-for (answer-of kind s)
 
 -- ---------------------------------------------------------------- lines
 
@@ -47,27 +59,33 @@ unfoldable pub bytes-taken : List Text → ℕ
 bytes-taken [] = 0
 bytes-taken (s ∷ ss) = length s + 1 + bytes-taken ss
 
-unfoldable pub listing : List Text → Text
-listing [] = []
-listing (s ∷ ss) = listing-line s ++ listing ss
+unfoldable pub listing : Kind → List Text → Text
+listing kind [] = []
+listing kind (s ∷ ss) = listing-line kind s ++ listing kind ss
 
 -- the first lines, as long as their listing has no more than so many bytes
-unfoldable pub fitting : ℕ → List Text → List Text
-fitting room [] = []
-fitting room (s ∷ ss) = if leb (length (listing-line s)) room then s ∷ fitting (room - length (listing-line s)) ss else []
+unfoldable pub fitting : Kind → ℕ → List Text → List Text
+fitting kind room [] = []
+fitting kind room (s ∷ ss) =
+    if leb (length (listing-line kind s)) room then s ∷ fitting kind (room - length (listing-line kind s)) ss else []
 
 -- ---------------------------------------------------------------- the entry for listings, with its slices
 
 abbrev pub least-name : ℕ
 least-name = 16384
 
--- the slices for a name and for the reading have their least lengths
-unfoldable pub sized : ℕ → ℕ → ℕ → ℕ → Bool
-sized name text store ends = leb least-name name && (leb least-text text && leb least-store store && leb least-ends ends)
+-- the entry for normal symbols needs more of `ends`
+abbrev pub least-ends-of : Kind → ℕ
+least-ends-of Names = least-ends
+least-ends-of Symbols = least-normal-ends
 
--- of the work slices `out` is the one for a name
-unfoldable pub work-sized : Slices → Bool
-work-sized l = sized (length (l .out)) (length (l .text)) (length (l .store)) (length (l .ends))
+-- the slices for a name and for the reading have their least lengths
+unfoldable pub sized : Kind → ℕ → ℕ → ℕ → ℕ → Bool
+sized kind name text store ends = leb least-name name && (leb least-text text && leb least-store store && leb (least-ends-of kind) ends)
+
+-- of the work slices `out` is the one for a name or a normal symbol
+unfoldable pub work-sized : Kind → Slices → Bool
+work-sized kind l = sized kind (length (l .out)) (length (l .text)) (length (l .store)) (length (l .ends))
 
 pub record Outcome : Type 0 where
   pub taken : ℕ
@@ -75,17 +93,18 @@ pub record Outcome : Type 0 where
   pub out : Text
   pub work : Slices
 
-unfoldable pub lists : List Text → Text → Slices → Outcome
-lists ss out work = record {
+unfoldable pub lists : Kind → List Text → Text → Slices → Outcome
+lists kind ss out work = record {
   taken = bytes-taken ss;
-  written = length (listing ss);
-  out = listing ss ++ drop (length (listing ss)) out;
+  written = length (listing kind ss);
+  out = listing kind ss ++ drop (length (listing kind ss)) out;
   work = record { out = zeros (length (work .out)); text = zeros (length (work .text)); store = zeros (length (work .store)); ends = zeros (length (work .ends)) };
 }
 
 -- the definition of the entry: with work slices that are too short no line is taken
-unfoldable pub listed : Text → Text → Slices → Outcome
-listed input out work = lists (if work-sized work then fitting (length out) (lines input) else []) out work
+unfoldable pub listed : Kind → Text → Text → Slices → Outcome
+listed kind input out work = lists kind (if work-sized kind work then fitting kind (length out) (lines input) else []) out work
 
-abbrev pub Lists : Text → Text → Text → Slices → Slices → Listed → Type 0
-Lists input out out' work work' r = _≡_ {A = Outcome} (record { taken = r .taken; written = r .written; out = out'; work = work' }) (listed input out work)
+abbrev pub Lists : Kind → Text → Text → Text → Slices → Slices → Listed → Type 0
+Lists kind input out out' work work' r =
+    _≡_ {A = Outcome} (record { taken = r .taken; written = r .written; out = out'; work = work' }) (listed kind input out work)

@@ -1,15 +1,22 @@
-// The listing of lines: for each the number, the length and the name that the symbol gets.
-use names::entry;
+// The listing of lines: for each the number, the length and the name or the normal symbol that the symbol gets.
 use names::entry::Answer;
+use names::entry::demangle_zeroed;
 use store::stack;
+use symbols::entry::normalize_zeroed;
 ghost use mathlib.Core.Path.{_≡_};
 ghost use Prim.Native.Nat.{_+_, _≤_, _<_};
 ghost use lib.ListN.{length};
-ghost use Rattle.names.specs.Outcome.{slices, number-in, bytes-in};
-ghost use Rattle.listing.specs.Listing.{line, listing-line, fitting, lines, sized, Lists};
-ghost use Rattle.listing.specs.ListingText.{Digits, Heads, Printed};
-ghost use Rattle.listing.specs.ListingLines.{Same, Goes};
-ghost use Rattle.listing.specs.ListingNames.{Idle};
+ghost use Rattle.names.specs.Outcome.{slices, number-in, bytes-in, Leaves};
+ghost use Rattle.listing.specs.Listing.{line, answer-of, listing-line, fitting, lines, least-ends-of, sized, Lists};
+ghost use Rattle.listing.specs.Printed.{Digits, Heads, Printed};
+ghost use Rattle.listing.specs.Lines.{Same, Goes};
+ghost use Rattle.listing.specs.Kinds.{Idle};
+
+// What is listed of a symbol: its name, or its normal symbol.
+pub enum Kind {
+    Names,
+    Symbols,
+}
 
 // How many bytes of the input were taken, and how many of the output written.
 pub struct Listed {
@@ -82,8 +89,28 @@ fn bytes_in(answer: Answer) -> usize
     }
 }
 
-// The listing line of a symbol, the same way. The work slices are zero, and again at the end.
+// The name or the normal symbol, into `name`. The slices are zero, and all but `name` again at the end.
+fn answer(
+    kind: Kind,
+    s: &[u8],
+    name: &mut [u8],
+    text: &mut [u8],
+    store: &mut [u8],
+    ends: &mut [u16],
+) -> Answer
+    requires { ⌜ Idle kind (slices (now name) (now text) (now store) (now ends)) ⌝ }
+    ensures { λ r. ⌜ Leaves (answer-of kind (now (s .entry))) (slices (now (name .entry)) (now (text .entry)) (now (store .entry)) (now (ends .entry)))
+        (slices (now (name .exit)) (now (text .exit)) (now (store .exit)) (now (ends .exit))) r ⌝ }
+{
+    match kind {
+        Kind::Names => demangle_zeroed(s, name, text, store, ends),
+        Kind::Symbols => normalize_zeroed(s, name, text, store, ends),
+    }
+}
+
+// The listing line of a symbol, as `print_line` writes a line. The work slices are zero, and again at the end.
 fn write_line(
+    kind: Kind,
     s: &[u8],
     out: &mut [u8],
     at: usize,
@@ -92,12 +119,12 @@ fn write_line(
     store: &mut [u8],
     ends: &mut [u16],
 ) -> usize
-    requires { ⌜ (at ≤ length (now out)) × Idle (slices (now name) (now text) (now store) (now ends)) ⌝ }
-    ensures { λ r. ⌜ (Printed (listing-line (now (s .entry))) at (now (out .entry)) (now (out .exit)) r)
+    requires { ⌜ (at ≤ length (now out)) × Idle kind (slices (now name) (now text) (now store) (now ends)) ⌝ }
+    ensures { λ r. ⌜ (Printed (listing-line kind (now (s .entry))) at (now (out .entry)) (now (out .exit)) r)
         × Same (slices (now (name .entry)) (now (text .entry)) (now (store .entry)) (now (ends .entry)))
         (slices (now (name .exit)) (now (text .exit)) (now (store .exit)) (now (ends .exit))) ⌝ }
 {
-    let answer = entry::demangle_zeroed(s, name, text, store, ends);
+    let answer = answer(kind, s, name, text, store, ends);
     let number = number_in(answer);
     let bytes = bytes_in(answer);
     let written = print_line(out, at, number, &name[..bytes]);
@@ -107,6 +134,7 @@ fn write_line(
 
 // The lines one after another, as long as their listing fits.
 fn write_lines(
+    kind: Kind,
     input: &[u8],
     out: &mut [u8],
     name: &mut [u8],
@@ -114,8 +142,8 @@ fn write_lines(
     store: &mut [u8],
     ends: &mut [u16],
 ) -> Listed
-    requires { ⌜ Idle (slices (now name) (now text) (now store) (now ends)) ⌝ }
-    ensures { λ r. ⌜ (Goes (now (out .entry)) (now (out .exit)) (fitting (length (now (out .entry))) (lines (now (input .entry)))) r)
+    requires { ⌜ Idle kind (slices (now name) (now text) (now store) (now ends)) ⌝ }
+    ensures { λ r. ⌜ (Goes kind (now (out .entry)) (now (out .exit)) (fitting kind (length (now (out .entry))) (lines (now (input .entry)))) r)
         × Same (slices (now (name .entry)) (now (text .entry)) (now (store .entry)) (now (ends .entry)))
         (slices (now (name .exit)) (now (text .exit)) (now (store .exit)) (now (ends .exit))) ⌝ }
 {
@@ -129,7 +157,7 @@ fn write_lines(
                 written: end,
             };
         }
-        let n = write_line(&input[at..feed], out, end, name, text, store, ends);
+        let n = write_line(kind, &input[at..feed], out, end, name, text, store, ends);
         if n == 0 {
             return Listed {
                 taken: at,
@@ -145,8 +173,17 @@ fn write_lines(
     }
 }
 
-fn long_enough(name: usize, text: usize, store: usize, ends: usize) -> bool
-    ensures { λ r. ⌜ r ≡ sized name text store ends ⌝ }
+fn least_ends(kind: Kind) -> usize
+    ensures { λ r. ⌜ r ≡ least-ends-of kind ⌝ }
+{
+    match kind {
+        Kind::Names => 2048,
+        Kind::Symbols => 24576,
+    }
+}
+
+fn long_enough(kind: Kind, name: usize, text: usize, store: usize, ends: usize) -> bool
+    ensures { λ r. ⌜ r ≡ sized kind name text store ends ⌝ }
 {
     if name < 16384 {
         return false;
@@ -157,12 +194,13 @@ fn long_enough(name: usize, text: usize, store: usize, ends: usize) -> bool
     if store < 65536 {
         return false;
     }
-    2048 <= ends
+    least_ends(kind) <= ends
 }
 
 // The listing of the complete lines at the front of `input`, as many as fit into `out`. Work slices of any lengths and
 // contents; where one is too short, no line is taken.
 pub fn list_lines(
+    kind: Kind,
     input: &[u8],
     out: &mut [u8],
     name: &mut [u8],
@@ -170,7 +208,7 @@ pub fn list_lines(
     store: &mut [u8],
     ends: &mut [u16],
 ) -> Listed
-    ensures { λ r. ⌜ Lists (now (input .entry)) (now (out .entry)) (now (out .exit))
+    ensures { λ r. ⌜ Lists kind (now (input .entry)) (now (out .entry)) (now (out .exit))
         (slices (now (name .entry)) (now (text .entry)) (now (store .entry)) (now (ends .entry)))
         (slices (now (name .exit)) (now (text .exit)) (now (store .exit)) (now (ends .exit))) r ⌝ }
 {
@@ -178,11 +216,11 @@ pub fn list_lines(
     stack::clear(text);
     stack::clear(store);
     stack::clear_ends(ends);
-    if !long_enough(name.len(), text.len(), store.len(), ends.len()) {
+    if !long_enough(kind, name.len(), text.len(), store.len(), ends.len()) {
         return Listed {
             taken: 0,
             written: 0,
         };
     }
-    write_lines(input, out, name, text, store, ends)
+    write_lines(kind, input, out, name, text, store, ends)
 }

@@ -6,8 +6,8 @@ use borrow.Author.Needs.{needs}
 use borrow.Author.Tests.{not-true, not-false}
 use Rattle.names.specs.Outcome.{slices}
 use Rattle.listing.specs.Listing.{work-sized}
-use Rattle.listing.specs.ListingLines.{Same, same-on}
-use Rattle.listing.specs.ListingEntry.{cleared, sized-cleared, idle-cleared, lists-none, lists-some}
+use Rattle.listing.specs.Lines.{Same, same-on}
+use Rattle.listing.specs.Entry.{cleared, sized-cleared, idle-cleared, lists-none, lists-some}
 use Rattle.listing.proofs.listing.list_lines.Statement.{statement}
 use Rattle.listing.proofs.listing.list_lines.Tie as tie
 
@@ -47,7 +47,7 @@ returns c =
     record { out = c .before .before .before .before .before .before .before .before .before .before .before .before .before .before .before .before .clear .ensures; text = c .before .before .before .before .before .before .before .before .before .before .before .before .clear2 .ensures; store = c .before .before .before .before .before .before .before .before .clear3 .ensures; ends = c .before .before .before .before .clear-ends .ensures } in
     let f = c .before .long-enough .ensures in
     let t = c .if1 .taken in
-    lists-none (a .input .now) (a .out .now) work h (sym (sized-cleared work h) ∙ sym f ∙ not-true _ t)
+    lists-none (a .kind) (a .input .now) (a .out .now) work h (sym (sized-cleared (a .kind) work h) ∙ sym f ∙ not-true _ t)
 
 write-lines-requires : tie.Need-write-lines-requires
 unfolding work-sized
@@ -56,8 +56,8 @@ write-lines-requires c κs =
     let work = slices (a .name .now) (a .text .now) (a .store .now) (a .ends .now) in
     let h : Same (cleared work) (slices (c .before .before .before .before .before .before .before .before .before .before .before .before .before .before .before .before .before .before .before .before .before .clear .last .0) (c .before .before .before .before .before .before .before .before .before .before .before .before .before .before .before .before .before .clear2 .last .0) (c .before .before .before .before .before .before .before .before .before .before .before .before .before .clear3 .last .0) (c .before .before .before .before .before .before .before .before .before .clear-ends .last .0)) =
     record { out = c .before .before .before .before .before .before .before .before .before .before .before .before .before .before .before .before .before .before .before .before .before .clear .ensures; text = c .before .before .before .before .before .before .before .before .before .before .before .before .before .before .before .before .before .clear2 .ensures; store = c .before .before .before .before .before .before .before .before .before .before .before .before .before .clear3 .ensures; ends = c .before .before .before .before .before .before .before .before .before .clear-ends .ensures } in
-    let e : work-sized work ≡ true = sym (sized-cleared work h) ∙ sym (c .before .before .before .before .before .before .long-enough .ensures) ∙ not-false _ (c .before .before .before .before .before .if1 .left) in
-    idle-cleared work e h
+    let e : work-sized (a .kind) work ≡ true = sym (sized-cleared (a .kind) work h) ∙ sym (c .before .before .before .before .before .before .long-enough .ensures) ∙ not-false _ (c .before .before .before .before .before .if1 .left) in
+    idle-cleared (a .kind) work e h
 
 same-length-5 : tie.Need-same-length-5
 same-length-5 c = search needs
@@ -81,8 +81,8 @@ returns-2 c =
     let work = slices (a .name .now) (a .text .now) (a .store .now) (a .ends .now) in
     let h : Same (cleared work) (slices (c .before .before .before .before .before .before .before .before .before .before .before .before .before .before .before .before .before .before .before .before .before .before .before .before .before .before .before .before .before .before .before .before .clear .last .0) (c .before .before .before .before .before .before .before .before .before .before .before .before .before .before .before .before .before .before .before .before .before .before .before .before .before .before .before .before .clear2 .last .0) (c .before .before .before .before .before .before .before .before .before .before .before .before .before .before .before .before .before .before .before .before .before .before .before .before .clear3 .last .0) (c .before .before .before .before .before .before .before .before .before .before .before .before .before .before .before .before .before .before .before .before .clear-ends .last .0)) =
     record { out = c .before .before .before .before .before .before .before .before .before .before .before .before .before .before .before .before .before .before .before .before .before .before .before .before .before .before .before .before .before .before .before .before .clear .ensures; text = c .before .before .before .before .before .before .before .before .before .before .before .before .before .before .before .before .before .before .before .before .before .before .before .before .before .before .before .before .clear2 .ensures; store = c .before .before .before .before .before .before .before .before .before .before .before .before .before .before .before .before .before .before .before .before .before .before .before .before .clear3 .ensures; ends = c .before .before .before .before .before .before .before .before .before .before .before .before .before .before .before .before .before .before .before .before .clear-ends .ensures } in
-    let e : work-sized work ≡ true = sym (sized-cleared work h) ∙ sym (c .before .before .before .before .before .before .before .before .before .before .before .before .before .before .before .before .before .long-enough .ensures) ∙ not-false _ (c .before .before .before .before .before .before .before .before .before .before .before .before .before .before .before .before .if1 .left) in
-    lists-some (a .input .now) (a .out .now) work (same-on h (c .before .before .before .before .before .before .before .before .before .before .write-lines .ensures .1)) e (c .before .before .before .before .before .before .before .before .before .before .write-lines .ensures .0)
+    let e : work-sized (a .kind) work ≡ true = sym (sized-cleared (a .kind) work h) ∙ sym (c .before .before .before .before .before .before .before .before .before .before .before .before .before .before .before .before .before .long-enough .ensures) ∙ not-false _ (c .before .before .before .before .before .before .before .before .before .before .before .before .before .before .before .before .if1 .left) in
+    lists-some (a .kind) (a .input .now) (a .out .now) work (same-on h (c .before .before .before .before .before .before .before .before .before .before .write-lines .ensures .1)) e (c .before .before .before .before .before .before .before .before .before .before .write-lines .ensures .0)
 
 pub list-lines-spec : {M : Type 1} → statement M
 list-lines-spec =

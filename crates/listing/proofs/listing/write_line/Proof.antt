@@ -9,13 +9,15 @@ use lib.ListN.{length, take, drop}
 use lib.Seq.{length-take-le}
 use Rattle.grammar.specs.Text.{Text}
 use Rattle.store.specs.Stack.{zeros}
-use Rattle.listing.specs.ListingText.{Printed}
-use Rattle.listing.specs.ListingNames.{left, line-is}
+use Rattle.listing.specs.Listing.{listing-line}
+use Rattle.listing.specs.Printed.{Printed}
+use Rattle.listing.specs.Answers.{left, line-is}
+use Rattle.listing.specs.Kinds.{short-answer-of}
 use Rattle.listing.proofs.listing.write_line.Statement.{statement}
 use Rattle.listing.proofs.listing.write_line.Tie as tie
 
-demangle-zeroed-requires : tie.Need-demangle-zeroed-requires
-demangle-zeroed-requires c κs = search needs
+answer-requires : tie.Need-answer-requires
+answer-requires c κs = search needs
 
 number-in-requires : tie.Need-number-in-requires
 number-in-requires c κs = search needs
@@ -25,33 +27,33 @@ bytes-in-requires c κs = search needs
 
 slice-reshare-prefix-print-line : tie.Need-slice-reshare-prefix-print-line
 slice-reshare-prefix-print-line c =
-    let d = c .before .before .before .before .before .before .before .before .before .before .before .demangle-zeroed in
-    let l = left {r = d .result} (c .before .before .before .before .before .before .before .before .before .before .before .before .before .before .before .before .before .before .before .before .before .before .pre .1) (d .ensures) (d .kept .1 .0) in
+    let d = c .before .before .before .before .before .before .before .before .before .before .before .answer in
+    let l = left {r = d .result} (c .before .before .before .before .before .before .before .before .before .before .before .before .before .before .before .before .before .before .before .before .before .before .pre .1) (short-answer-of _ _) (d .ensures) (d .kept .1 .1 .0) in
     omega (arith, l .short, l .size, c .before .before .before .before .before .before .before .before .before .before .before .before .before .before .before .before .before .before .before .before .before .before .pre .1 .long, c .before .bytes-in .ensures)
 
 slice-aggregate-print-line : tie.Need-slice-aggregate-print-line
 slice-aggregate-print-line c =
-    let d = c .before .before .before .before .before .before .before .before .before .before .before .before .demangle-zeroed in
-    let l = left {r = d .result} (c .before .before .before .before .before .before .before .before .before .before .before .before .before .before .before .before .before .before .before .before .before .before .before .pre .1) (d .ensures) (d .kept .1 .0) in
+    let d = c .before .before .before .before .before .before .before .before .before .before .before .before .answer in
+    let l = left {r = d .result} (c .before .before .before .before .before .before .before .before .before .before .before .before .before .before .before .before .before .before .before .before .before .before .before .pre .1) (short-answer-of _ _) (d .ensures) (d .kept .1 .1 .0) in
     sym (length-take-le _ _ (omega (arith, l .short, l .size, c .before .before .before .before .before .before .before .before .before .before .before .before .before .before .before .before .before .before .before .before .before .before .before .pre .1 .long, c .before .before .bytes-in .ensures)))
 
 print-line-requires : tie.Need-print-line-requires
 print-line-requires c κs =
-    let d = c .before .before .before .before .before .before .before .before .before .before .before .before .demangle-zeroed in
-    let l = left {r = d .result} (c .before .before .before .before .before .before .before .before .before .before .before .before .before .before .before .before .before .before .before .before .before .before .before .pre .1) (d .ensures) (d .kept .1 .0) in
-    let k = length-take-le (c .before .before .bytes-in .result) (d .last .1 .0) (omega (arith, l .short, l .size, c .before .before .before .before .before .before .before .before .before .before .before .before .before .before .before .before .before .before .before .before .before .before .before .pre .1 .long, c .before .before .bytes-in .ensures)) in
+    let d = c .before .before .before .before .before .before .before .before .before .before .before .before .answer in
+    let l = left {r = d .result} (c .before .before .before .before .before .before .before .before .before .before .before .before .before .before .before .before .before .before .before .before .before .before .before .pre .1) (short-answer-of _ _) (d .ensures) (d .kept .1 .1 .0) in
+    let k = length-take-le (c .before .before .bytes-in .result) (d .last .1 .1 .0) (omega (arith, l .short, l .size, c .before .before .before .before .before .before .before .before .before .before .before .before .before .before .before .before .before .before .before .before .before .before .before .pre .1 .long, c .before .before .bytes-in .ensures)) in
     (c .before .before .before .before .before .before .before .before .before .before .before .before .before .before .before .before .before .before .before .before .before .before .before .pre .0, (omega (arith, c .before .before .before .number-in .ensures .1), omega (arith, k, l .short, c .before .before .bytes-in .ensures)))
 
 slice-relend-prefix-clear : tie.Need-slice-relend-prefix-clear
 slice-relend-prefix-clear c =
-    let d = c .before .before .before .before .before .before .before .before .before .before .before .before .before .before .before .demangle-zeroed in
-    let l = left {r = d .result} (c .before .before .before .before .before .before .before .before .before .before .before .before .before .before .before .before .before .before .before .before .before .before .before .before .before .before .pre .1) (d .ensures) (d .kept .1 .0) in
+    let d = c .before .before .before .before .before .before .before .before .before .before .before .before .before .before .before .answer in
+    let l = left {r = d .result} (c .before .before .before .before .before .before .before .before .before .before .before .before .before .before .before .before .before .before .before .before .before .before .before .before .before .before .pre .1) (short-answer-of _ _) (d .ensures) (d .kept .1 .1 .0) in
     omega (arith, l .short, l .size, c .before .before .before .before .before .before .before .before .before .before .before .before .before .before .before .before .before .before .before .before .before .before .before .before .before .before .pre .1 .long, c .before .before .before .before .before .bytes-in .ensures)
 
 slice-aggregate-clear : tie.Need-slice-aggregate-clear
 slice-aggregate-clear c =
-    let d = c .before .before .before .before .before .before .before .before .before .before .before .before .before .before .before .before .demangle-zeroed in
-    let l = left {r = d .result} (c .before .before .before .before .before .before .before .before .before .before .before .before .before .before .before .before .before .before .before .before .before .before .before .before .before .before .before .pre .1) (d .ensures) (d .kept .1 .0) in
+    let d = c .before .before .before .before .before .before .before .before .before .before .before .before .before .before .before .before .answer in
+    let l = left {r = d .result} (c .before .before .before .before .before .before .before .before .before .before .before .before .before .before .before .before .before .before .before .before .before .before .before .before .before .before .before .pre .1) (short-answer-of _ _) (d .ensures) (d .kept .1 .1 .0) in
     sym (length-take-le _ _ (omega (arith, l .short, l .size, c .before .before .before .before .before .before .before .before .before .before .before .before .before .before .before .before .before .before .before .before .before .before .before .before .before .before .before .pre .1 .long, c .before .before .before .before .before .before .bytes-in .ensures)))
 
 clear-requires : tie.Need-clear-requires
@@ -73,11 +75,12 @@ same-length-5 : tie.Need-same-length-5
 same-length-5 c = search needs
 
 returns : tie.Need-returns
+unfolding listing-line
 returns c =
-    let d = c .before .before .before .before .before .before .before .before .before .before .before .before .before .before .before .before .before .before .before .demangle-zeroed in
-    let l = left {r = d .result} (c .before .before .before .before .before .before .before .before .before .before .before .before .before .before .before .before .before .before .before .before .before .before .before .before .before .before .before .before .before .before .pre .1) (d .ensures) (d .kept .1 .0) in
+    let d = c .before .before .before .before .before .before .before .before .before .before .before .before .before .before .before .before .before .before .before .answer in
+    let l = left {r = d .result} (c .before .before .before .before .before .before .before .before .before .before .before .before .before .before .before .before .before .before .before .before .before .before .before .before .before .before .before .before .before .before .pre .1) (short-answer-of _ _) (d .ensures) (d .kept .1 .1 .0) in
     let b = c .before .before .before .before .before .before .before .before .before .bytes-in in
-    let name = d .last .1 .0 in
+    let name = d .last .1 .1 .0 in
     let k : length (take (b .result) name) ≡ b .result = length-take-le (b .result) name (omega (arith, l .short, l .size, c .before .before .before .before .before .before .before .before .before .before .before .before .before .before .before .before .before .before .before .before .before .before .before .before .before .before .before .before .before .before .pre .1 .long, b .ensures)) in (
       subst (λ (t : Text). Printed t (c .before .before .before .before .before .before .before .before .before .before .before .before .before .before .before .before .before .before .before .before .before .before .before .before .before .before .before .before .before .before .args .at) (c .before .before .before .before .before .before .before .before .before .before .before .before .before .before .before .before .before .before .before .before .before .before .before .before .before .before .before .before .before .before .args .out .now) (c .before .before .before .before .before .before .print-line .last .0) (c .before .before .before .before .before .before .print-line .result))
           (line-is (c .before .before .before .before .before .before .before .before .before .before .number-in .result) (b .result) l (c .before .before .before .before .before .before .before .before .before .before .number-in .ensures .0) (b .ensures)) (c .before .before .before .before .before .before .print-line .ensures),
@@ -95,7 +98,7 @@ pub write-line-spec : {M : Type 1} → statement M
 write-line-spec =
     tie.close
     (tie.spec
-    demangle-zeroed-requires
+    answer-requires
     number-in-requires
     bytes-in-requires
     slice-reshare-prefix-print-line

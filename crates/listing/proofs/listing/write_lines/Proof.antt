@@ -5,17 +5,17 @@ use Prim.Native.Nat.{_-_}
 use native.Mathlib.Omega.{arith}
 use lib.ListN.{length}
 use Rattle.names.specs.Outcome.{slices}
-use Rattle.listing.specs.ListingNames.{Idle}
-use Rattle.listing.specs.ListingLines.{Same, same, same-on, same-slices, Gone, gone-none, gone-end, gone-feed, gone-full, gone-more}
+use Rattle.listing.specs.Kinds.{Idle}
+use Rattle.listing.specs.Lines.{Same, same, same-on, same-slices, Gone, gone-none, gone-end, gone-feed, gone-full, gone-more}
 use Rattle.listing.proofs.listing.write_lines.Statement.{statement}
 use Rattle.listing.proofs.listing.write_lines.Tie as tie
 
 abbrev Inv-loop : tie.InvT-loop
-Inv-loop input out₀ name₀ text₀ store₀ ends₀ at₀ end₀ out name text store ends at end =
-    Gone input out₀ out at end × Same (slices name₀ text₀ store₀ ends₀) (slices name text store ends)
+Inv-loop kind input out₀ name₀ text₀ store₀ ends₀ at₀ end₀ out name text store ends at end =
+    Gone kind input out₀ out at end × Same (slices name₀ text₀ store₀ ends₀) (slices name text store ends)
 
 abbrev μ-loop : tie.MeasureT-loop
-μ-loop input out₀ name₀ text₀ store₀ ends₀ at₀ end₀ out name text store ends at end = length input - at
+μ-loop kind input out₀ name₀ text₀ store₀ ends₀ at₀ end₀ out name text store ends at end = length input - at
 
 loop-holds : tie.Need-loop-holds Inv-loop μ-loop
 loop-holds c = (gone-none _ _, same)
@@ -51,10 +51,10 @@ part-write-line-end : tie.Need-part-write-line-end Inv-loop μ-loop
 part-write-line-end c = omega (arith, c .before .before2 .ensures .0)
 
 write-line-requires : tie.Need-write-line-requires Inv-loop μ-loop
-write-line-requires c κs = (omega (arith, c .before .before .before .before .before .before .before .before .before .loop .inv .0 .room, c .before .before .before .before .before .before .before .before .before .loop .inv .0 .size), subst Idle (same-slices (c .before .before .before .before .before .before .before .before .before .loop .inv .1)) (c .before .before .before .before .before .before .before .before .before .before .before .before .before .before .before .before .pre))
+write-line-requires c κs = (omega (arith, c .before .before .before .before .before .before .before .before .before .loop .inv .0 .room, c .before .before .before .before .before .before .before .before .before .loop .inv .0 .size), subst (Idle _) (same-slices (c .before .before .before .before .before .before .before .before .before .loop .inv .1)) (c .before .before .before .before .before .before .before .before .before .before .before .before .before .before .before .before .pre))
 
 same-length-6 : tie.Need-same-length-6 Inv-loop μ-loop
-same-length-6 c = omega (arith, c .before .before .before .before .before .before .before .before .before .before .before .write-line .kept .1 .0, c .before .before .before .before .before .before .before .before .before .before .before .before .before .before .before .before .before .before .before .before .before .loop .inv .0 .size)
+same-length-6 c = omega (arith, c .before .before .before .before .before .before .before .before .before .before .before .write-line .kept .1 .1 .0, c .before .before .before .before .before .before .before .before .before .before .before .before .before .before .before .before .before .before .before .before .before .loop .inv .0 .size)
 
 same-length-7 : tie.Need-same-length-7 Inv-loop μ-loop
 same-length-7 c = ap length (same-on (c .before .before .before .before .before .before .before .before .before .before .before .before .before .before .before .before .before .before .before .before .before .loop .inv .1) (c .before .before .before .before .before .before .before .before .before .before .before .write-line .ensures .1) .out)

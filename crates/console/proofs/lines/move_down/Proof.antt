@@ -1,10 +1,10 @@
--- `list::move_down` is safe. Invariant: the length of `lines` is as it was; the measure is what is left to move. Assumes nothing.
+-- `lines::move_down` is safe. Invariant: the length of `lines` is as it was; the measure is what is left to move. Assumes nothing.
 use mathlib.Core.Path.{_≡_}
 use Prim.Native.Nat.{_-_, _≤_}
 use borrow.Author.Needs.{needs}
 use lib.ListN.{length}
-use Rattle.list.proofs.move_down.Statement.{statement}
-use Rattle.list.proofs.move_down.Tie as tie
+use Rattle.console.proofs.lines.move_down.Statement.{statement}
+use Rattle.console.proofs.lines.move_down.Tie as tie
 
 abbrev Inv-loop : tie.InvT-loop
 Inv-loop lines₀ start end n i₀ lines i = (i ≤ n) × (length lines ≡ length lines₀)

@@ -1,12 +1,12 @@
--- `list::keep` meets its contract. Invariant: what is kept of the chunk is what is kept so far and what is kept from here on. The measure is
+-- `lines::keep` meets its contract. Invariant: what is kept of the chunk is what is kept so far and what is kept from here on. The measure is
 -- what is left of the chunk. Assumes nothing.
 use mathlib.Core.Logic.{⊎-elim}
 use Prim.Native.Nat.{_-_}
 use borrow.Author.Needs.{needs}
 use lib.ListN.{length}
-use Rattle.list.specs.Kept.{Begun, begin, begun-feed, begun-kept, begun-dropped, kept}
-use Rattle.list.proofs.keep.Statement.{statement}
-use Rattle.list.proofs.keep.Tie as tie
+use Rattle.console.specs.Kept.{Begun, begin, begun-feed, begun-kept, begun-dropped, kept}
+use Rattle.console.proofs.lines.keep.Statement.{statement}
+use Rattle.console.proofs.lines.keep.Tie as tie
 
 abbrev Inv-loop : tie.InvT-loop
 Inv-loop chunk lines₀ used end₀ start₀ i₀ lines end start i = Begun chunk lines₀ lines used end start i

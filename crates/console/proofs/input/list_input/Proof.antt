@@ -1,4 +1,4 @@
--- `list::list_input` is safe and ends. Invariant: no more is used than is kept of a line, and the lengths are as they were; the measure is
+-- `input::list_input` is safe and ends. Invariant: no more is used than is kept of a line, and the lengths are as they were; the measure is
 -- the number of turns left. Assumes nothing.
 use mathlib.Core.Path.{_≡_, sym}
 use Prim.Native.Nat.{_≤_}
@@ -6,15 +6,15 @@ use native.Mathlib.Omega.{arith}
 use borrow.Author.Needs.{needs}
 use lib.ListN.{length, length-set}
 use lib.Seq.{length-take-le}
-use Rattle.list.proofs.list_input.Statement.{statement}
-use Rattle.list.proofs.list_input.Tie as tie
+use Rattle.console.proofs.input.list_input.Statement.{statement}
+use Rattle.console.proofs.input.list_input.Tie as tie
 
 abbrev Inv-loop : tie.InvT-loop
-Inv-loop chunk₀ lines₀ out₀ name₀ text₀ store₀ ends₀ used₀ goes-on₀ turns₀ chunk lines out name text store ends used goes-on turns =
+Inv-loop kind chunk₀ lines₀ out₀ name₀ text₀ store₀ ends₀ used₀ goes-on₀ turns₀ chunk lines out name text store ends used goes-on turns =
     (used ≤ 4097) × ((length chunk ≡ length chunk₀) × ((length lines ≡ length lines₀) × ((length out ≡ length out₀) × ((length name ≡ length name₀) × ((length text ≡ length text₀) × ((length store ≡ length store₀) × (length ends ≡ length ends₀)))))))
 
 abbrev μ-loop : tie.MeasureT-loop
-μ-loop chunk₀ lines₀ out₀ name₀ text₀ store₀ ends₀ used₀ goes-on₀ turns₀ chunk lines out name text store ends used goes-on turns =
+μ-loop kind chunk₀ lines₀ out₀ name₀ text₀ store₀ ends₀ used₀ goes-on₀ turns₀ chunk lines out name text store ends used goes-on turns =
     turns
 
 loop-holds : tie.Need-loop-holds Inv-loop μ-loop

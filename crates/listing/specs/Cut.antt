@@ -4,13 +4,14 @@ use mathlib.Core.List.{List, [], _∷_, _++_}
 use mathlib.Core.Path.{_≡_, refl, sym, ap, ap₂, _∙_}
 use Prim.Native.Nat.{ℕ, suc, _+_, _-_, _≤_, _<_}
 use native.Mathlib.Omega.{arith}
-use borrow.Author.Tests.{lt-ltb, ltb-true, ltb-false, leb-true, leb-false}
+use borrow.Author.Tests.{ltb-true, ltb-false, leb-true, leb-false}
 use lib.Dec.{eqb, leb, ltb}
 use lib.ListN.{length, take}
 use lib.Seq.{take-all, take-nil, length-take-le}
 use Rattle.grammar.specs.Text.{Text, if_then_else_}
-use Rattle.grammar.specs.Names.{Answer, refusal, demangle, front, most-symbol-bytes, number-of, length-of}
-use Rattle.listing.specs.Listing.{line-feed, line, name-of, listing-line, in-front, lines, listing}
+use Rattle.listing.specs.Listing.{line-feed, line-for, listing-line, in-front, lines, listing}
+use Rattle.listing.specs.Kinds.{too-long}
+use Rattle.listing.specs.declared.listing.Kind.{Kind}
 
 abbrev pub most-kept : ℕ
 most-kept = 4097
@@ -101,25 +102,20 @@ cut-shortened n (x ∷ t) h =
 
 -- ---------------------------------------------------------------- their listing
 
-too-long : (s : Text) → 4096 < length s → demangle most-symbol-bytes s ≡ refusal 1
-unfolding demangle front if_then_else_
-too-long s h = rw (lt-ltb 4096 (length s) h)
-
-same-line : (s : Text) → listing-line (take 4097 s) ≡ listing-line s
+same-line : (kind : Kind) (s : Text) → listing-line kind (take 4097 s) ≡ listing-line kind s
 unfolding listing-line
-same-line s = go (leb (length s) 4097) refl where
-  go : (q : Bool) → leb (length s) 4097 ≡ q → listing-line (take 4097 s) ≡ listing-line s
-  go true e = ap listing-line (take-all 4097 s (leb-true (length s) 4097 e))
+same-line kind s = go (leb (length s) 4097) refl where
+  go : (q : Bool) → leb (length s) 4097 ≡ q → listing-line kind (take 4097 s) ≡ listing-line kind s
+  go true e = ap (listing-line kind) (take-all 4097 s (leb-true (length s) 4097 e))
   go false e =
       let h : 4097 < length s = leb-false (length s) 4097 e in
-      ap (λ (a : Answer). line (number-of a) (length-of a) (name-of a))
-      (too-long (take 4097 s) (omega (arith, length-take-le 4097 s (omega arith))) ∙ sym (too-long s (omega arith)))
+      ap line-for (too-long kind (take 4097 s) (omega (arith, length-take-le 4097 s (omega arith))) ∙ sym (too-long kind s (omega arith)))
 
-same-listing : (ss : List Text) → listing (shortened 4097 ss) ≡ listing ss
+same-listing : (kind : Kind) (ss : List Text) → listing kind (shortened 4097 ss) ≡ listing kind ss
 unfolding listing shortened
-same-listing [] = refl
-same-listing (s ∷ ss) = ap₂ (λ (u v : Text). u ++ v) (same-line s) (same-listing ss)
+same-listing kind [] = refl
+same-listing kind (s ∷ ss) = ap₂ (λ (u v : Text). u ++ v) (same-line kind s) (same-listing kind ss)
 
 -- cutting the lines does not change the listing
-pub cut-listing : (t : Text) → listing (lines (cut-lines 0 t)) ≡ listing (lines t)
-cut-listing t = ap listing (cut-shortened 0 t (omega arith)) ∙ same-listing (lines t)
+pub cut-listing : (kind : Kind) (t : Text) → listing kind (lines (cut-lines 0 t)) ≡ listing kind (lines t)
+cut-listing kind t = ap (listing kind) (cut-shortened 0 t (omega arith)) ∙ same-listing kind (lines t)

@@ -1,10 +1,10 @@
--- `list::read_once` is safe. Assumes nothing.
+-- `input::read_once` is safe. Assumes nothing.
 use mathlib.Core.Path.{sym}
 use native.Mathlib.Omega.{arith}
 use borrow.Author.Needs.{needs}
 use lib.Seq.{length-take-le}
-use Rattle.list.proofs.read_once.Statement.{statement}
-use Rattle.list.proofs.read_once.Tie as tie
+use Rattle.console.proofs.input.read_once.Statement.{statement}
+use Rattle.console.proofs.input.read_once.Tie as tie
 
 read-requires : tie.Need-read-requires
 read-requires c κs = search needs
@@ -41,8 +41,8 @@ write-listing-requires c κs = search needs
 move-down-requires : tie.Need-move-down-requires
 move-down-requires c κs = search needs
 
-sub-t39 : tie.Need-sub-t39
-sub-t39 c = search needs
+sub-rest : tie.Need-sub-rest
+sub-rest c = search needs
 
 same-length-2 : tie.Need-same-length-2
 same-length-2 c = search needs
@@ -83,7 +83,7 @@ read-once-spec =
     slice-aggregate-write-listing
     write-listing-requires
     move-down-requires
-    sub-t39
+    sub-rest
     same-length-2
     same-length-3
     same-length-4

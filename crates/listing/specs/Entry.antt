@@ -8,31 +8,31 @@ use borrow.Author.Tests.{le-leb, lt-leb, leb-true}
 use lib.Dec.{leb}
 use lib.ListN.{length}
 use Rattle.grammar.specs.Text.{Text, if_then_else_}
-use Rattle.grammar.specs.Names.{work-fits}
 use Rattle.store.specs.Stack.{zeros}
 use Rattle.store.specs.Lists.{length-zeros}
 use Rattle.names.specs.Outcome.{Slices, slices}
-use Rattle.listing.specs.Listing.{Outcome, lines, fitting, bytes-taken, listing, sized, work-sized, lists, listed, Lists}
-use Rattle.listing.specs.ListingNames.{Idle}
-use Rattle.listing.specs.ListingLines.{Same, same-slices, Goes}
+use Rattle.listing.specs.Listing.{Outcome, lines, fitting, bytes-taken, listing, least-ends-of, sized, work-sized, lists, listed, Lists}
+use Rattle.listing.specs.Kinds.{Idle}
+use Rattle.listing.specs.Lines.{Same, same-slices, Goes}
+use Rattle.listing.specs.declared.listing.Kind.{Kind}
 use Rattle.listing.specs.declared.listing.Listed.{Listed}
 
 -- ---------------------------------------------------------------- the lengths
 
-module _ (name text store ends : ℕ) where
-  pub short-name : name < 16384 → false ≡ sized name text store ends
+module _ (kind : Kind) (name text store ends : ℕ) where
+  pub short-name : name < 16384 → false ≡ sized kind name text store ends
   unfolding sized
   short-name h = rw (lt-leb 16384 name h)
 
-  pub short-text : 16384 ≤ name → text < 65536 → false ≡ sized name text store ends
+  pub short-text : 16384 ≤ name → text < 65536 → false ≡ sized kind name text store ends
   unfolding sized
   short-text h k = rw (le-leb 16384 name h, lt-leb 65536 text k)
 
-  pub short-store : 16384 ≤ name → 65536 ≤ text → store < 65536 → false ≡ sized name text store ends
+  pub short-store : 16384 ≤ name → 65536 ≤ text → store < 65536 → false ≡ sized kind name text store ends
   unfolding sized
   short-store h k l = rw (le-leb 16384 name h, le-leb 65536 text k, lt-leb 65536 store l)
 
-  pub long-others : 16384 ≤ name → 65536 ≤ text → 65536 ≤ store → leb 2048 ends ≡ sized name text store ends
+  pub long-others : 16384 ≤ name → 65536 ≤ text → 65536 ≤ store → leb (least-ends-of kind) ends ≡ sized kind name text store ends
   unfolding sized
   long-others h k l = rw (le-leb 16384 name h, le-leb 65536 text k, le-leb 65536 store l)
 
@@ -49,19 +49,19 @@ cleared l = slices (zeros (length (l .out))) (zeros (length (l .text))) (zeros (
 zero-is : (m : Text) (n : ℕ) → m ≡ zeros n → m ≡ zeros (length m)
 zero-is m n e = e ∙ ap zeros (sym (ap length e ∙ length-zeros n))
 
-pub sized-cleared : (l : Slices) {l' : Slices} → Same (cleared l) l' → work-sized l' ≡ work-sized l
+pub sized-cleared : (kind : Kind) (l : Slices) {l' : Slices} → Same (cleared l) l' → work-sized kind l' ≡ work-sized kind l
 unfolding work-sized
-sized-cleared l h =
-    ap work-sized (sym (same-slices h))
+sized-cleared kind l h =
+    ap (work-sized kind) (sym (same-slices h))
     ∙ rw (length-zeros (length (l .out)), length-zeros (length (l .text)), length-zeros (length (l .store)), length-zeros (length (l .ends)))
 
-module _ (l : Slices) (s : work-sized l ≡ true) where
-  pub idle-cleared : {l' : Slices} → Same (cleared l) l' → Idle l'
-  unfolding work-sized sized work-fits
+module _ (kind : Kind) (l : Slices) (s : work-sized kind l ≡ true) where
+  pub idle-cleared : {l' : Slices} → Same (cleared l) l' → Idle kind l'
+  unfolding work-sized sized
   idle-cleared h =
       let name = leb 16384 (length (l .out)) in
-      let others = leb 65536 (length (l .text)) && leb 65536 (length (l .store)) && leb 2048 (length (l .ends)) in
-      subst Idle (same-slices h) (record {
+      let others = leb 65536 (length (l .text)) && leb 65536 (length (l .store)) && leb (least-ends-of kind) (length (l .ends)) in
+      subst (Idle kind) (same-slices h) (record {
         zero = record {
           text = zero-is (zeros (length (l .text))) (length (l .text)) refl;
           store = zero-is (zeros (length (l .store))) (length (l .store)) refl;
@@ -74,16 +74,16 @@ module _ (l : Slices) (s : work-sized l ≡ true) where
 
 -- ---------------------------------------------------------------- the outcome
 
-module _ (input out : Text) (work : Slices) {work' : Slices} (h : Same (cleared work) work') where
-  pub lists-none : work-sized work ≡ false → Lists input out out work work' (record { taken = 0; written = 0 })
+module _ (kind : Kind) (input out : Text) (work : Slices) {work' : Slices} (h : Same (cleared work) work') where
+  pub lists-none : work-sized kind work ≡ false → Lists kind input out out work work' (record { taken = 0; written = 0 })
   unfolding listed lists listing bytes-taken if_then_else_
   lists-none e =
       ap (λ (w : Slices). record { taken = 0; written = 0; out = out; work = w }) (sym (same-slices h))
-      ∙ ap (λ (q : Bool). lists (if q then fitting (length out) (lines input) else []) out work) (sym e)
+      ∙ ap (λ (q : Bool). lists kind (if q then fitting kind (length out) (lines input) else []) out work) (sym e)
 
-  pub lists-some : {out' : Text} {r : Listed} → work-sized work ≡ true → Goes out out' (fitting (length out) (lines input)) r → Lists input out out' work work' r
+  pub lists-some : {out' : Text} {r : Listed} → work-sized kind work ≡ true → Goes kind out out' (fitting kind (length out) (lines input)) r → Lists kind input out out' work work' r
   unfolding listed lists if_then_else_
   lists-some {out'} {r} e g =
-      let p : _≡_ {A = Outcome} (record { taken = r .taken; written = r .written; out = out'; work = work' }) (lists (fitting (length out) (lines input)) out work) =
+      let p : _≡_ {A = Outcome} (record { taken = r .taken; written = r .written; out = out'; work = work' }) (lists kind (fitting kind (length out) (lines input)) out work) =
       λ i. record { taken = g .taken i; written = g .written i; out = g .is i; work = sym (same-slices h) i } in
-      p ∙ ap (λ (q : Bool). lists (if q then fitting (length out) (lines input) else []) out work) (sym e)
+      p ∙ ap (λ (q : Bool). lists kind (if q then fitting kind (length out) (lines input) else []) out work) (sym e)

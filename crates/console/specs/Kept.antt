@@ -7,8 +7,8 @@ use native.Mathlib.Omega.{arith}
 use borrow.Author.Tests.{eq-eqb, ne-eqb, lt-ltb, le-ltb}
 use lib.ListN.{length, take, drop, getD, set, length-set, drop-of-length-le}
 use lib.Seq.{drop-cons, take-suc-set}
-use Rattle.listing.specs.ListingCut.{cut-lines, column, cut-feed, cut-kept, cut-dropped}
-use Rattle.list.specs.declared.Kept.{Kept}
+use Rattle.listing.specs.Cut.{cut-lines, column, cut-feed, cut-kept, cut-dropped}
+use Rattle.console.specs.declared.lines.Kept.{Kept}
 
 -- behind the first `used` bytes stand those that are kept of the chunk; the last line begins at `start`
 pub record Keeps (chunk lines lines' : List ℕ) (used : ℕ) (r : Kept) : Type 0 where

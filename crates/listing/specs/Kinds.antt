@@ -1,0 +1,117 @@
+-- What holds of an answer whatever is listed: its length, a symbol that is too long, and that an entry with work slices of its least lengths
+-- gives it. Assumes nothing.
+use mathlib.Core.Bool.{Bool, true, false, _&&_}
+use mathlib.Core.List.{[], _∷_}
+use mathlib.Core.Option.{Option, none, some}
+use mathlib.Core.Path.{_≡_, refl, sym, ap, _∙_, subst}
+use Prim.Native.Nat.{ℕ, _≤_, _<_}
+use native.Mathlib.Omega.{arith}
+use borrow.Author.Tests.{le-leb, lt-ltb, leb-true}
+use lib.Dec.{leb, ltb}
+use lib.ListN.{length}
+use Rattle.grammar.specs.Text.{Text, if_then_else_, choose}
+use Rattle.grammar.specs.Tables.{_⇒_}
+use Rattle.grammar.specs.Reader.{find}
+use Rattle.grammar.specs.Names.{
+  Answer,
+  named,
+  refusal,
+  mangled-name,
+  high,
+  front,
+  demangle,
+  most-symbol-bytes,
+  least-text,
+  least-store,
+  work-fits,
+  within,
+  length-of,
+}
+use Rattle.catalogue.specs.Recogniser.{classify}
+use Rattle.catalogue.specs.Answer.{normalIn, normal-told, normal-after, normal-symbol, normal-work-fits, normal-answer}
+use Rattle.store.specs.Stack.{zeros}
+use Rattle.names.specs.Lengths.{short-answer, answer-is}
+use Rattle.names.specs.Outcome.{Slices, Zero, Demangles, Leaves, lent, leaves, demangled}
+use Rattle.names.specs.declared.entry.Answer.{Answer as Code}
+use Rattle.symbols.specs.Outcome.{Normalizes, normalized}
+use Rattle.listing.specs.Listing.{answer-of, least-ends-of}
+use Rattle.listing.specs.declared.listing.Kind.{Kind}
+use Rattle.listing.specs.declared.listing.Kind.the-variants.{Names, Symbols}
+
+-- ---------------------------------------------------------------- a normal symbol
+
+told-short : (w : Option Text) → length-of (normal-told w) ≤ 4096
+unfolding normal-told length-of if_then_else_
+told-short none = omega arith
+told-short (some t) = go (leb (length t) 4096) refl where
+  go : (q : Bool) → leb (length t) 4096 ≡ q → length-of (if q then named t else refusal 13) ≤ 4096
+  go true e = leb-true (length t) 4096 e
+  go false e = omega arith
+
+after-short : (s : Text) (a : Answer) → length-of (normal-after s a) ≤ 4096
+unfolding normal-after length-of
+after-short s (named x) = told-short (normalIn (classify s))
+after-short s (refusal r) = omega arith
+
+-- what is refused in front stays so
+front-after : (s t : Text) (f : Text → Answer) → front most-symbol-bytes t (λ u. normal-after s (f u)) ≡ normal-after s (front most-symbol-bytes t f)
+unfolding front normal-after choose if_then_else_
+front-after s t f = go (ltb most-symbol-bytes (length t)) (high t) (find ("_Z" ⇒ tt {0} ∷ "__Z" ⇒ tt {0} ∷ []) t) where
+  go : {A : Type 0} (p q : Bool) (x : Option (A × Text)) →
+      (if p then refusal 1 else if q then refusal 2 else choose x (λ r. normal-after s (f (r .1))) (refusal 3))
+      ≡ normal-after s (if p then refusal 1 else if q then refusal 2 else choose x (λ r. f (r .1)) (refusal 3))
+  go true q x = refl
+  go false true x = refl
+  go false false none = refl
+  go false false (some r) = refl
+
+within-is : (n : ℕ) (a : Answer) → length-of a ≤ n → within n a ≡ a
+unfolding within length-of if_then_else_
+within-is n (named t) h = rw (le-leb (length t) n h)
+within-is n (refusal r) h = refl
+
+normal-is : (l : Slices) (s : Text) → 16384 ≤ length (l .out) → normal-work-fits (lent l) ≡ true → normal-answer (lent l) s ≡ normal-symbol s
+unfolding normal-answer normal-symbol demangle if_then_else_
+normal-is l s h k = ap (front most-symbol-bytes s) (λ i u. step u i) ∙ front-after s s mangled-name where
+  step : (u : Text) → (if normal-work-fits (lent l) then within (length (l .out)) (normal-after s (mangled-name u)) else refusal 14) ≡ normal-after s (mangled-name u)
+  step u =
+      let a = normal-after s (mangled-name u) in
+      ap (λ (q : Bool). if q then within (length (l .out)) a else refusal 14) k
+      ∙ within-is (length (l .out)) a (omega (arith, after-short s (mangled-name u)))
+
+-- ---------------------------------------------------------------- by what is listed
+
+pub short-answer-of : (kind : Kind) (s : Text) → length-of (answer-of kind s) ≤ 16384
+unfolding answer-of normal-symbol
+short-answer-of Names s = short-answer s
+short-answer-of Symbols s = omega (arith, after-short s (demangle most-symbol-bytes s))
+
+too-long-for-name : (s : Text) → 4096 < length s → demangle most-symbol-bytes s ≡ refusal 1
+unfolding demangle front if_then_else_
+too-long-for-name s h = rw (lt-ltb 4096 (length s) h)
+
+pub too-long : (kind : Kind) (s : Text) → 4096 < length s → answer-of kind s ≡ refusal 1
+unfolding answer-of normal-symbol normal-after
+too-long Names s h = too-long-for-name s h
+too-long Symbols s h = ap (normal-after s) (too-long-for-name s h)
+
+-- the work slices are zero and have their least lengths
+pub record Idle (kind : Kind) (l : Slices) : Type 0 where
+  pub zero : Zero l
+  pub name : l .out ≡ zeros (length (l .out))
+  pub long : 16384 ≤ length (l .out)
+  pub fits : leb least-text (length (l .text)) && leb least-store (length (l .store)) && leb (least-ends-of kind) (length (l .ends)) ≡ true
+
+-- either entry leaves the answer
+module _ {kind : Kind} {l l' : Slices} (s : Text) (r : Code) (i : Idle kind l) where
+  pub name-left : kind ≡ Names → Demangles s l l' r → Leaves (answer-of kind s) l l' r
+  unfolding demangled answer-of work-fits
+  name-left e d =
+      let j : Idle Names l = subst (λ (k : Kind). Idle k l) e i in
+      d ∙ ap (λ (a : Answer). leaves a l) (answer-is l s (j .long) (j .fits) ∙ ap (λ (k : Kind). answer-of k s) (sym e))
+
+  pub symbol-left : kind ≡ Symbols → Normalizes s l l' r → Leaves (answer-of kind s) l l' r
+  unfolding normalized answer-of normal-work-fits
+  symbol-left e d =
+      let j : Idle Symbols l = subst (λ (k : Kind). Idle k l) e i in
+      d ∙ ap (λ (a : Answer). leaves a l) (normal-is l s (j .long) (j .fits) ∙ ap (λ (k : Kind). answer-of k s) (sym e))
