@@ -1,14 +1,13 @@
-// Calls the entry for names by its C function, with slices of many lengths that are full of rubbish, and compares number,
-// length and every byte with a listing of the same symbols.
-// edges SYMBOLS LISTING
-use std::io::Write;
+//! Calls an entry by its C function, with slices of many lengths that are full of rubbish, and compares number, length and
+//! every byte with a listing of the same symbols.
+//!
+//! edges names|normals SYMBOLS LISTING
 
-extern "C" {
-    fn patchname_demangle(
-        s: *const u8, s_len: usize, out: *mut u8, out_len: usize, text: *mut u8, text_len: usize,
-        store: *mut u8, store_len: usize, ends: *mut u16, ends_len: usize, bytes: *mut usize,
-    ) -> u8;
-}
+mod library;
+
+use library::{Entry, Lengths};
+
+// ---------------------------------------------------------------- slices full of rubbish
 
 struct Random(u64);
 
@@ -19,99 +18,217 @@ impl Random {
         self.0 ^= self.0 << 17;
         self.0
     }
+
     fn below(&mut self, n: usize) -> usize {
         (self.next() % n as u64) as usize
     }
 }
 
-struct Call {
+/// Made once, since making it anew would take longer than the calls.
+struct Rubbish {
+    random: Random,
+    bytes: Vec<u8>,
+    numbers: Vec<u16>,
+}
+
+const RUBBISH: usize = 1 << 20;
+
+impl Rubbish {
+    fn new(seed: u64) -> Rubbish {
+        let mut random = Random(seed);
+        let bytes = (0..RUBBISH).map(|_| (random.next() >> 32) as u8).collect();
+        let numbers = (0..RUBBISH).map(|_| (random.next() >> 32) as u16).collect();
+        Rubbish { random, bytes, numbers }
+    }
+}
+
+/// On both sides of a slice, so that a write beside it is seen.
+const MARGIN: usize = 64;
+
+struct Lent<'a, T> {
+    before: &'a [T],
+    now: Vec<T>,
+}
+
+impl<'a, T: Copy + PartialEq> Lent<'a, T> {
+    fn new(random: &mut Random, rubbish: &'a [T], len: usize) -> Lent<'a, T> {
+        let whole = len + 2 * MARGIN;
+        let from = random.below(rubbish.len() - whole);
+        let before = &rubbish[from..from + whole];
+        Lent { before, now: before.to_vec() }
+    }
+
+    fn slice(&mut self) -> &mut [T] {
+        let end = self.now.len() - MARGIN;
+        &mut self.now[MARGIN..end]
+    }
+
+    /// Whether `put` stands at the front, and all behind it and beside the slice is as it was.
+    fn has(&self, put: &[T]) -> bool {
+        let behind = MARGIN + put.len();
+        self.now[..MARGIN] == self.before[..MARGIN]
+            && self.now[MARGIN..behind] == *put
+            && self.now[behind..] == self.before[behind..]
+    }
+
+    fn is_all(&self, value: T) -> bool {
+        self.has(&vec![value; self.now.len() - 2 * MARGIN])
+    }
+}
+
+// ---------------------------------------------------------------- what is expected
+
+struct Row<'a> {
+    symbol: &'a [u8],
     number: u8,
-    bytes: usize,
-    out: Vec<u8>,
-    before: Vec<u8>,
-    zero: bool,
+    result: &'a [u8],
 }
 
-fn call(r: &mut Random, symbol: &[u8], out_len: usize, lens: (usize, usize, usize)) -> Call {
-    let mut out: Vec<u8> = (0..out_len).map(|_| r.next() as u8).collect();
-    let before = out.clone();
-    let mut text: Vec<u8> = (0..lens.0).map(|_| r.next() as u8).collect();
-    let mut store: Vec<u8> = (0..lens.1).map(|_| r.next() as u8).collect();
-    let mut ends: Vec<u16> = (0..lens.2).map(|_| r.next() as u16).collect();
-    let mut bytes = r.next() as usize;
-    let number = unsafe {
-        patchname_demangle(
-            symbol.as_ptr(), symbol.len(), out.as_mut_ptr(), out.len(), text.as_mut_ptr(), text.len(),
-            store.as_mut_ptr(), store.len(), ends.as_mut_ptr(), ends.len(), &mut bytes,
-        )
-    };
-    let zero = text.iter().all(|x| *x == 0) && store.iter().all(|x| *x == 0) && ends.iter().all(|x| *x == 0);
-    Call { number, bytes, out, before, zero }
+fn row<'a>(symbol: &'a [u8], line: &'a [u8]) -> Option<Row<'a>> {
+    let mut parts = line.splitn(3, |x| *x == b',');
+    let mut number = || std::str::from_utf8(parts.next()?).ok()?.parse::<usize>().ok();
+    let (code, bytes) = (number()?, number()?);
+    let result = parts.next()?;
+    (bytes == result.len()).then_some(Row { symbol, number: code.try_into().ok()?, result })
 }
 
-fn check(what: &str, symbol: &[u8], c: &Call, number: u8, name: &[u8], failures: &mut usize) {
-    let front = if number == 0 { name.len() } else { 0 };
-    let good = c.number == number
-        && c.bytes == front
-        && c.zero
-        && c.out.len() >= front
-        && (number != 0 || c.out[..front] == *name)
-        && c.out[front..] == c.before[front..];
-    if !good {
-        *failures += 1;
-        if *failures <= 20 {
-            println!("{what}: {:?} gives {}, {} bytes, work slices zero: {}", String::from_utf8_lossy(&symbol[..symbol.len().min(100)]), c.number, c.bytes, c.zero);
+/// A last line feed ends a line and begins none.
+fn lines(text: &[u8]) -> Vec<&[u8]> {
+    text.strip_suffix(b"\n").unwrap_or(text).split(|x| *x == b'\n').collect()
+}
+
+fn rows<'a>(symbols: &'a [u8], listing: &'a [u8]) -> Vec<Row<'a>> {
+    let (symbols, listed) = (lines(symbols), &lines(listing)[1..]);
+    assert_eq!(symbols.len(), listed.len(), "symbols and lines of the listing");
+    let read = |(symbol, line): (&&'a [u8], &&'a [u8])| row(symbol, line).unwrap_or_else(|| panic!("{:?} in the listing", shown(line)));
+    symbols.iter().zip(listed).map(read).collect()
+}
+
+struct Case {
+    what: &'static str,
+    out: usize,
+    work: Lengths,
+}
+
+/// Where more than one refusal fits: 1 to 3 come first, 14 next, 12 last.
+fn expected(entry: &Entry, row: &Row, case: &Case) -> u8 {
+    let short = (0..3).any(|i| case.work[i] < entry.least[i]);
+    match row.number {
+        1..=3 => row.number,
+        _ if short => 14,
+        0 if case.out < row.result.len() => 12,
+        number => number,
+    }
+}
+
+fn works(least: Lengths) -> Vec<(&'static str, Lengths)> {
+    let mut out = vec![("all work slices longer", least.map(|n| n + 77)), ("no work slices", [0; 3])];
+    for (i, n) in least.into_iter().enumerate() {
+        let with = |len: usize| {
+            let mut lengths = least;
+            lengths[i] = len;
+            lengths
+        };
+        let words = [
+            ["a longer text", "a short text", "no text"],
+            ["a longer store", "a short store", "no store"],
+            ["longer ends", "short ends", "no ends"],
+        ][i];
+        out.extend([(words[0], with(n + 1)), (words[1], with(n - 1)), (words[2], with(0))]);
+    }
+    out
+}
+
+fn cases(entry: &Entry, row: &Row) -> Vec<Case> {
+    let full = row.result.len();
+    let mut out = vec![
+        Case { what: "a longer output", out: entry.longest + 1, work: entry.least },
+        Case { what: "an empty output", out: 0, work: entry.least },
+    ];
+    if row.number == 0 {
+        out.push(Case { what: "an output exactly full", out: full, work: entry.least });
+        out.push(Case { what: "an output one byte short", out: full.saturating_sub(1), work: entry.least });
+    }
+    // an empty output must not hide what the work slices give
+    for (what, work) in works(entry.least) {
+        out.extend([entry.longest, 0].map(|out| Case { what, out, work }));
+    }
+    out
+}
+
+// ---------------------------------------------------------------- calls
+
+struct Tried<'a> {
+    entry: &'a Entry,
+    rubbish: Rubbish,
+    calls: usize,
+    failures: usize,
+}
+
+fn shown(bytes: &[u8]) -> String {
+    String::from_utf8_lossy(&bytes[..bytes.len().min(100)]).into_owned()
+}
+
+impl Tried<'_> {
+    fn one(&mut self, row: &Row, case: &Case) {
+        let Rubbish { random, bytes, numbers } = &mut self.rubbish;
+        let mut out = Lent::new(random, bytes, case.out);
+        let mut text = Lent::new(random, bytes, case.work[0]);
+        let mut store = Lent::new(random, bytes, case.work[1]);
+        let mut ends = Lent::new(random, numbers, case.work[2]);
+        let mut length = random.next() as usize;
+        let number = self.entry.call(row.symbol, out.slice(), text.slice(), store.slice(), ends.slice(), &mut length);
+
+        let wanted = expected(self.entry, row, case);
+        let result = if wanted == 0 { row.result } else { b"" };
+        let right = out.has(result);
+        let zero = text.is_all(0) && store.is_all(0) && ends.is_all(0);
+        self.calls += 1;
+        if number != wanted || length != result.len() || !right || !zero {
+            self.failures += 1;
+            self.tell(row, case, &format!("{number} for {wanted}, {length} bytes for {}, output right: {right}, work slices zero: {zero}", result.len()));
         }
+    }
+
+    fn tell(&self, row: &Row, case: &Case, found: &str) {
+        if self.failures <= 20 {
+            println!("{}, {}, an output of {}: {:?} gives {found}", self.entry.what, case.what, case.out, shown(row.symbol));
+        }
+    }
+
+    /// Symbols of any bytes, line feeds too, which no listing has. Without work slices the bytes and the front settle the number.
+    fn any_bytes(&mut self) {
+        for _ in 0..200_000 {
+            let symbol = self.any_symbol();
+            let front = symbol.starts_with(b"_Z") || symbol.starts_with(b"__Z");
+            let number = if !symbol.is_ascii() { 2 } else if front { 14 } else { 3 };
+            let row = Row { symbol: &symbol, number, result: b"" };
+            self.one(&row, &Case { what: "any bytes", out: 64, work: [0; 3] });
+        }
+    }
+
+    fn any_symbol(&mut self) -> Vec<u8> {
+        let random = &mut self.rubbish.random;
+        let mut symbol = [&b""[..], b"_Z", b"__Z"][random.below(3)].to_vec();
+        let most = [127, 255][random.below(2)];
+        symbol.extend((0..random.below(40)).map(|_| random.below(most + 1) as u8).collect::<Vec<u8>>());
+        symbol
     }
 }
 
 fn main() {
-    let args: Vec<String> = std::env::args().collect();
-    let symbols = std::fs::read(&args[1]).unwrap();
-    let listing = std::fs::read(&args[2]).unwrap();
-    let mut lines: Vec<&[u8]> = symbols.split(|x| *x == b'\n').collect();
-    if lines.last().is_some_and(|l| l.is_empty()) {
-        lines.pop();
-    }
-    let rows: Vec<&[u8]> = listing.split(|x| *x == b'\n').skip(1).collect();
-    let full = (65536, 65536, 2048);
-    let mut r = Random(88172645463325252);
-    let (mut calls, mut failures) = (0usize, 0usize);
-    for (symbol, row) in lines.iter().zip(rows) {
-        let mut parts = row.splitn(3, |x| *x == b',');
-        let number: u8 = std::str::from_utf8(parts.next().unwrap()).unwrap().parse().unwrap();
-        let _ = parts.next();
-        let name = parts.next().unwrap();
-        let mut run = |what: &str, out_len: usize, lens: (usize, usize, usize), expected: u8| {
-            let c = call(&mut r, symbol, out_len, lens);
-            check(what, symbol, &c, expected, name, &mut failures);
-            calls += 1;
-        };
-        run("an output of 16,384 bytes", 16384, full, number);
-        if number == 0 {
-            run("an output exactly full", name.len(), full, 0);
-            if !name.is_empty() {
-                run("an output one byte short", name.len() - 1, full, 12);
-                run("an empty output", 0, full, 12);
-            }
+    let words: Vec<String> = std::env::args().skip(1).collect();
+    let [what, symbols, listing] = words.try_into().expect("names or normals, symbols, listing");
+    let entry = library::entry(&what).expect("names or normals");
+    let (symbols, listing) = (std::fs::read(symbols).unwrap(), std::fs::read(listing).unwrap());
+    let rows = rows(&symbols, &listing);
+    let mut tried = Tried { entry, rubbish: Rubbish::new(88172645463325252), calls: 0, failures: 0 };
+    for row in &rows {
+        for case in cases(entry, row) {
+            tried.one(row, &case);
         }
-        run("longer work slices", 16384, (65536 + 77, 65536 + 1, 2048 + 5), number);
-        let short = if number >= 1 && number <= 3 { number } else { 14 };
-        run("a short text", 16384, (65535, 65536, 2048), short);
-        run("a short store", 16384, (65536, 65535, 2048), short);
-        run("short ends", 16384, (65536, 65536, 2047), short);
-        run("no work slices", 16384, (0, 0, 0), short);
     }
-    // symbols of any bytes, line feeds too
-    for _ in 0..200_000 {
-        let n = r.below(40);
-        let symbol: Vec<u8> = (0..n).map(|_| r.next() as u8).collect();
-        let c = call(&mut r, &symbol, 64, (0, 0, 0));
-        let number = if symbol.iter().any(|x| *x >= 128) { 2 } else if symbol.starts_with(b"_Z") || symbol.starts_with(b"__Z") { 14 } else { 3 };
-        check("any bytes", &symbol, &c, number, b"", &mut failures);
-        calls += 1;
-    }
-    println!("{} symbols, {calls} calls, {failures} differences", lines.len());
-    std::io::stdout().flush().unwrap();
-    std::process::exit((failures > 0) as i32);
+    tried.any_bytes();
+    println!("{what}: {} symbols, {} calls, {} differences", rows.len(), tried.calls, tried.failures);
+    std::process::exit((tried.failures > 0) as i32);
 }
