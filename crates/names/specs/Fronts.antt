@@ -1,5 +1,5 @@
 -- Laws of what is told of a symbol before it is read. Assumes nothing.
-use mathlib.Core.Bool.{Bool, true, false, _&&_, true≢false}
+use mathlib.Core.Bool.{Bool, true, false, _&&_, _||_, true≢false}
 use mathlib.Core.List.{[], _∷_}
 use mathlib.Core.Path.{_≡_, refl, sym}
 use Prim.Native.Nat.{ℕ, _+_, _≤_, _<_}
@@ -22,17 +22,23 @@ both-true false q e = absurd (true≢false (sym e))
 -- ---- bytes of 128 or more
 
 module _ (s : Text) (i : ℕ) where
-  pub high-there : i < length s → 128 ≤ getD s i 0 → high (drop i s) ≡ true
+  high-here : i < length s → 128 ≤ getD s i 0 → high (drop i s) ≡ true
   unfolding high
-  high-there h g = rw (drop-cons s i 0 h, le-leb 128 (getD s i 0) g)
+  high-here h g = rw (drop-cons s i 0 h, le-leb 128 (getD s i 0) g)
+
+  -- one was found before, or stands here
+  pub high-there : (q : Bool) → i < length s → 128 ≤ getD s i 0 → q || high (drop i s) ≡ true
+  high-there true h g = refl
+  high-there false h g = high-here h g
 
   pub high-not : i < length s → getD s i 0 < 128 → high (drop i s) ≡ high (drop (i + 1) s)
   unfolding high
   high-not h g = rw (add-one, drop-cons s i 0 h, lt-leb 128 (getD s i 0) g)
 
-  pub high-end : length s ≤ i → high (drop i s) ≡ false
+  pub high-end : (q : Bool) → length s ≤ i → q || high (drop i s) ≡ q
   unfolding high
-  high-end h = rw (drop-of-length-le s h)
+  high-end true h = refl
+  high-end false h = rw (drop-of-length-le s h)
 
 -- ---- a text that begins with a word is as long
 

@@ -1,14 +1,14 @@
 -- Laws of a text without its slots. Assumes nothing.
 use mathlib.Core.Bool.{Bool, true, false}
 use mathlib.Core.List.{[], _∷_, _++_, append-assoc, append-nil}
-use mathlib.Core.Path.{_≡_, refl, sym, ap, _∙_}
+use mathlib.Core.Path.{_≡_, refl, sym, ap, ap₂, _∙_}
 use Prim.Native.Nat.{ℕ, suc, _+_, _≤_, _<_}
 use native.Mathlib.Numerals.{add-one}
 use native.Mathlib.Omega.{arith}
 use borrow.Author.Tests.{eq-eqb, ne-eqb}
 use lib.Dec.{eqb}
 use lib.ListN.{length, take, drop, getD, set, length-append, length-drop, take-append-drop}
-use lib.Seq.{take-suc, take-take, drop-cons, getD-drop, set-at}
+use lib.Seq.{paste, take-suc, take-length, take-take, drop-cons, getD-drop, set-at}
 use Rattle.grammar.specs.Text.{Text, if_then_else_, each}
 use Rattle.grammar.specs.Names.{without-slots}
 use Rattle.store.specs.Stack.{slots-in}
@@ -28,6 +28,23 @@ pub slotless-length : (t : Text) → slots-in t + length (without-slots t) ≡ l
 unfolding slots-in without-slots each
 slotless-length [] = omega arith
 slotless-length (x ∷ t) = omega (arith, one x (without-slots t) (eqb x 1), slotless-length t)
+
+-- a text that has none is its own
+bare : (x : ℕ) (s t : Text) (q : Bool) → (if q then 1 else 0) + slots-in t ≡ 0 → (slots-in t ≡ 0 → s ≡ t) → (if q then [] else x ∷ []) ++ s ≡ x ∷ t
+unfolding if_then_else_
+bare x s t true e f = absurd (omega (arith, e))
+bare x s t false e f = ap (λ (z : Text). x ∷ z) (f (omega (arith, e)))
+
+slotless-same : (t : Text) → slots-in t ≡ 0 → without-slots t ≡ t
+unfolding slots-in without-slots each
+slotless-same [] e = refl
+slotless-same (x ∷ t) e = bare x (without-slots t) t (eqb x 1) e (slotless-same t)
+
+-- it is written as it stands
+pub slotless-copied : (t out : Text) → slots-in t ≡ 0 → paste out 0 t (length t) ≡ without-slots t ++ drop (length (without-slots t)) out
+slotless-copied t out e =
+    ap₂ (λ (x : Text) (k : ℕ). x ++ drop k out) (take-length t) (let z : 0 + length t ≡ length t = omega arith in z)
+    ∙ ap (λ (x : Text). x ++ drop (length x) out) (sym (slotless-same t e))
 
 -- a front is no longer than the whole
 slotless-part : (i n : ℕ) (t : Text) → i ≤ n → length (without-slots (take i t)) ≤ length (without-slots (take n t))

@@ -112,11 +112,12 @@ fn print(s: &[u8], out: &mut [u8], text: &[u8], p: Parser, n: usize) -> Answer
     }
     let top = p.top;
     let from = top - n;
-    let size = n - stack::slots(text, from, top);
+    let slots = stack::slots(text, from, top);
+    let size = n - slots;
     if out.len() < size {
         return Answer::Refused(12);
     }
-    symbol::write_name(out, text, from, top);
+    symbol::write_counted(out, text, from, top, slots);
     Answer::Name(size)
 }
 

@@ -1,5 +1,6 @@
 // What is told of a symbol before it is read, and its name written.
 use grammar::text as bytes;
+use store::stack;
 ghost use mathlib.Core.Bool.{_&&_};
 ghost use mathlib.Core.Path.{_≡_};
 ghost use mathlib.Core.List.{_++_};
@@ -7,6 +8,7 @@ ghost use Prim.Native.Nat.{_-_, _≤_};
 ghost use lib.Dec.{leb};
 ghost use lib.ListN.{length, take, drop};
 ghost use Rattle.grammar.specs.Names.{high, without-slots};
+ghost use Rattle.store.specs.Stack.{slots-in};
 ghost use Rattle.names.specs.Symbols.{Fronts};
 
 // The least lengths of the work slices.
@@ -22,18 +24,19 @@ pub enum Front {
     Refused(u8),
 }
 
-// Whether a byte is 128 or more.
+// Whether a byte is 128 or more. All bytes are looked at, so that LLVM takes many at once.
 pub fn has_high(s: &[u8]) -> bool
     ensures { λ r. ⌜ r ≡ high (now (s .entry)) ⌝ }
 {
+    let mut found = false;
     let mut i: usize = 0;
     while i < s.len() {
         if 128 <= s[i] {
-            return true;
+            found = true;
         }
         i += 1;
     }
-    false
+    found
 }
 
 pub fn behind_front(s: &[u8]) -> Front
@@ -83,5 +86,19 @@ pub fn write_name(out: &mut [u8], text: &[u8], from: usize, to: usize)
             at += 1;
         }
         i += 1;
+    }
+}
+
+// The same, where the slots of text[from..to] are counted. Almost no name has one, and its bytes are copied many at once.
+pub fn write_counted(out: &mut [u8], text: &[u8], from: usize, to: usize, slots: usize)
+    requires { ⌜ (slots ≡ slots-in (take (to - from) (drop from (now text)))) × ((from ≤ to)
+        × ((to ≤ length (now text)) × (length (without-slots (take (to - from) (drop from (now text)))) ≤ length (now out)))) ⌝ }
+    ensures { λ _. ⌜ now (out .exit) ≡ without-slots (take (to - from) (drop from (now (text .entry))))
+        ++ drop (length (without-slots (take (to - from) (drop from (now (text .entry)))))) (now (out .entry)) ⌝ }
+{
+    if slots == 0 {
+        stack::copy(out, 0, &text[from..to]);
+    } else {
+        write_name(out, text, from, to);
     }
 }

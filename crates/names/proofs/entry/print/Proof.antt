@@ -32,10 +32,10 @@ returns-2 c store ends t σ h =
     tells-refusal
     (within-12 _ t σ (ap ended (h .rest) ∙ sym (c .before .before .before .ended .ensures) ∙ not-false _ (c .before .before .if1 .left)) (omega (arith, c .if2 .taken, printed-length h (c .before .slots .ensures .0))))
 
-write-name-requires : tie.Need-write-name-requires
-write-name-requires c κs =
+write-counted-requires : tie.Need-write-counted-requires
+write-counted-requires c κs =
     let a = c .before .before .before .before .before .before .before .before in
-    (omega (arith, a .pre), (a .pre .1 .0, omega (arith, c .before .if2 .left, newest-length (a .args .text .now) (a .args .p .top) (a .args .n) (a .pre .0) (a .pre .1 .0) (c .before .before .slots .ensures .0))))
+    (c .before .before .slots .ensures .0, (omega (arith, a .pre), (a .pre .1 .0, omega (arith, c .before .if2 .left, newest-length (a .args .text .now) (a .args .p .top) (a .args .n) (a .pre .0) (a .pre .1 .0) (c .before .before .slots .ensures .0)))))
 
 same-length : tie.Need-same-length
 same-length c = search needs
@@ -44,7 +44,7 @@ returns-3 : tie.Need-returns-3
 returns-3 c store ends t σ h =
     let e = printed-length h (c .before .before .before .before .before .slots .ensures .0) in
     tells-name (within-name _ t σ (ap ended (h .rest) ∙ sym (c .before .before .before .before .before .before .before .ended .ensures) ∙ not-false _ (c .before .before .before .before .before .before .if1 .left)) (omega (arith, e, c .before .before .before .before .if2 .left))) e
-    (c .before .before .write-name .ensures ∙ ap (λ (z : Text). without-slots z ++ drop (length (without-slots z)) (c .before .before .before .before .before .before .before .before .before .before .before .args .out .now)) (printed-text h))
+    (c .before .before .write-counted .ensures ∙ ap (λ (z : Text). without-slots z ++ drop (length (without-slots z)) (c .before .before .before .before .before .before .before .before .before .before .before .args .out .now)) (printed-text h))
 
 pub print-spec : {M : Type 1} → statement M
 print-spec =
@@ -56,6 +56,6 @@ print-spec =
     slots-requires
     sub-size
     returns-2
-    write-name-requires
+    write-counted-requires
     same-length
     returns-3)

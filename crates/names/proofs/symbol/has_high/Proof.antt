@@ -1,7 +1,9 @@
--- `names::symbol::has_high` meets its contract. Invariant: none of the first i bytes is 128 or more; the measure is what is left.
--- Assumes nothing.
-use mathlib.Core.Path.{_≡_, refl, sym, _∙_}
-use Prim.Native.Nat.{_-_, _≤_}
+-- `names::symbol::has_high` meets its contract. Invariant: one of the first i bytes is 128 or more where `found` says so; the measure is
+-- what is left. Assumes nothing.
+use mathlib.Core.Bool.{Bool, _||_}
+use mathlib.Core.Path.{_≡_, refl, sym, ap, ap₂, _∙_}
+use mathlib.Core.Logic.{⊎-elim}
+use Prim.Native.Nat.{_+_, _-_, _≤_}
 use native.Mathlib.Omega.{arith}
 use borrow.Author.Needs.{needs}
 use lib.ListN.{length, drop}
@@ -11,21 +13,16 @@ use Rattle.names.proofs.symbol.has_high.Statement.{statement}
 use Rattle.names.proofs.symbol.has_high.Tie as tie
 
 abbrev Inv-loop : tie.InvT-loop
-Inv-loop s i₀ i = (i ≤ length s) × (high s ≡ high (drop i s))
+Inv-loop s found₀ i₀ found i = (i ≤ length s) × (high s ≡ (found || high (drop i s)))
 
 abbrev μ-loop : tie.MeasureT-loop
-μ-loop s i₀ i = length s - i
+μ-loop s found₀ i₀ found i = length s - i
 
 loop-holds : tie.Need-loop-holds Inv-loop μ-loop
 loop-holds c = (omega arith, refl)
 
 shared-slice-read-if1 : tie.Need-shared-slice-read-if1 Inv-loop μ-loop
 shared-slice-read-if1 c = search needs
-
-returns : tie.Need-returns Inv-loop μ-loop
-returns c =
-    let l = c .before .before .before .loop in
-    sym (l .inv .1 ∙ high-there _ (l .i) (omega arith) (c .if1 .taken))
 
 add-i : tie.Need-add-i Inv-loop μ-loop
 add-i c = search needs
@@ -35,24 +32,19 @@ loop-less c = search needs
 
 loop-again : tie.Need-loop-again Inv-loop μ-loop
 loop-again c =
+    let s = c .before .before .before .before .args .s .now in
     let l = c .before .before .before .loop in
-    (omega arith, l .inv .1 ∙ high-not _ (l .i) (omega arith) (c .if1 .left))
+    ⊎-elim
+    (λ w. (omega arith, l .inv .1 ∙ high-there s (l .i) (l .found) (omega arith) (w .0 .taken) ∙ ap (λ (q : Bool). q || high (drop (l .i + 1) s)) (sym (w .1))))
+    (λ w. (omega arith, l .inv .1 ∙ ap₂ _||_ (sym (w .1)) (high-not s (l .i) (omega arith) (w .0 .left))))
+    (c .if1 .came)
 
-returns-2 : tie.Need-returns-2 Inv-loop μ-loop
-returns-2 c =
+returns : tie.Need-returns Inv-loop μ-loop
+returns c =
     let l = c .before .loop in
-    sym (l .inv .1 ∙ high-end _ (l .i) (omega arith))
+    sym (l .inv .1 ∙ high-end _ (l .i) (l .found) (omega arith))
 
 pub has-high-spec : {M : Type 1} → statement M
 has-high-spec =
     tie.close
-    (tie.spec
-    Inv-loop
-    μ-loop
-    loop-holds
-    shared-slice-read-if1
-    returns
-    add-i
-    loop-less
-    loop-again
-    returns-2)
+    (tie.spec Inv-loop μ-loop loop-holds shared-slice-read-if1 add-i loop-less loop-again returns)
