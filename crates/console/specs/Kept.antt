@@ -1,13 +1,14 @@
 -- What `keep` leaves of a chunk of the input. Assumes nothing.
 use mathlib.Core.List.{List, [], _∷_, _++_, append-assoc, append-nil}
-use mathlib.Core.Path.{_≡_, refl, sym, ap, _∙_}
+use mathlib.Core.Path.{_≡_, refl, sym, ap, ap₂, _∙_}
 use Prim.Native.Nat.{ℕ, _+_, _-_, _≤_, _<_}
 use native.Mathlib.Numerals.{add-one}
 use native.Mathlib.Omega.{arith}
-use borrow.Author.Tests.{eq-eqb, ne-eqb, lt-ltb, le-ltb}
+use borrow.Author.Tests.{eq-eqb}
 use lib.ListN.{length, take, drop, getD, set, length-set, drop-of-length-le}
-use lib.Seq.{drop-cons, take-suc-set}
-use Rattle.listing.specs.Cut.{cut-lines, column, cut-feed, cut-kept, cut-dropped}
+use lib.Seq.{drop-cons, drop-drop, take-length, take-suc-set, paste, length-paste, take-paste}
+use Rattle.listing.specs.Cut.{cut-lines, column, cut-feed, line-front}
+use Rattle.listing.specs.Lines.{before-feed, feed-from, feed-there, feed-front}
 use Rattle.console.specs.declared.lines.Kept.{Kept}
 
 -- behind the first `used` bytes stand those that are kept of the chunk; the last line begins at `start`
@@ -17,7 +18,28 @@ pub record Keeps (chunk lines lines' : List ℕ) (used : ℕ) (r : Kept) : Type 
   pub cut : column used chunk ≤ 4097
   pub inside : r .used ≤ length lines
 
--- the same, as far as the first i bytes of the chunk
+-- the first k bytes of a part, or all where it has no more, were put behind the first `end` bytes
+pub record Puts (k : ℕ) (part lines lines' : List ℕ) (end r : ℕ) : Type 0 where
+  pub is : take r lines' ≡ take end lines ++ take k part
+  pub ends : r ≡ end + length (take k part)
+  pub some : r ≤ end + k
+  pub within : r ≤ end + length part
+  pub size : length lines' ≡ length lines
+
+pub puts : {k : ℕ} {part lines lines' : List ℕ} {end : ℕ} (w : List ℕ) → w ≡ take k part → length w ≤ k → length w ≤ length part → end + length w ≤ length lines
+    → lines' ≡ paste lines end w (length w) → (r : ℕ) → r ≡ end + length w → Puts k part lines lines' end r
+puts {k} {part} {lines} {lines'} {end} w e a c h p r q = record {
+  is =
+      ap₂ take q p
+      ∙ take-paste lines end w (length w) (omega arith) (omega arith)
+      ∙ ap (λ (u : List ℕ). take end lines ++ u) (take-length w ∙ e);
+  ends = q ∙ ap (λ (u : List ℕ). end + length u) e;
+  some = omega arith;
+  within = omega arith;
+  size = ap length p ∙ length-paste lines end w (length w) h (omega arith);
+}
+
+-- what `Keeps` says, as far as the first i bytes of the chunk
 pub record Begun (chunk lines lines' : List ℕ) (used end start i : ℕ) : Type 0 where
   pub passed : i ≤ length chunk
   pub order : start ≤ end
@@ -51,6 +73,33 @@ module _ {chunk lines lines' : List ℕ} {used end start i : ℕ} (w : Begun chu
         inside = omega (arith, w .room);
       }
 
+  -- the bytes up to the next line feed
+  pub begun-part : {feed r : ℕ} {lines'' : List ℕ} → feed ≡ feed-from chunk i → feed ≤ length chunk → Puts (4097 - (end - start)) (take (feed - i) (drop i chunk)) lines' lines'' end r
+      → Begun chunk lines lines'' used r start feed
+  begun-part {feed} {r} {lines''} e l p =
+      let n : ℕ = end - start in
+      let s : List ℕ = before-feed (drop i chunk) in
+      let f = line-front n (drop i chunk) in
+      let part : take (feed - i) (drop i chunk) ≡ s = ap (λ (j : ℕ). take j (drop i chunk)) {x = feed - i} {y = length s} (omega arith) ∙ feed-front (drop i chunk) in
+      let size : length (take (feed - i) (drop i chunk)) ≡ feed - i = ap length part ∙ omega arith in
+      let u : List ℕ = take (4097 - n) s in
+      let put : take r lines'' ≡ take end lines' ++ u = p .is ∙ ap (λ (t : List ℕ). take end lines' ++ take (4097 - n) t) part in
+      let z : n + length u ≡ r - start = omega (arith, w .order, p .ends, ap (λ (t : List ℕ). length (take (4097 - n) t)) part) in
+      let d : drop (length s) (drop i chunk) ≡ drop feed chunk = drop-drop (length s) i chunk ∙ ap (λ (j : ℕ). drop j chunk) (sym e) in
+      record {
+        passed = l;
+        order = omega (arith, w .order, p .ends);
+        cut = omega (arith, w .order, w .cut, p .some);
+        room = omega (arith, w .room, w .passed, p .within, size);
+        size = p .size ∙ w .size;
+        is =
+            w .is
+            ∙ ap (λ (t : List ℕ). take end lines' ++ t) (f .is)
+            ∙ sym (append-assoc (take end lines') u (cut-lines (n + length u) (drop (length s) (drop i chunk))))
+            ∙ ap₂ (λ (t v : List ℕ). t ++ v) (sym put) (ap₂ cut-lines z d);
+        last = w .last ∙ f .last ∙ ap₂ column z d;
+      }
+
   module _ (h : i < length chunk) where
     abbrev x : ℕ
     x = getD chunk i 0
@@ -59,13 +108,14 @@ module _ {chunk lines lines' : List ℕ} {used end start i : ℕ} (w : Begun chu
     next = drop-cons chunk i 0 h ∙ ap (λ (j : ℕ). x ∷ drop j chunk) (sym (add-one i))
 
     -- a byte is put behind the others
-    put : (t : List ℕ) → take end lines' ++ (x ∷ t) ≡ take (end + 1) (set lines' end x) ++ t
-    put t =
-        sym (append-assoc (take end lines') (x ∷ []) t)
-        ∙ ap (λ (u : List ℕ). u ++ t) (sym (ap (λ (j : ℕ). take j (set lines' end x)) (add-one end) ∙ take-suc-set lines' end x (omega (arith, w .room, w .size))))
+    put : (y : ℕ) (t : List ℕ) → take end lines' ++ (y ∷ t) ≡ take (end + 1) (set lines' end y) ++ t
+    put y t =
+        sym (append-assoc (take end lines') (y ∷ []) t)
+        ∙ ap (λ (u : List ℕ). u ++ t) (sym (ap (λ (j : ℕ). take j (set lines' end y)) (add-one end) ∙ take-suc-set lines' end y (omega (arith, w .room, w .size))))
 
-    pub begun-feed : x ≡ 10 → Begun chunk lines (set lines' end x) used (end + 1) (end + 1) (i + 1)
-    begun-feed e =
+    pub begun-feed : (at : ℕ) → i ≡ feed-from chunk at → Begun chunk lines (set lines' end 10) used (end + 1) (end + 1) (i + 1)
+    begun-feed at f =
+        let e : x ≡ 10 = ap (λ (j : ℕ). getD chunk j 0) f ∙ feed-there chunk at (omega arith) in
         let (a, c) = cut-feed (end - start) x (drop (i + 1) chunk) (eq-eqb x 10 e) in
         let z : 0 ≡ end + 1 - (end + 1) = omega arith in
         record {
@@ -76,37 +126,8 @@ module _ {chunk lines lines' : List ℕ} {used end start i : ℕ} (w : Begun chu
           size = simp length-set (w .size);
           is = w .is
               ∙ ap (λ (t : List ℕ). take end lines' ++ t) (ap (cut-lines (end - start)) next ∙ a)
-              ∙ put (cut-lines 0 (drop (i + 1) chunk))
-              ∙ ap (λ (n : ℕ). take (end + 1) (set lines' end x) ++ cut-lines n (drop (i + 1) chunk)) z;
+              ∙ ap (λ (y : ℕ). take end lines' ++ (y ∷ cut-lines 0 (drop (i + 1) chunk))) e
+              ∙ put 10 (cut-lines 0 (drop (i + 1) chunk))
+              ∙ ap (λ (n : ℕ). take (end + 1) (set lines' end 10) ++ cut-lines n (drop (i + 1) chunk)) z;
           last = w .last ∙ ap (column (end - start)) next ∙ c ∙ ap (λ (n : ℕ). column n (drop (i + 1) chunk)) z;
-        }
-
-    pub begun-kept : (x ≡ 10 → ⊥) → end - start < 4097 → Begun chunk lines (set lines' end x) used (end + 1) start (i + 1)
-    begun-kept e l =
-        let (a, c) = cut-kept (end - start) x (drop (i + 1) chunk) (ne-eqb x 10 e) (lt-ltb (end - start) 4097 l) in
-        let z : end - start + 1 ≡ end + 1 - start = omega (arith, w .order) in
-        record {
-          passed = omega arith;
-          order = omega (arith, w .order);
-          cut = omega (arith, w .order);
-          room = omega (arith, w .room);
-          size = simp length-set (w .size);
-          is = w .is
-              ∙ ap (λ (t : List ℕ). take end lines' ++ t) (ap (cut-lines (end - start)) next ∙ a)
-              ∙ put (cut-lines (end - start + 1) (drop (i + 1) chunk))
-              ∙ ap (λ (n : ℕ). take (end + 1) (set lines' end x) ++ cut-lines n (drop (i + 1) chunk)) z;
-          last = w .last ∙ ap (column (end - start)) next ∙ c ∙ ap (λ (n : ℕ). column n (drop (i + 1) chunk)) z;
-        }
-
-    pub begun-dropped : (x ≡ 10 → ⊥) → 4097 ≤ end - start → Begun chunk lines lines' used end start (i + 1)
-    begun-dropped e l =
-        let (a, c) = cut-dropped (end - start) x (drop (i + 1) chunk) (ne-eqb x 10 e) (le-ltb (end - start) 4097 l) in
-        record {
-          passed = omega arith;
-          order = w .order;
-          cut = w .cut;
-          room = omega (arith, w .room);
-          size = w .size;
-          is = w .is ∙ ap (λ (t : List ℕ). take end lines' ++ t) (ap (cut-lines (end - start)) next ∙ a);
-          last = w .last ∙ ap (column (end - start)) next ∙ c;
         }

@@ -1,7 +1,9 @@
 // The lines that are kept of the input.
+use listing::feeds::line_end;
+use store::stack;
 ghost use Prim.Native.Nat.{_+_, _≤_};
 ghost use lib.ListN.{length};
-ghost use Rattle.console.specs.Kept.{Keeps};
+ghost use Rattle.console.specs.Kept.{Keeps, Puts};
 
 // So many bytes of a line are kept: enough to tell that it is too long for a symbol.
 const MOST_KEPT: usize = 4097;
@@ -10,6 +12,19 @@ const MOST_KEPT: usize = 4097;
 pub struct Kept {
     pub used: usize,
     pub start: usize,
+}
+
+// Puts the bytes of `part` at `end`, but no more than `left` of them. Returned is where they end.
+fn keep_part(part: &[u8], lines: &mut [u8], end: usize, left: usize) -> usize
+    requires { ⌜ end + length (now part) ≤ length (now lines) ⌝ }
+    ensures { λ r. ⌜ Puts left (now (part .entry)) (now (lines .entry)) (now (lines .exit)) end r ⌝ }
+{
+    if part.len() <= left {
+        stack::copy(lines, end, part);
+        return end + part.len();
+    }
+    stack::copy(lines, end, &part[..left]);
+    end + left
 }
 
 // Puts the bytes of `chunk` behind the `used` bytes of a line, each line cut to the bytes that are kept.
@@ -21,16 +36,16 @@ pub fn keep(chunk: &[u8], lines: &mut [u8], used: usize) -> Kept
     let mut start: usize = 0;
     let mut i: usize = 0;
     while i < chunk.len() {
-        let x = chunk[i];
-        if x == b'\n' {
-            lines[end] = x;
+        let feed = line_end(chunk, i);
+        let left = MOST_KEPT - (end - start);
+        end = keep_part(&chunk[i..feed], lines, end, left);
+        i = feed;
+        if i < chunk.len() {
+            lines[end] = b'\n';
             end += 1;
             start = end;
-        } else if end - start < MOST_KEPT {
-            lines[end] = x;
-            end += 1;
+            i += 1;
         }
-        i += 1;
     }
     Kept {
         used: end,

@@ -1,16 +1,17 @@
 -- Lines cut to 4,097 bytes, one more than a symbol has: their listing is the same. Assumes nothing.
-use mathlib.Core.Bool.{Bool, true, false}
+use mathlib.Core.Bool.{Bool, true, false, not}
 use mathlib.Core.List.{List, [], _∷_, _++_}
 use mathlib.Core.Path.{_≡_, refl, sym, ap, ap₂, _∙_}
 use Prim.Native.Nat.{ℕ, suc, _+_, _-_, _≤_, _<_}
 use native.Mathlib.Omega.{arith}
 use borrow.Author.Tests.{ltb-true, ltb-false, leb-true, leb-false}
 use lib.Dec.{eqb, leb, ltb}
-use lib.ListN.{length, take}
+use lib.ListN.{length, take, drop}
 use lib.Seq.{take-all, take-nil, length-take-le}
-use Rattle.grammar.specs.Text.{Text, if_then_else_}
+use Rattle.grammar.specs.Text.{Text, if_then_else_, run}
 use Rattle.listing.specs.Listing.{line-feed, line-for, listing-line, in-front, lines, listing}
 use Rattle.listing.specs.Kinds.{too-long}
+use Rattle.listing.specs.Lines.{before-feed}
 use Rattle.listing.specs.declared.listing.Kind.{Kind}
 
 abbrev pub most-kept : ℕ
@@ -60,6 +61,54 @@ cut-append n (x ∷ s) t = go (eqb x 10) (ltb n 4097) (cut-append 0 s t) (cut-ap
   go true r a c d = ap (λ (u : Text). x ∷ u) a
   go false true a c d = ap (λ (u : Text). x ∷ u) c
   go false false a c d = d
+
+-- a text whose front is kept as far as there is room for it
+module _ (n : ℕ) (t front : Text) where
+  abbrev cut-from : ℕ → Text
+  cut-from k = take k front ++ cut-lines (n + length (take k front)) (drop (length front) t)
+
+  abbrev column-from : ℕ → ℕ
+  column-from k = column (n + length (take k front)) (drop (length front) t)
+
+  pub record Fronted : Type 0 where
+    pub is : cut-lines n t ≡ take (4097 - n) front ++ cut-lines (n + length (take (4097 - n) front)) (drop (length front) t)
+    pub last : column n t ≡ column (n + length (take (4097 - n) front)) (drop (length front) t)
+
+no-front : (n : ℕ) (t : Text) → Fronted n t []
+no-front n t =
+    let e : [] ≡ take (4097 - n) [] = sym (take-nil (4097 - n)) in
+    record {
+      is = ap (λ (j : ℕ). cut-lines j t) {x = n} {y = n + 0} (omega arith) ∙ ap (λ (u : Text). u ++ cut-lines (n + length u) t) e;
+      last = ap (λ (j : ℕ). column j t) {x = n} {y = n + 0} (omega arith) ∙ ap (λ (u : Text). column (n + length u) t) e;
+    }
+
+-- the bytes up to a line feed are such a front: none of them ends the line
+pub line-front : (n : ℕ) (t : Text) → Fronted n t (before-feed t)
+unfolding run if_then_else_
+line-front n [] = no-front n []
+line-front n (x ∷ t) = go (before-feed t) (eqb x 10) refl (ltb n 4097) refl (line-front (n + 1) t) (line-front n t) where
+  go : (s : Text) (q : Bool) → eqb x 10 ≡ q → (r : Bool) → ltb n 4097 ≡ r → Fronted (n + 1) t s → Fronted n t s → Fronted n (x ∷ t) (if not q then x ∷ s else [])
+  go s true e r f a d = no-front n (x ∷ t)
+  go s false e true f a d =
+      let (p, q) = cut-kept n x t e f in
+      let k : ℕ = 4097 - (n + 1) in
+      let z : suc k ≡ 4097 - n = omega (arith, ltb-true n 4097 f) in
+      let y : n + 1 + length (take k s) ≡ n + suc (length (take k s)) = omega arith in
+      record {
+        is =
+            p
+            ∙ ap (λ (u : Text). x ∷ u) (a .is)
+            ∙ ap (λ (j : ℕ). x ∷ (take k s ++ cut-lines j (drop (length s) t))) y
+            ∙ ap (cut-from n (x ∷ t) (x ∷ s)) z;
+        last = q ∙ a .last ∙ ap (λ (j : ℕ). column j (drop (length s) t)) y ∙ ap (column-from n (x ∷ t) (x ∷ s)) z;
+      }
+  go s false e false f a d =
+      let (p, q) = cut-dropped n x t e f in
+      let z : 4097 - n ≡ 0 = omega (arith, ltb-false n 4097 f) in
+      record {
+        is = p ∙ d .is ∙ ap (cut-from n t s) z ∙ ap (cut-from n (x ∷ t) (x ∷ s)) (sym z);
+        last = q ∙ d .last ∙ ap (column-from n t s) z ∙ ap (column-from n (x ∷ t) (x ∷ s)) (sym z);
+      }
 
 -- ---------------------------------------------------------------- the lines that are kept
 

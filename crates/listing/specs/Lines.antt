@@ -4,11 +4,12 @@ use mathlib.Core.List.{List, [], _∷_, _++_, append-assoc, append-nil}
 use mathlib.Core.Path.{_≡_, refl, sym, ap, ap₂, _∙_, subst}
 use Prim.Native.Nat.{ℕ, suc, _+_, _-_, _≤_, _<_}
 use native.Mathlib.Omega.{arith}
-use borrow.Author.Tests.{le-leb, lt-leb}
+use borrow.Author.Tests.{ne-eqb, eqb-true, not-false, le-leb, lt-leb}
 use lib.Dec.{eqb}
-use lib.ListN.{length, take, drop, length-append, length-drop, drop-of-length-le}
+use lib.ListN.{length, take, drop, getD, length-append, length-drop, drop-of-length-le}
 use lib.Seq.{paste, paste-zero, take-at, drop-append-add, drop-drop, take-length, length-paste}
 use Rattle.grammar.specs.Text.{Text, if_then_else_, run}
+use Rattle.parser.specs.Runs.{run-more, run-stops}
 use Rattle.names.specs.Outcome.{Slices}
 use Rattle.listing.specs.Listing.{line, line-for, listing-line, in-front, lines, bytes-taken, listing, fitting}
 use Rattle.listing.specs.Printed.{Printed, prints, prints-not}
@@ -43,6 +44,22 @@ pub record Goes (kind : Kind) (out out' : Text) (ss : List Text) (r : Listed) : 
 abbrev pub before-feed : Text → Text
 before-feed t = run (λ x. not (eqb x 10)) t
 
+-- the place of the next line feed from a place on, or the end
+abbrev pub feed-from : Text → ℕ → ℕ
+feed-from s at = at + length (before-feed (drop at s))
+
+module _ (s : Text) where
+  pub feed-here : (at : ℕ) → feed-from s at ≡ feed-from s (at + 0)
+  feed-here at = ap (feed-from s) {x = at} {y = at + 0} (omega arith)
+
+  pub feed-more : (at i : ℕ) → at + i < length s → (getD s (at + i) 0 ≡ 10 → ⊥) → feed-from s (at + i) ≡ feed-from s (at + (i + 1))
+  feed-more at i h e =
+      omega (arith, ap length (run-more (λ x. not (eqb x 10)) s (at + i) h (ap not (ne-eqb _ _ e))))
+      ∙ ap (feed-from s) {x = at + i + 1} {y = at + (i + 1)} (omega arith)
+
+  pub feed-there : (at : ℕ) → feed-from s at < length s → getD s (feed-from s at) 0 ≡ 10
+  feed-there at h = eqb-true _ _ (not-false _ (run-stops (λ x. not (eqb x 10)) s at h))
+
 abbrev unless : Bool → ℕ → Text → Text
 unless q x t = if not q then x ∷ t else []
 
@@ -66,7 +83,7 @@ no-line (x ∷ t) h = go (eqb x 10) h (no-line t) where
   go true h f = absurd (omega arith)
   go false h f = ap (in-front x) (f (omega arith))
 
-feed-front : (t : Text) → take (length (before-feed t)) t ≡ before-feed t
+pub feed-front : (t : Text) → take (length (before-feed t)) t ≡ before-feed t
 unfolding run if_then_else_
 feed-front [] = refl
 feed-front (x ∷ t) = go (not (eqb x 10)) (feed-front t) where

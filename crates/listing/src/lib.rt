@@ -1,2 +1,3 @@
 // The listing of lines.
+pub mod feeds;
 pub mod listing;

@@ -1,4 +1,5 @@
 // The listing of lines: for each the number, the length and the name or the normal symbol that the symbol gets.
+use crate::feeds::line_end;
 use names::entry::Answer;
 use names::entry::demangle_zeroed;
 use store::stack;
@@ -150,7 +151,7 @@ fn write_lines(
     let mut at: usize = 0;
     let mut end: usize = 0;
     while at < input.len() {
-        let feed = parser::names::before(input, at, b'\n');
+        let feed = line_end(input, at);
         if input.len() <= feed {
             return Listed {
                 taken: at,

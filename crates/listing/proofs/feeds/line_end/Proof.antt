@@ -1,0 +1,64 @@
+-- `feeds::line_end` meets its contract. Invariant: the next line feed from `at` on is the next one from `end` on; the measure is what is left
+-- of the slice. Assumes nothing.
+use mathlib.Core.Path.{_≡_, refl, sym, _∙_}
+use Prim.Native.Nat.{_-_, _≤_}
+use native.Mathlib.Omega.{arith}
+use borrow.Author.Needs.{needs}
+use borrow.Author.Tests.{not-false}
+use lib.ListN.{length}
+use Rattle.listing.specs.Lines.{feed-from}
+use Rattle.listing.proofs.feeds.line_end.Statement.{statement}
+use Rattle.listing.proofs.feeds.line_end.Tie as tie
+
+abbrev Inv-loop : tie.InvT-loop
+Inv-loop s at end₀ end = (end ≤ length s) × (feed-from s at ≡ feed-from s end)
+
+abbrev μ-loop : tie.MeasureT-loop
+μ-loop s at end₀ end = length s - end
+
+loop-holds : tie.Need-loop-holds Inv-loop μ-loop
+loop-holds c = (c .before .pre, refl)
+
+sub-loop : tie.Need-sub-loop Inv-loop μ-loop
+sub-loop c = search needs
+
+no-feed-requires : tie.Need-no-feed-requires Inv-loop μ-loop
+no-feed-requires c κs = search needs
+
+before-requires : tie.Need-before-requires Inv-loop μ-loop
+before-requires c κs = search needs
+
+returns : tie.Need-returns Inv-loop μ-loop
+returns c = (c .before2 .ensures .0 ∙ sym (c .before .before .before .before .loop .inv .1), c .before2 .ensures .1)
+
+add-end : tie.Need-add-end Inv-loop μ-loop
+add-end c = search needs
+
+loop-less : tie.Need-loop-less Inv-loop μ-loop
+loop-less c = search needs
+
+loop-again : tie.Need-loop-again Inv-loop μ-loop
+loop-again c = (omega arith, c .before .before .before .loop .inv .1 ∙ c .before .no-feed .ensures (not-false _ (c .if1 .left)))
+
+before-requires-2 : tie.Need-before-requires-2 Inv-loop μ-loop
+before-requires-2 c κs = search needs
+
+returns-2 : tie.Need-returns-2 Inv-loop μ-loop
+returns-2 c = (c .before3 .ensures .0 ∙ sym (c .before .before .loop .inv .1), c .before3 .ensures .1)
+
+pub line-end-spec : {M : Type 1} → statement M
+line-end-spec =
+    tie.close
+    (tie.spec
+    Inv-loop
+    μ-loop
+    loop-holds
+    sub-loop
+    no-feed-requires
+    before-requires
+    returns
+    add-end
+    loop-less
+    loop-again
+    before-requires-2
+    returns-2)
