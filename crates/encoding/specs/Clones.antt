@@ -19,7 +19,7 @@ use Rattle.parser.specs.declared.state.Parser.{Parser}
 use Rattle.parser.specs.declared.state.Read.{Read}
 use Rattle.parser.specs.declared.state.Read.the-variants.{Text as read, Refused}
 use Rattle.parser.specs.States.{fresh, raised-to, moved-to}
-use Rattle.parser.specs.Places.{rest-none}
+use Rattle.grammar.specs.Places.{rest-none}
 use Rattle.parser.specs.Holds.{Memory, mem, low-bytes, high-bytes, low-ends, high-ends, Puts, keep, given-of}
 use Rattle.parser.specs.Halves.{give-short, give-long}
 use Rattle.parser.specs.Adds.{Adds, adds-none, adds-more}

@@ -22,7 +22,7 @@ use Rattle.parser.specs.declared.state.Parser.{Parser}
 use Rattle.parser.specs.declared.state.Peeked.the-variants as peeked-as
 use Rattle.parser.specs.declared.state.Read.{Read}
 use Rattle.parser.specs.States.{peeked}
-use Rattle.parser.specs.Places.{rest-none}
+use Rattle.grammar.specs.Places.{rest-none}
 use Rattle.parser.specs.Holds.{mem, part, Refines, Puts, given-of}
 use Rattle.parser.specs.Laws.{given-refines}
 use Rattle.parser.specs.Halves.{same-not}

@@ -22,7 +22,7 @@ use Rattle.grammar.specs.Words.{Picks, spelled, word-of}
 use Rattle.grammar.specs.declared.codes.Word.{Word}
 use Rattle.grammar.specs.declared.codes.Picked.{Picked}
 use Rattle.grammar.specs.declared.codes.Picked.the-variants.{At, Nothing}
-use Rattle.parser.specs.Places.{rest-some}
+use Rattle.grammar.specs.Places.{rest-some}
 use Rattle.encoding.specs.Encodings.{Labels}
 
 -- ---------------------------------------------------------------- what stands first

@@ -19,7 +19,7 @@ use Rattle.parser.specs.declared.state.Parser.{Parser}
 use Rattle.parser.specs.declared.state.Read.{Read}
 use Rattle.parser.specs.declared.state.Read.the-variants.{Text as read, Refused}
 use Rattle.parser.specs.States.{raised-to, moved-to}
-use Rattle.parser.specs.Places.{rest-none}
+use Rattle.grammar.specs.Places.{rest-none}
 use Rattle.parser.specs.Holds.{Memory, mem, window, Holds, Reads, Puts, keep, given-of}
 use Rattle.parser.specs.Laws.{by-state, holds-moved, holds-puts, Got, got}
 use Rattle.parser.specs.Adds.{puts-from}

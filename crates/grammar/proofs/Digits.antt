@@ -1,6 +1,6 @@
 -- Laws of digits: their values, the run of them that stands at a place, and the number that they write, up to 2^64 - 1. Assumes nothing.
-use mathlib.Core.Path.{_≡_, refl, sym, ap, _∙_}
-use mathlib.Core.Bool.{Bool, true, false}
+use mathlib.Core.Path.{_≡_, sym, ap, _∙_}
+use mathlib.Core.Bool.{true, false}
 use mathlib.Core.List.{[], _∷_}
 use mathlib.Core.Logic.{⊎-elim}
 use Prim.Native.Nat.{ℕ, _+_, _*_, _≤_, _<_, min}
@@ -8,11 +8,9 @@ use native.Mathlib.Nat.{mul-le-mul-left, min-le-left, eq-or-lt-of-le}
 use native.Mathlib.Omega.{arith}
 use borrow.Author.Tests.{lt-ltb, le-ltb, le-leb, lt-leb}
 use lib.ListN.{length, drop, getD}
-use lib.Seq.{drop-drop}
-use Rattle.grammar.specs.Text.{Text, if_then_else_, between, run, past, digit, digit-value, number}
-use Rattle.grammar.specs.Numbers.{most, Numbered}
-use Rattle.grammar.specs.declared.numbers.Number.{Number}
-use Rattle.grammar.proofs.Texts.{rest-some, rest-none}
+use Rattle.grammar.specs.Text.{Text, if_then_else_, between, run, digit, digit-value, number}
+use Rattle.grammar.specs.Numbers.{most}
+use Rattle.grammar.specs.Places.{rest-some, rest-none}
 
 -- a byte within a range, under it and over it
 module _ (lo hi c : ℕ) where
@@ -58,19 +56,3 @@ module _ (base : ℕ) (some : 1 ≤ base) where
       cut t (n * base + digit-value x)
       ∙ ap (λ (m : ℕ). min (number base m t) most) (cut-one n (digit-value x))
       ∙ sym (cut t (min n most * base + digit-value x))
-
--- what stands behind a number
-past-if : (p : ℕ → Bool) (q : Bool) (x : ℕ) (t : Text) → past p t ≡ drop (length (run p t)) t
-    → (if q then past p t else x ∷ t) ≡ drop (length (if q then x ∷ run p t else [])) (x ∷ t)
-unfolding if_then_else_
-past-if p true x t e = e
-past-if p false x t e = refl
-
-pub past-run : (p : ℕ → Bool) (t : Text) → past p t ≡ drop (length (run p t)) t
-unfolding past run
-past-run p [] = refl
-past-run p (x ∷ t) = past-if p (p x) x t (past-run p t)
-
-pub past-number : {base : ℕ} {s : Text} {at : ℕ} {r : Number} → Numbered base s at r → past (digit base) (drop at s) ≡ drop (r .next) s
-past-number {base} {s} {at} n =
-    past-run (digit base) (drop at s) ∙ drop-drop (length (run (digit base) (drop at s))) at s ∙ ap (λ (k : ℕ). drop k s) (sym (n .behind))

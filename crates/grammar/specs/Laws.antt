@@ -1,10 +1,12 @@
--- Laws of tests: what it means that one holds.
+-- Laws of tests, what it means that one holds, and of numbers in decimal.
 use mathlib.Core.Bool.{Bool, true, false, _&&_, _||_, true≢false}
-use mathlib.Core.List.{List, [], _∷_}
-use mathlib.Core.Path.{_≡_, refl, ap₂}
-use Prim.Native.Nat.{ℕ}
+use mathlib.Core.List.{[], _∷_, _++_}
+use mathlib.Core.Path.{_≡_, refl, ap, ap₂}
+use Prim.Native.Nat.{ℕ, zero, suc, _+_, _-_, _/_, _%_, _≤_, _<_}
+use native.Mathlib.Omega.{arith}
+use borrow.Author.Tests.{lt-ltb, le-ltb}
 use lib.Dec.{T, eqb, eqb→eq}
-use Rattle.grammar.specs.Text.{Text, same, starts}
+use Rattle.grammar.specs.Text.{Text, if_then_else_, same, starts, decimal}
 
 pub both : (p q : Bool) → T (p && q) → T p × T q
 both true q h = (tt, h)
@@ -29,3 +31,14 @@ pub starts-nothing : (t : Text) → starts t [] ≡ true
 unfolding starts
 starts-nothing [] = refl
 starts-nothing (x ∷ t) = refl
+
+-- one digit, and the last digit apart
+pub decimal-last : (k n : ℕ) → n < 10 → 1 ≤ k → decimal k n ≡ (48 + n) ∷ []
+unfolding decimal if_then_else_
+decimal-last zero n h l = absurd (omega arith)
+decimal-last (suc k) n h l = rw (lt-ltb n 10 h)
+
+pub decimal-more : (k n : ℕ) → 10 ≤ n → 1 ≤ k → decimal k n ≡ decimal (k - 1) (n / 10) ++ ((48 + n % 10) ∷ [])
+unfolding decimal if_then_else_
+decimal-more zero n h l = absurd (omega arith)
+decimal-more (suc k) n h l = rw (le-ltb n 10 h) (ap (λ (j : ℕ). decimal j (n / 10) ++ ((48 + n % 10) ∷ [])) {x = k} {y = suc k - 1} (omega arith))

@@ -4,6 +4,7 @@ pub mod Reader
 pub mod Grammar
 pub mod Names
 pub mod Laws
+pub mod Places
 pub mod Agree
 pub mod Fuel
 pub mod Loops

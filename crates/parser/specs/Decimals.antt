@@ -2,30 +2,20 @@
 use mathlib.Core.List.{List, [], _∷_, _++_, append-assoc, append-nil}
 use mathlib.Core.Path.{_≡_, sym, ap, ap₂, _∙_}
 use mathlib.Core.Logic.{⊎-elim}
-use Prim.Native.Nat.{ℕ, zero, suc, _+_, _-_, _/_, _%_, _^_, _≤_, _<_}
+use Prim.Native.Nat.{ℕ, suc, _+_, _-_, _/_, _%_, _^_, _≤_, _<_}
 use native.Mathlib.Nat.{div-lt-iff-lt-mul, eq-or-lt-of-le}
 use native.Mathlib.Numerals.{add-one}
 use native.Mathlib.Omega.{arith}
-use borrow.Author.Tests.{lt-ltb, le-ltb}
 use lib.ListN.{length, take, drop, set, length-set, length-drop, drop-of-length-le}
 use lib.Seq.{take-all, drop-cons, drop-set-lt, getD-set-same}
-use Rattle.grammar.specs.Text.{Text, if_then_else_, decimal}
+use Rattle.grammar.specs.Text.{Text, decimal}
+use Rattle.grammar.specs.Laws.{decimal-last, decimal-more}
 
 -- a byte written in front of the last ones
 pub set-front : (l : List ℕ) (i x : ℕ) → i < length l → drop i (set l i x) ≡ x ∷ drop (i + 1) l
 set-front l i x h =
     drop-cons (set l i x) i 0 (simp length-set h)
     ∙ ap₂ (λ (y : ℕ) (t : List ℕ). y ∷ t) (getD-set-same l i x 0 h) (drop-set-lt (suc i) l i x (omega arith) ∙ ap (λ (j : ℕ). drop j l) (sym (add-one i)))
-
-pub decimal-last : (k n : ℕ) → n < 10 → 1 ≤ k → decimal k n ≡ (48 + n) ∷ []
-unfolding decimal if_then_else_
-decimal-last zero n h l = absurd (omega arith)
-decimal-last (suc k) n h l = rw (lt-ltb n 10 h)
-
-pub decimal-more : (k n : ℕ) → 10 ≤ n → 1 ≤ k → decimal k n ≡ decimal (k - 1) (n / 10) ++ ((48 + n % 10) ∷ [])
-unfolding decimal if_then_else_
-decimal-more zero n h l = absurd (omega arith)
-decimal-more (suc k) n h l = rw (le-ltb n 10 h) (ap (λ (j : ℕ). decimal j (n / 10) ++ ((48 + n % 10) ∷ [])) {x = k} {y = suc k - 1} (omega arith))
 
 -- the last digits of the number i stand from `from` on, and those of `rest` are to be written before them
 pub record Written (i : ℕ) (digits : List ℕ) (from rest : ℕ) : Type 0 where

@@ -16,7 +16,7 @@ use Rattle.grammar.specs.Laws.{starts-nothing}
 use Rattle.parser.specs.declared.leaf.Skipped.{Skipped}
 use Rattle.parser.specs.declared.leaf.Skipped.the-variants as skipped-as
 use Rattle.parser.specs.declared.leaf.Class.{Class}
-use Rattle.parser.specs.Places.{rest-some, rest-none}
+use Rattle.grammar.specs.Places.{rest-some, rest-none}
 use Rattle.parser.specs.Runs.{run-more}
 
 -- the byte is a qualifier of a nested name

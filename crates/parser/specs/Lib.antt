@@ -1,5 +1,4 @@
 pub mod States
-pub mod Places
 pub mod Holds
 pub mod Laws
 pub mod Halves

@@ -23,7 +23,7 @@ use Rattle.parser.specs.declared.literal.Kind.{Kind}
 use Rattle.parser.specs.declared.literal.Kind.the-variants.{Truth, Suffix, Cast}
 use Rattle.parser.specs.Holds.{mem, part, Stands, Refines, Puts, Cuts}
 use Rattle.parser.specs.Laws.{by-state, holds-text, holds-puts, tail-puts}
-use Rattle.parser.specs.Places.{rest-some}
+use Rattle.grammar.specs.Places.{rest-some}
 use Rattle.parser.specs.Wraps.{stands-puts}
 
 -- how a literal is printed, by its type's text: a suffix is a part of ull

@@ -15,7 +15,7 @@ use Rattle.grammar.specs.Grammar.{⟨template-param⟩, ⟨substitution⟩, ind
 use Rattle.grammar.specs.Agree.{moved}
 use Rattle.grammar.specs.Fuel.{reading-is}
 use Rattle.grammar.specs.Finds.{all-of, by-word}
-use Rattle.parser.specs.Places.{rest-some, rest-none}
+use Rattle.grammar.specs.Places.{rest-some, rest-none}
 use Rattle.parser.specs.Runs.{every-at, need-here, need-not}
 
 pub index-none : (base : ℕ) (t : Text) → length t ≡ 0 → index base t ≡ 0

@@ -1,37 +1,21 @@
 -- The longest run of bytes at a place, what stands behind it, and the readers that go by it or by a word. Assumes nothing.
-use mathlib.Core.Bool.{Bool, true, false, _&&_}
+use mathlib.Core.Bool.{Bool, true, false}
 use mathlib.Core.List.{[], _∷_}
 use mathlib.Core.Option.{none, some}
 use mathlib.Core.Path.{_≡_, refl, ap, _∙_}
 use Prim.Native.Nat.{ℕ, suc, _+_, _≤_, _<_}
 use Prim.Native.String.{String}
 use native.Mathlib.Omega.{arith}
-use borrow.Author.Tests.{ltb-true, ltb-false}
-use lib.Dec.{eqb, ltb}
+use lib.Dec.{eqb}
 use lib.ListN.{length, drop, getD, length-drop}
 use lib.Seq.{drop-drop}
 use Rattle.grammar.specs.Text.{Text, b, if_then_else_, choose, starts, run, past}
 use Rattle.grammar.specs.Tables.{_⇒_}
 use Rattle.grammar.specs.Reader.{State, Result, ok, refused, Reader, onto, go-to, eat, need, first, any, every, find, by-code, cases}
 use Rattle.grammar.specs.Agree.{moved}
-use Rattle.parser.specs.Places.{rest-some, rest-none}
-
-and-true : (q : Bool) → (q && true) ≡ q
-and-true true = refl
-and-true false = refl
+use Rattle.grammar.specs.Places.{rest-some, rest-none, starts-byte, past-run}
 
 module _ (p : ℕ → Bool) where
-  past-if : (q : Bool) (x : ℕ) (t : Text) → past p t ≡ drop (length (run p t)) t
-      → (if q then past p t else x ∷ t) ≡ drop (length (if q then x ∷ run p t else [])) (x ∷ t)
-  unfolding if_then_else_
-  past-if true x t e = e
-  past-if false x t e = refl
-
-  past-run : (t : Text) → past p t ≡ drop (length (run p t)) t
-  unfolding past run
-  past-run [] = refl
-  past-run (x ∷ t) = past-if (p x) x t (past-run t)
-
   shorter-if : (q : Bool) (x : ℕ) (t : Text) → length (run p t) ≤ length t → length (if q then x ∷ run p t else []) ≤ suc (length t)
   unfolding if_then_else_
   shorter-if true x t h = omega arith
@@ -56,7 +40,7 @@ module _ (p : ℕ → Bool) where
   module _ (s : Text) (at : ℕ) where
     -- what stands behind a run at a place
     pub past-is : past p (drop at s) ≡ drop (at + length (run p (drop at s))) s
-    past-is = past-run (drop at s) ∙ drop-drop (length (run p (drop at s))) at s
+    past-is = past-run p (drop at s) ∙ drop-drop (length (run p (drop at s))) at s
 
     pub run-within : at ≤ length s → at + length (run p (drop at s)) ≤ length s
     run-within h = omega (arith, run-shorter (drop at s), length-drop at s)
@@ -82,11 +66,6 @@ module _ (p : ℕ → Bool) where
     every-at σ e = ap (λ (t : Text). ok (run p t) (moved (past p t) σ)) e ∙ ap (λ (t : Text). ok (run p (drop at s)) (moved t σ)) past-is
 
 -- a byte at a place
-starts-byte : (x c : ℕ) (t : Text) → starts (x ∷ t) (c ∷ []) ≡ eqb x c
-unfolding starts
-starts-byte x c [] = and-true (eqb x c)
-starts-byte x c (y ∷ t) = and-true (eqb x c)
-
 module _ (s : Text) (at c : ℕ) where
   pub starts-one : at < length s → starts (drop at s) (c ∷ []) ≡ eqb (getD s at 0) c
   starts-one h = ap (λ (t : Text). starts t (c ∷ [])) (rest-some s at h) ∙ starts-byte (getD s at 0) c (drop (at + 1) s)
@@ -94,13 +73,6 @@ module _ (s : Text) (at c : ℕ) where
   pub starts-none : length s ≤ at → starts (drop at s) (c ∷ []) ≡ false
   unfolding starts
   starts-none h = rw (rest-none s at h)
-
-  pub starts-inside : starts (drop at s) (c ∷ []) ≡ true → at < length s
-  starts-inside e = go (ltb at (length s)) refl
-    where
-      go : (q : Bool) → ltb at (length s) ≡ q → at < length s
-      go true f = ltb-true at (length s) f
-      go false f = let g = starts-none (ltb-false at (length s) f) in let z : _≡_ {A = ℕ} 0 1 = cc in absurd (omega arith)
 
 module _ (s : Text) (at : ℕ) (σ : State) (e : σ .rest ≡ drop at s) where
   pub any-at : at < length s → any σ ≡ ok (getD s at 0) (moved (drop (at + 1) s) σ)

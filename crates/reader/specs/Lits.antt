@@ -24,7 +24,8 @@ use Rattle.parser.specs.Adds.{puts-from}
 use Rattle.parser.specs.Wraps.{stands-puts}
 use Rattle.parser.specs.Halves.{newest-part}
 use Rattle.parser.specs.Literals.{Gives}
-use Rattle.parser.specs.Runs.{case-here, case-not, need-here, need-not, eat-here, eat-not, every-at, run-stops, starts-one, starts-none, starts-inside}
+use Rattle.grammar.specs.Places.{starts-inside}
+use Rattle.parser.specs.Runs.{case-here, case-not, need-here, need-not, eat-here, eat-not, every-at, run-stops, starts-one, starts-none}
 use Rattle.reader.specs.Opens.{call-moved}
 use Rattle.reader.specs.Arrays.{run-front}
 use Rattle.reader.specs.Standing.{wrote-moved, given-as, stands-sized, wrote-behind}

@@ -19,7 +19,8 @@ use Rattle.parser.specs.Laws.{by, answers, Got, got, refused-on, less, sooner, 
 use Rattle.parser.specs.Adds.{puts-from}
 use Rattle.parser.specs.Wraps.{stands-puts}
 use Rattle.parser.specs.Halves.{give-short, give-long}
-use Rattle.parser.specs.Runs.{need-here, need-not, starts-inside}
+use Rattle.grammar.specs.Places.{starts-inside}
+use Rattle.parser.specs.Runs.{need-here, need-not}
 use Rattle.reader.specs.declared.lists.Kind.the-variants.{Types}
 use Rattle.reader.specs.declared.lists.Texts.{Texts}
 use Rattle.reader.specs.declared.lists.Texts.the-variants as items-as

@@ -32,7 +32,7 @@ use Rattle.parser.specs.Holds.{Memory, mem, window, Holds, Refines, refuses, Re
 use Rattle.parser.specs.Laws.{by, by-state, got, refused-on, less, sooner, holds-moved}
 use Rattle.parser.specs.Adds.{puts-from, reads-moved}
 use Rattle.parser.specs.Runs.{case-here, case-not, past-is, past-stops}
-use Rattle.parser.specs.Places.{rest-some, rest-none}
+use Rattle.grammar.specs.Places.{rest-some, rest-none}
 use Rattle.parser.specs.Halves.{wrote-one}
 use Rattle.parser.specs.Leaves.{rest-two}
 use Rattle.parser.specs.Wraps.{picked-at, picked-none}

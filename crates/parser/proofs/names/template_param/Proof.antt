@@ -4,7 +4,7 @@ use native.Mathlib.Omega.{arith}
 use borrow.Author.Tests.{not-true, not-false}
 use Rattle.parser.specs.Holds.{refuses}
 use Rattle.parser.specs.Laws.{by}
-use Rattle.parser.specs.Runs.{starts-inside}
+use Rattle.grammar.specs.Places.{starts-inside}
 use Rattle.parser.specs.Adds.{reads-moved, ready-moved}
 use Rattle.parser.specs.References.{index-none, index-some, param-none, param-open, param-past, param-given}
 use borrow.Author.Needs.{needs}

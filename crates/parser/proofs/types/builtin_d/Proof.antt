@@ -13,7 +13,7 @@ use Rattle.grammar.specs.Reader.{State, Reader, refused, refuse, by-code, find,
 use Rattle.grammar.specs.Agree.{moved}
 use Rattle.grammar.specs.Finds.{by-word, all-of}
 use Rattle.parser.specs.Holds.{refuses}
-use Rattle.parser.specs.Places.{rest-some, rest-none}
+use Rattle.grammar.specs.Places.{rest-some, rest-none}
 use Rattle.parser.specs.Laws.{by, sooner, holds-moved}
 use Rattle.parser.specs.Wraps.{picked-at, picked-none, reads-at}
 use Rattle.parser.proofs.types.builtin_d.Statement.{statement}

@@ -7,7 +7,7 @@ use Rattle.parser.specs.Holds.{refuses, keep}
 use Rattle.parser.specs.Laws.{by, less, sooner, holds-moved}
 use Rattle.parser.specs.Adds.{ready-moved, puts-from, clean-by}
 use Rattle.parser.specs.Halves.{wrote-one}
-use Rattle.parser.specs.Runs.{starts-inside}
+use Rattle.grammar.specs.Places.{starts-inside}
 use Rattle.reader.specs.Opens.{call-moved}
 use Rattle.reader.specs.Closes.{ahead-is, arg-literal, arg-skipped, arg-open, arg-pack, arg-other, skips-to, skips-none}
 use borrow.Author.Needs.{needs}

@@ -10,7 +10,7 @@ use Rattle.parser.specs.Wraps.{stands-puts}
 use mathlib.Core.List.{[], _∷_}
 use lib.ListN.{length-append}
 use Rattle.grammar.specs.Text.{b, join}
-use Rattle.parser.specs.Runs.{starts-inside}
+use Rattle.grammar.specs.Places.{starts-inside}
 use Rattle.reader.specs.Brackets.{bracket-stands, stands-top, stands-last, angled-more, angled-plain, args-given}
 use Rattle.reader.specs.Closes.{got-list, list-refused, refuses-list, closed-no, ahead-is, then-refused, args-no, args-8, args-is, args-open}
 use Rattle.reader.specs.Standing.{given-as}

@@ -9,7 +9,7 @@ use Rattle.grammar.specs.Reader.{recorded}
 use Rattle.parser.specs.declared.state.Parser.{Parser}
 use Rattle.parser.specs.Holds.{refuses}
 use Rattle.parser.specs.Laws.{by, got, refused-on, holds-puts}
-use Rattle.parser.specs.Runs.{starts-inside}
+use Rattle.grammar.specs.Places.{starts-inside}
 use Rattle.reader.specs.Closes.{got-list, list-refused, refuses-list, closed-no, closed-yes, ahead-is, behind-is, then-refused, then-ok}
 use Rattle.reader.specs.Standing.{stands-moved, stands-least}
 use Rattle.reader.specs.Funcs.{function-open, function-of, func-stands, func-ended}

@@ -7,7 +7,7 @@ use Rattle.parser.specs.declared.state.Parser.{Parser}
 use Rattle.parser.specs.Holds.{refuses}
 use Rattle.parser.specs.Laws.{by}
 use Rattle.parser.specs.Adds.{clean-by}
-use Rattle.parser.specs.Runs.{starts-inside}
+use Rattle.grammar.specs.Places.{starts-inside}
 use Rattle.reader.specs.Lits.{local-none, local-ready, local-refused, local-got, local-string, local-name-ready, local-name-refused, local-name-got, local-given}
 use Prim.Native.Nat.{ℕ}
 use borrow.Author.Needs.{needs}

@@ -13,7 +13,7 @@ use Rattle.grammar.specs.Loops.{closed}
 use Rattle.parser.specs.declared.state.Parser.{Parser}
 use Rattle.parser.specs.Holds.{mem, part, Holds, refuses, given-of}
 use Rattle.parser.specs.States.{cv-to, templated-to}
-use Rattle.parser.specs.Runs.{starts-inside}
+use Rattle.grammar.specs.Places.{starts-inside}
 use Rattle.parser.specs.Laws.{by-state, holds-moved, by}
 use Rattle.reader.specs.Nested.{no-parts, prefixes, named, nested-4, nested-open, from-start, Prefixing, prefixing-start, prefixing-more, prefixed-more, ready-for, prefixed-4, prefixed-E, prefixed-refuses, further}
 use borrow.Author.Needs.{needs}
