@@ -12,7 +12,7 @@ use Rattle.store.specs.Stack.{zeros}
 use Rattle.store.specs.Table.{pad}
 use Rattle.store.specs.Lists.{length-pad, second-lent}
 use Rattle.catalogue.specs.Spelling.{refBytes}
-use Rattle.walk.specs.Sizes.{ref-length-5}
+use Rattle.walk.specs.Sizes.{ref-length}
 use Rattle.nodes.specs.Nodes.{
   Node,
   Notes,
@@ -102,7 +102,7 @@ module _ {s o n : Text} {p : Writer} {σ : Notes} (h : Holds s o n p σ) where
       index-most = omega (arith, h .firsts-count, firsts-most h)
 
       pub reference-room : from + length (refBytes i) ≤ 65536
-      reference-room = omega (arith, ref-length-5 i index-most, r .out, h .place, h .source)
+      reference-room = omega (arith, ref-length i index-most, r .out, h .place, h .source)
 
       pub settle-here : (d k : ℕ) (o' : Text) (q : Writer) → seek-by (eqb d) (firsts (σ .table)) ≡ some i → Wrote o₁ o' from k (refBytes i)
           → q ≡ written-to p k → Went s o' n (Took 0 0 5 from p) q (settled d from σ)
@@ -113,12 +113,12 @@ module _ {s o n : Text} {p : Writer} {σ : Notes} (h : Holds s o n p σ) where
             holds = with-out h (take from (σ .out) ++ refBytes i) o' k
                 (pad-wrote 65536 (take from (σ .out)) cleared (sym front) (omega (arith, front, reference-room)) w)
                 (omega (arith, front, w .end, length-append (take from (σ .out)) (refBytes i)))
-                (omega (arith, w .end, ref-length-5 i index-most, r .out));
+                (omega (arith, w .end, ref-length i index-most, r .out));
             limits = record {
               at = refl;
               nodes = omega arith;
               table = omega arith;
-              out = omega (arith, w .end, ref-length-5 i index-most);
+              out = omega (arith, w .end, ref-length i index-most);
               args = omega arith;
               stands = omega (arith, w .end);
             };

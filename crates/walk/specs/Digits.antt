@@ -9,6 +9,7 @@ use native.Mathlib.Omega.{arith}
 use lib.Dec.{eqb, leb, ltb}
 use borrow.Author.Tests.{ltb-true, ltb-false, leb-true, le-leb, lt-leb, lt-ltb, le-ltb, ne-eqb}
 use Rattle.grammar.specs.Text.{Text, if_then_else_, between, run, past, digit-value, digit, number, decimal}
+use Rattle.grammar.specs.Laws.{decimal-last}
 use Rattle.grammar.specs.Grammar.{index}
 use Rattle.catalogue.specs.Bytes.{all, first, and-left, and-right, or-cases, or-true, not-true, all-append}
 use Rattle.catalogue.specs.Numbers.{digit-low}
@@ -140,11 +141,6 @@ decimal-more k a (c ∷ d) h e g =
     decimal-more k (a * 10 + digit-value c) d (omega arith) (and-right (digit 10 c) (all (digit 10) d) e) g
     ∙ rw (decimal-snoc k a (digit-value c) h v1 (omega arith), append-assoc (decimal k a) ((48 + digit-value c) ∷ []) d, ← v0) refl
 
-decimal-one : (k a : ℕ) → a < 10 → 0 < k → decimal k a ≡ (48 + a) ∷ []
-unfolding decimal if_then_else_
-decimal-one zero a h l = absurd (omega arith)
-decimal-one (suc k) a h l = rw (lt-ltb a 10 h) refl
-
 -- decimal digits without a leading zero are the number's
 pub decimal-of : (k : ℕ) (d : Text) → first isZero d ≡ false → all (digit 10) d ≡ true → 1 ≤ number 10 0 d → number 10 0 d < k
     → decimal k (number 10 0 d) ≡ d
@@ -158,7 +154,7 @@ decimal-of k (c ∷ d) z e h g =
     let l = number-grows 10 (digit-value c) d (omega arith) in
     ap (decimal k) n
     ∙ decimal-more k (digit-value c) d (some (digit-value c) v0) (and-right (digit 10 c) (all (digit 10) d) e) (omega arith)
-    ∙ rw (decimal-one k (digit-value c) v1 (omega arith), ← v0) refl
+    ∙ rw (decimal-last k (digit-value c) v1 (omega arith), ← v0) refl
   where
     some : (v : ℕ) → c ≡ 48 + v → 1 ≤ v
     some zero p = absurd (false≢true (sym z ∙ rw p refl))
@@ -179,7 +175,7 @@ decimal-first (suc k) n s h l = go (λ t g g′. decimal-first k (n / 10) t g g�
 
 -- ---------------------------------------------------------------- base 36
 
-base36-one : (k a : ℕ) → a < 36 → base36 k a ≡ digitOf a ∷ []
+pub base36-one : (k a : ℕ) → a < 36 → base36 k a ≡ digitOf a ∷ []
 unfolding base36 if_then_else_
 base36-one zero a h = refl
 base36-one (suc k) a h = rw (lt-ltb a 36 h) refl

@@ -203,10 +203,6 @@ unfoldable pub walkedTypes : Walker Args
 walkedTypes vs k s = walkTypes (suc (length s)) vs k s
 
 module _ (vs : List Ty) (k : ℕ) where
-  pub walked-none : walked vs k [] ≡ bad
-  unfolding walked walkType
-  walked-none = refl
-
   pub walked-is : (c : ℕ) (s : Text) → walked vs k (c ∷ s) ≡ atLead (lead c) c vs k s walked walkedArgs walkedParts
   unfolding walked walkedArgs walkedParts walkType
   walked-is c s =
@@ -214,18 +210,10 @@ module _ (vs : List Ty) (k : ℕ) where
       (λ ws j r m. args-fuel (length s) (suc (length r)) ws j r (omega arith) (omega arith))
       (λ ws j r m. parts-fuel (length s) (length r) ws j r (omega arith) (omega arith))
 
-  pub parts-none : walkedParts vs k [] ≡ bad
-  unfolding walkedParts walkType
-  parts-none = refl
-
   pub parts-is : (c : ℕ) (s : Text) → walkedParts vs k (c ∷ s) ≡ atParts (lead c) c vs k s walkedMore
   unfolding walkedParts walkedMore walkType
   parts-is c s =
       parts-agree (lead c) c vs k s _ _ (λ t w ws j r m. more-fuel (length s) (suc (length r)) t w ws j r (omega arith) (omega arith))
-
-  pub more-none : (t : Ty) (w : Text) → walkedMore t w vs k [] ≡ bad
-  unfolding walkedMore walkType
-  more-none t w = refl
 
   pub more-is : (t : Ty) (w : Text) (c : ℕ) (s : Text)
       → walkedMore t w vs k (c ∷ s) ≡ atMore (eqb c (code "I")) c t w vs k s walkedArgs walkedMore

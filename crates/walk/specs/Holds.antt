@@ -100,10 +100,6 @@ module _ {A : Type 0} (P : Claim A) where
   of-choose (some x) f h = h x refl
   of-choose none f h = tt
 
-  pub of-is : (o : Walk A) (x : A) (w : Text) (vs : List Ty) (k : ℕ) (r : Text) → o ≡ got x w vs k r → Of o P → P x w vs k r
-  unfolding Of
-  of-is o x w vs k r e h = rw e at h
-
   pub of-map : (Q : Claim A) (o : Walk A) → ((x : A) (w : Text) (vs : List Ty) (k : ℕ) (r : Text) → Q x w vs k r → P x w vs k r) → Of o Q → Of o P
   unfolding Of
   of-map Q (got x w vs k r) f h = f x w vs k r h

@@ -11,11 +11,6 @@ pub mod Written
 pub mod Complete
 pub mod SymbolComplete
 pub mod Sound
-pub mod Keeps
 pub mod SymbolSound
 pub mod Equal
 pub mod Sizes
-pub mod Bound
-pub mod Lengths
-pub mod Loops
-pub mod Places

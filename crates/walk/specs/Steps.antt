@@ -14,12 +14,12 @@ use Rattle.catalogue.specs.Tree.{Letter, Wrap, Kind, Ty, Args, letter, wrap, ro
 use Rattle.catalogue.specs.Spelling.{refDigits, refBytes, lengthDigits, nameBytes, minus}
 use Rattle.catalogue.specs.Class.{nameOk, litOk, stands, push}
 use Rattle.catalogue.specs.Numbers.{Some}
-use Rattle.catalogue.specs.Recogniser.{rd, ifNext, leadLetter, leadWrap, leadDigit, leadS, leadN, leadL, leadNone, lead}
+use Rattle.catalogue.specs.Recogniser.{rd, ifNext, leadLetter, leadWrap, leadDigit, leadS, leadN, leadL, lead}
 use Rattle.catalogue.specs.ReadsBack.{lead-digit, digit-IE, digits-all, digits-some}
 use Rattle.walk.specs.Walk.{Walk, got, bad, Walker, next, when, with, name, reference, literal, wrote, in-brackets, withArgs, enter, enterNested, litBytes, endOr, atScoped, atName, atParams, atEnc, result, walkParts, walkEnc, walkSym}
 use Rattle.walk.specs.Holds.{Of, of-got, of-when, of-with, of-then, of-next, of-map}
 use Rattle.walk.specs.Leaves.{name-spelled, ref-spelled, lit-spelled}
-use Rattle.walk.specs.Fewer.{Fewer, Shrinks, ShrinksMore, name-fewer, type-fewer, parts-fewer, more-fewer, args-fewer}
+use Rattle.walk.specs.Fewer.{Fewer, Shrinks, name-fewer, parts-fewer}
 use Rattle.walk.specs.Fuel.{
   walked,
   walkedParts,
@@ -66,9 +66,6 @@ module _ (vs : List Ty) (k c : ℕ) (s : Text) where
 
   pub walked-L : lead c ≡ leadL → walked vs k (c ∷ s) ≡ with (literal s) (λ t r. got t (litBytes t) vs k r)
   walked-L h = walked-is vs k c s ∙ rw h refl
-
-  pub walked-bad : lead c ≡ leadNone → walked vs k (c ∷ s) ≡ bad
-  walked-bad h = walked-is vs k c s ∙ rw h refl
 
   pub parts-digit : lead c ≡ leadDigit
       → walkedParts vs k (c ∷ s) ≡ with (name (c ∷ s)) (λ n r. walkedMore (root n) (wrote (root n) vs (nameBytes n)) (push (root n) vs) k r)
@@ -157,21 +154,9 @@ walked-lit vs j k g v r p =
 
 -- ---------------------------------------------------------------- fewer bytes are left
 
-pub walked-fewer : Shrinks walked
-unfolding walked
-walked-fewer vs k s = type-fewer (length s) vs k s
-
 pub walkedParts-fewer : Shrinks walkedParts
 unfolding walkedParts
 walkedParts-fewer vs k s = parts-fewer (length s) vs k s
-
-pub walkedMore-fewer : ShrinksMore walkedMore
-unfolding walkedMore
-walkedMore-fewer t w vs k s = more-fewer (suc (length s)) t w vs k s
-
-pub walkedArgs-fewer : Shrinks walkedArgs
-unfolding walkedArgs
-walkedArgs-fewer vs k s = args-fewer (suc (length s)) vs k s
 
 -- ---------------------------------------------------------------- whole symbols
 

@@ -122,10 +122,6 @@ distinct vs = addAll [] vs
 unfoldable pub wrote : Ty → List Ty → Text → Text
 wrote u vs w = choose (seek u (distinct vs)) refBytes w
 
--- for at most 1,024 entries
-abbrev pub most-reference : ℕ
-most-reference = 4
-
 abbrev pub in-brackets : ℕ → Text → Text
 in-brackets c w = c ∷ (w ++ (code "E" ∷ []))
 

@@ -1,10 +1,12 @@
 // The one-pass reading of a catalogue symbol, which writes its normal symbol as it goes, is defined and its laws are proved in specs/.
-// The code here is the number of bytes that a reference has at most.
-ghost use mathlib.Core.Path.{_≡_};
-ghost use Rattle.walk.specs.Walk.{most-reference};
+// The code here is the most bytes that a reference has, of the entries that a symbol has room for.
+ghost use Prim.Native.Nat.{ℕ, _≤_};
+ghost use lib.ListN.{length};
+ghost use Rattle.grammar.specs.Names.{most-symbol-bytes};
+ghost use Rattle.catalogue.specs.Spelling.{refBytes};
 
 pub fn most_reference() -> usize
-    ensures { λ r. ⌜ r ≡ most-reference ⌝ }
+    ensures { λ r. ⌜ ((i : ℕ) → i ≤ most-symbol-bytes → length (refBytes i) ≤ r) ⌝ }
 {
-    4
+    5
 }
