@@ -8,11 +8,11 @@ use Rattle.catalogue.specs.Tree.{Kind, Ty, lit, kindCode}
 use Rattle.catalogue.specs.Class.{litOk}
 use Rattle.catalogue.specs.Recogniser.{Rd, rd, stop, withCode, allKinds}
 use Rattle.walk.specs.Walk.{name, reference, value as value-at, literal as literal-at}
-use Rattle.normal.specs.Places.{part}
+use Rattle.normal.specs.Parts.{part}
 use Rattle.normal.specs.declared.words.Named.{Named}
 use Rattle.normal.specs.declared.words.Named.the-variants.{At, Bad as no-name}
 use Rattle.normal.specs.declared.marks.Referred.{Referred}
-use Rattle.normal.specs.declared.marks.Referred.the-variants.{To as to-entry, Bad as no-entry}
+use Rattle.normal.specs.declared.marks.Referred.the-variants.{To as to-entry, Bad as no-reference}
 use Rattle.normal.specs.declared.marks.Valued.{Valued}
 use Rattle.normal.specs.declared.marks.Valued.the-variants.{To as to-value, Bad as no-value}
 
@@ -44,7 +44,7 @@ pub record RefAt (s : Text) (at i end : ℕ) : Type 0 where
 
 abbrev pub RefIs : Text → ℕ → Referred → Type 0
 RefIs s at (to-entry i end) = RefAt s at i end
-RefIs s at no-entry = reference (drop at s) ≡ stop
+RefIs s at no-reference = reference (drop at s) ≡ stop
 
 -- ---------------------------------------------------------------- literals
 

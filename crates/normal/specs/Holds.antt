@@ -1,7 +1,7 @@
 -- What the state and the work slices of the writing mean in the walk with numbers. `out` has 65,536 bytes: what is written. `notes` has
 -- 24,576 numbers: 16,384 for the nodes, four for each; 4,096 for the table; 4,096 for the table without later doubles. The rest is zero.
 use mathlib.Core.Bool.{Bool, true}
-use mathlib.Core.List.{List, [], _∷_, _++_}
+use mathlib.Core.List.{List, [], _∷_}
 use mathlib.Core.Path.{_≡_}
 use Prim.Native.Nat.{ℕ, _+_, _*_, _≤_, _<_}
 use Prim.Native.Char.{code}
@@ -36,7 +36,8 @@ use Rattle.nodes.specs.Nodes.{
   wrap-node,
   enter,
 }
-use Rattle.normal.specs.Places.{part}
+use Rattle.normal.specs.Parts.{part}
+use Rattle.normal.specs.Regions.{regions}
 use Rattle.normal.specs.States.{written-to}
 use Rattle.normal.specs.declared.state.Writer.{Writer}
 use Rattle.normal.specs.declared.state.Told.{Told}
@@ -71,7 +72,7 @@ Inside s [] = Unit {0}
 Inside s (x ∷ xs) = ((x .from ≤ x .to) × (x .to ≤ length s)) × Inside s xs
 
 abbrev pub noting : List Row → List ℕ → List ℕ
-noting rows ds = pad 16384 (flat rows) ++ (pad 4096 ds ++ pad 4096 (firsts ds))
+noting rows ds = regions (flat rows) ds (firsts ds)
 
 -- ---------------------------------------------------------------- the state
 
@@ -105,6 +106,10 @@ pub record Holds (s out notes : Text) (p : Writer) (σ : Notes) : Type 0 where
 
 abbrev pub Ready : Text → Text → Text → Writer → Type 0
 Ready s out notes p = (σ : Notes) × Holds s out notes p σ
+
+-- the number d has the tag c, whatever else is held
+abbrev pub Tag : Text → Writer → ℕ → ℕ → Type 0
+Tag notes p d c = (s o : Text) (σ : Notes) → Holds s o notes p σ → c ≡ tag-of (σ .nodes) d
 
 -- there is room for so many nodes, entries and bytes more
 pub record Room (n t o : ℕ) (p : Writer) : Type 0 where
@@ -159,17 +164,18 @@ pub record Went (s out notes : Text) (L : Writer → Type 0) (p : Writer) (σ : 
 abbrev pub Does : ℕ → ℕ → ℕ → ℕ → (Notes → Notes) → Text → Text → Text → Text → Text → Writer → Writer → Type 0
 Does x y z b f s o n o' n' p p' = (σ : Notes) → Holds s o n p σ → Went s o' n' (Took x y z b p) p' (f σ)
 
--- the next byte was written, and taken
-pub record Copied (p p' : Writer) : Type 0 where
-  pub at : p' .at ≡ p .at + 1
-  pub out : p' .out ≡ p .out + 1
+-- what is before the place `to` was read, k bytes were written, and nothing was noted
+pub record Passed (to k : ℕ) (p p' : Writer) : Type 0 where
+  pub at : p' .at ≡ to
+  pub out : p' .out ≡ p .out + k
   pub nodes : p' .nodes ≡ p .nodes
   pub table : p' .table ≡ p .table
   pub args : p' .args ≡ p .args
 
+-- the next byte was written, and taken
 abbrev pub Copies : Text → Text → Text → Writer → Writer → Type 0
 Copies s o o' p p' =
-    Copied p p' × ((n : Text) (σ : Notes) → Holds s o n p σ → (c : ℕ) (t : Text) → σ .rest ≡ c ∷ t → Holds s o' n p' (put (c ∷ []) (go-to t σ)))
+    Passed (p .at + 1) 1 p p' × ((n : Text) (σ : Notes) → Holds s o n p σ → (c : ℕ) (t : Text) → σ .rest ≡ c ∷ t → Holds s o' n p' (put (c ∷ []) (go-to t σ)))
 
 -- a text was written
 abbrev pub Puts : Text → Text → Text → Writer → Writer → Type 0

@@ -16,8 +16,9 @@ use Rattle.catalogue.specs.Tree.{Kind, Ty, lit, kindCode}
 use Rattle.catalogue.specs.Class.{wordByte, reserved, listed, nameOk, leadingZero, litOk}
 use Rattle.catalogue.specs.Recogniser.{Rd, rd, stop, ifNext, cut, readName, withCode, allKinds}
 use Rattle.walk.specs.Walk.{keep, name, capital, canonical, reference, value as value-at, literal as literal-at}
-use Rattle.normal.specs.Places.{part, part-more, rest-some, rest-none, run-is, past-is}
-use Rattle.normal.specs.Tests.{next-here, next-not, inside, first-zero, lt-or-le}
+use Rattle.normal.specs.Parts.{part, part-more, run-is, past-is}
+use Rattle.grammar.specs.Places.{rest-some, rest-none, starts-inside}
+use Rattle.normal.specs.Tests.{next-here, next-not, first-zero, lt-or-le}
 use Rattle.normal.specs.Answers.{RefAt, most-index, Value, ValueIs, LitIs, valid-by}
 use Rattle.normal.specs.Leads.{coded}
 use Rattle.normal.specs.declared.marks.Valued.{Valued}
@@ -129,7 +130,7 @@ module _ (s : Text) (at end : ℕ) (e : end ≡ at + length (run (digit 36) (dro
       is = ref-by h ∙ rw (p, q) refl;
       told = m;
       behind = omega arith;
-      inside = omega (arith, inside 95 s end h);
+      inside = omega (arith, starts-inside s end 95 h);
     }
 
 -- the index that is told finds what the index finds
@@ -176,7 +177,7 @@ module _ (s : Text) (kind : ℕ) (g : Bool) (from to : ℕ) (e : to ≡ from + l
       byte = coded kindCode kind allKinds k c;
       is = by-kind k ∙ next-here 69 (kept k) stop s to h ∙ rw f (ap (λ (j : ℕ). rd (lit k g (part s from j)) (drop (to + 1) s)) {x = to} {y = to + 1 - 1} (omega arith));
       some = omega arith;
-      inside = omega (arith, inside 69 s to h);
+      inside = omega (arith, starts-inside s to 69 h);
     }
 
     pub value-right : valid-by kind g (part s from to) ≡ true → Value (value-at (withCode kindCode kind allKinds) g (drop from s)) s (to + 1) kind g from

@@ -1,4 +1,4 @@
-pub mod Places
+pub mod Parts
 pub mod Tests
 pub mod Answers
 pub mod Leads
@@ -9,9 +9,12 @@ pub mod Holds
 pub mod Seeks
 pub mod Rows
 pub mod Regions
-pub mod Firsts
-pub mod Keeps
-pub mod Tags
-pub mod Changes
-pub mod HoldLaws
-pub mod ReadLaws
+pub mod Entries
+pub mod MayStand
+pub mod Slices
+pub mod Memory
+pub mod Moves
+pub mod Limits
+pub mod Told
+pub mod Steps
+pub mod LeafSteps

@@ -1,5 +1,5 @@
 -- Tests of bytes at a place, and of parts. Assumes nothing.
-use mathlib.Core.Bool.{Bool, true, false, false≢true, not, _&&_}
+use mathlib.Core.Bool.{Bool, true, false, not, _&&_}
 use mathlib.Core.List.{[], _∷_}
 use mathlib.Core.Logic.{_⊎_, inl, inr}
 use mathlib.Core.Path.{_≡_, refl, sym, ap, _∙_}
@@ -7,51 +7,35 @@ use Prim.Native.Nat.{ℕ, _+_, _≤_, _<_}
 use native.Mathlib.Omega.{arith}
 use borrow.Author.Tests.{ltb-true, ltb-false}
 use lib.Dec.{eqb, ltb}
-use lib.ListN.{length, take, drop, length-drop}
+use lib.ListN.{length, take, drop}
 use lib.Seq.{drop-drop}
 use Rattle.grammar.specs.Text.{Text, if_then_else_, same, starts, digit}
 use Rattle.grammar.specs.Laws.{starts-nothing}
-use Rattle.catalogue.specs.Bytes.{all, first, and-left, and-right, same-eq}
+use Rattle.grammar.specs.Places.{starts-byte}
+use Rattle.grammar.specs.NameSteps.{starts-one}
+use Rattle.catalogue.specs.Bytes.{all, first, and-left, and-right, same-eq, eqb-yes}
 use Rattle.catalogue.specs.Class.{leadingZero, numeral}
 use Rattle.catalogue.specs.Recogniser.{ifNext}
+use Rattle.catalogue.specs.ReadsBack.{next-no}
 
 -- ---------------------------------------------------------------- a byte at a place
 
+pub byte-next : {A : Type 0} {c : ℕ} {t r : Text} (f : Text → A) (x : A) → t ≡ c ∷ r → ifNext c t f x ≡ f r
+unfolding if_then_else_
+byte-next {A} {c} {t} {r} f x e = rw (e, eqb-yes c) refl
+
 module _ (c : ℕ) where
-  some-there : (t : Text) → starts t (c ∷ []) ≡ true → 0 < length t
-  unfolding starts
-  some-there [] h = absurd (false≢true h)
-  some-there (d ∷ t) h = omega arith
-
-  pub inside : (s : Text) (at : ℕ) → starts (drop at s) (c ∷ []) ≡ true → at < length s
-  inside s at h = omega (arith, some-there (drop at s) h, length-drop at s)
-
-  pub first-is : (d : ℕ) (t : Text) → starts (d ∷ t) (c ∷ []) ≡ eqb d c
-  unfolding starts
-  first-is d t = rw (starts-nothing t) (go (eqb d c))
-    where
-      go : (q : Bool) → (q && true) ≡ q
-      go true = refl
-      go false = refl
-
-  module _ {A : Type 0} (f : Text → A) (x : A) where
-    next-yes : (t : Text) → starts t (c ∷ []) ≡ true → ifNext c t f x ≡ f (drop 1 t)
-    unfolding starts if_then_else_
-    next-yes [] h = absurd (false≢true h)
-    next-yes (d ∷ t) h = rw (sym (first-is d t) ∙ h) refl
-
-    pub next-not : (t : Text) → starts t (c ∷ []) ≡ false → ifNext c t f x ≡ x
-    unfolding if_then_else_
-    next-not [] h = refl
-    next-not (d ∷ t) h = rw (sym (first-is d t) ∙ h) refl
-
-    pub next-here : (s : Text) (at : ℕ) → starts (drop at s) (c ∷ []) ≡ true → ifNext c (drop at s) f x ≡ f (drop (at + 1) s)
-    next-here s at h = next-yes (drop at s) h ∙ ap f (drop-drop 1 at s)
-
   pub first-zero : (t : Text) → first (λ d. eqb d c) t ≡ starts t (c ∷ [])
   unfolding starts
   first-zero [] = refl
-  first-zero (d ∷ t) = sym (first-is d t)
+  first-zero (d ∷ t) = sym (starts-byte d c t)
+
+  module _ {A : Type 0} (f : Text → A) (x : A) where
+    pub next-not : (t : Text) → starts t (c ∷ []) ≡ false → ifNext c t f x ≡ x
+    next-not t h = next-no c t f x (first-zero t ∙ h)
+
+    pub next-here : (s : Text) (at : ℕ) → starts (drop at s) (c ∷ []) ≡ true → ifNext c (drop at s) f x ≡ f (drop (at + 1) s)
+    next-here s at h = byte-next f x (starts-one (drop at s) c h) ∙ ap f (drop-drop 1 at s)
 
 -- ---------------------------------------------------------------- a part and a word
 

@@ -1,15 +1,15 @@
 -- A text written into another from a place on, and the digits of small numbers. Assumes nothing.
 use mathlib.Core.Path.{_≡_, refl, sym, ap, subst, _∙_}
-use mathlib.Core.Logic.{⊎-elim}
 use mathlib.Core.List.{[], _∷_, _++_, append-assoc}
 use Prim.Native.Nat.{ℕ, zero, suc, _+_, _-_, _/_, _%_, _≤_, _<_}
 use native.Mathlib.Omega.{arith}
-use borrow.Author.Tests.{lt-ltb, le-ltb}
+use borrow.Author.Tests.{le-ltb}
 use lib.ListN.{length, take, drop, set, length-append}
 use lib.Seq.{sets-eq, take-at, drop-at, drop-drop, length-take-le}
 use Rattle.grammar.specs.Text.{Text, if_then_else_, decimal}
-use Rattle.catalogue.specs.Spelling.{digitOf, base36, refDigits, refBytes, lengthDigits, nameBytes}
-use Rattle.normal.specs.Tests.{lt-or-le}
+use Rattle.grammar.specs.Laws.{decimal-last, decimal-more}
+use Rattle.catalogue.specs.Spelling.{digitOf, base36, refDigits, refBytes}
+use Rattle.walk.specs.Digits.{base36-one}
 
 pub record Wrote (out out' : Text) (at r : ℕ) (w : Text) : Type 0 where
   pub is : out' ≡ take at out ++ w ++ drop (at + length w) out
@@ -88,54 +88,37 @@ wrote-both {o} {o'} {o''} {v} {w} {at} {m} {r} h p q =
 
 -- ---------------------------------------------------------------- decimal
 
-decimal-last : (k n : ℕ) → n < 10 → 1 ≤ k → decimal k n ≡ (48 + n) ∷ []
-unfolding decimal if_then_else_
-decimal-last zero n h l = absurd (omega arith)
-decimal-last (suc k) n h l = rw (lt-ltb n 10 h) refl
-
-decimal-more : (k n : ℕ) → 10 ≤ n → decimal (suc k) n ≡ decimal k (n / 10) ++ ((48 + n % 10) ∷ [])
-unfolding decimal if_then_else_
-decimal-more k n h = rw (le-ltb n 10 h) refl
-
 pub decimal-one : (n : ℕ) → n < 10 → decimal (suc n) n ≡ (48 + n) ∷ []
 decimal-one n h = decimal-last (suc n) n h (omega arith)
 
-two-digits : (k n : ℕ) → 10 ≤ n → n < 100 → decimal (suc (suc k)) n ≡ (48 + n / 10) ∷ (48 + n % 10) ∷ []
-two-digits k n l h = decimal-more (suc k) n l ∙ ap (λ (t : Text). t ++ ((48 + n % 10) ∷ [])) (decimal-last (suc k) (n / 10) (omega arith) (omega arith))
+two-digits : (k n : ℕ) → 2 ≤ k → 10 ≤ n → n < 100 → decimal k n ≡ (48 + n / 10) ∷ (48 + n % 10) ∷ []
+two-digits k n m l h =
+    decimal-more k n l (omega arith) ∙ ap (λ (t : Text). t ++ ((48 + n % 10) ∷ [])) (decimal-last (k - 1) (n / 10) (omega arith) (omega arith))
 
-three-digits : (k n : ℕ) → 100 ≤ n → n < 1000 → decimal (suc (suc (suc k))) n ≡ (48 + n / 10 / 10) ∷ (48 + n / 10 % 10) ∷ (48 + n % 10) ∷ []
-three-digits k n l h =
-    decimal-more (suc (suc k)) n (omega arith) ∙ ap (λ (t : Text). t ++ ((48 + n % 10) ∷ [])) (two-digits k (n / 10) (omega arith) (omega arith))
-
-four-digits : (k n : ℕ) → 1000 ≤ n → n < 10000
-    → decimal (suc (suc (suc (suc k)))) n ≡ (48 + n / 10 / 10 / 10) ∷ (48 + n / 10 / 10 % 10) ∷ (48 + n / 10 % 10) ∷ (48 + n % 10) ∷ []
-four-digits k n l h =
-    decimal-more (suc (suc (suc k))) n (omega arith) ∙ ap (λ (t : Text). t ++ ((48 + n % 10) ∷ [])) (three-digits k (n / 10) (omega arith) (omega arith))
+three-digits : (k n : ℕ) → 3 ≤ k → 100 ≤ n → n < 1000 → decimal k n ≡ (48 + n / 10 / 10) ∷ (48 + n / 10 % 10) ∷ (48 + n % 10) ∷ []
+three-digits k n m l h =
+    decimal-more k n (omega arith) (omega arith) ∙ ap (λ (t : Text). t ++ ((48 + n % 10) ∷ [])) (two-digits (k - 1) (n / 10) (omega arith) (omega arith) (omega arith))
 
 module _ (n : ℕ) where
   pub decimal-two : 10 ≤ n → n < 100 → decimal (suc n) n ≡ (48 + n / 10) ∷ (48 + n % 10) ∷ []
-  decimal-two l h = ap (λ (k : ℕ). decimal k n) {x = suc n} {y = suc (suc (n - 1))} (omega arith) ∙ two-digits (n - 1) n l h
+  decimal-two l h = two-digits (suc n) n (omega arith) l h
 
   pub decimal-three : 100 ≤ n → n < 1000 → decimal (suc n) n ≡ (48 + n / 10 / 10) ∷ (48 + n / 10 % 10) ∷ (48 + n % 10) ∷ []
-  decimal-three l h = ap (λ (k : ℕ). decimal k n) {x = suc n} {y = suc (suc (suc (n - 2)))} (omega arith) ∙ three-digits (n - 2) n l h
+  decimal-three l h = three-digits (suc n) n (omega arith) l h
 
   pub decimal-four : 1000 ≤ n → n < 10000
       → decimal (suc n) n ≡ (48 + n / 10 / 10 / 10) ∷ (48 + n / 10 / 10 % 10) ∷ (48 + n / 10 % 10) ∷ (48 + n % 10) ∷ []
-  decimal-four l h = ap (λ (k : ℕ). decimal k n) {x = suc n} {y = suc (suc (suc (suc (n - 3))))} (omega arith) ∙ four-digits (n - 3) n l h
+  decimal-four l h =
+      decimal-more (suc n) n (omega arith) (omega arith) ∙ ap (λ (t : Text). t ++ ((48 + n % 10) ∷ [])) (three-digits (suc n - 1) (n / 10) (omega arith) (omega arith) (omega arith))
 
 -- ---------------------------------------------------------------- references
-
-base36-last : (k n : ℕ) → n < 36 → base36 k n ≡ digitOf n ∷ []
-unfolding base36 if_then_else_
-base36-last zero n h = refl
-base36-last (suc k) n h = rw (lt-ltb n 36 h) refl
 
 base36-more : (k n : ℕ) → 36 ≤ n → base36 (suc k) n ≡ base36 k (n / 36) ++ (digitOf (n % 36) ∷ [])
 unfolding base36 if_then_else_
 base36-more k n h = rw (le-ltb n 36 h) refl
 
 base36-two : (k n : ℕ) → 36 ≤ n → n < 1296 → base36 (suc k) n ≡ digitOf (n / 36) ∷ digitOf (n % 36) ∷ []
-base36-two k n h l = base36-more k n h ∙ ap (λ (d : Text). d ++ (digitOf (n % 36) ∷ [])) (base36-last k (n / 36) (omega arith))
+base36-two k n h l = base36-more k n h ∙ ap (λ (d : Text). d ++ (digitOf (n % 36) ∷ [])) (base36-one k (n / 36) (omega arith))
 
 pub ref-none : (i : ℕ) → i ≡ 0 → refBytes i ≡ 83 ∷ 95 ∷ []
 unfolding refDigits
@@ -149,7 +132,7 @@ ref-digits (suc i) h = ap (λ (j : ℕ). base36 j j) {x = i} {y = suc i - 1} (om
 
 module _ (i : ℕ) (some : 0 < i) where
   pub ref-one : i - 1 < 36 → refBytes i ≡ 83 ∷ digitOf (i - 1) ∷ 95 ∷ []
-  ref-one h = ap (λ (d : Text). 83 ∷ (d ++ (95 ∷ []))) (ref-digits i some ∙ base36-last (i - 1) (i - 1) h)
+  ref-one h = ap (λ (d : Text). 83 ∷ (d ++ (95 ∷ []))) (ref-digits i some ∙ base36-one (i - 1) (i - 1) h)
 
   pub ref-two : 36 ≤ i - 1 → i - 1 < 1296 → refBytes i ≡ 83 ∷ digitOf ((i - 1) / 36) ∷ digitOf ((i - 1) % 36) ∷ 95 ∷ []
   ref-two h l =
@@ -166,17 +149,3 @@ module _ (i : ℕ) (some : 0 < i) where
 
 pub three-as : {a b c x y z : ℕ} → a ≡ x → b ≡ y → c ≡ z → _≡_ {A = Text} (83 ∷ a ∷ b ∷ c ∷ 95 ∷ []) (83 ∷ x ∷ y ∷ z ∷ 95 ∷ [])
 three-as p q r = λ i. 83 ∷ p i ∷ q i ∷ r i ∷ 95 ∷ []
-
--- ---------------------------------------------------------------- how long they are
-
-pub name-short : (n : Text) → length n < 10000 → length (nameBytes n) ≤ length n + 4
-name-short n h = let e = length-append (lengthDigits n) n in ⊎-elim
-    (λ (l : length n < 10). omega (arith, ap length (decimal-one (length n) l)))
-    (λ (l : 10 ≤ length n). ⊎-elim
-    (λ (m : length n < 100). omega (arith, ap length (decimal-two (length n) l m)))
-    (λ (m : 100 ≤ length n). ⊎-elim
-    (λ (k : length n < 1000). omega (arith, ap length (decimal-three (length n) m k)))
-    (λ (k : 1000 ≤ length n). omega (arith, ap length (decimal-four (length n) k h)))
-    (lt-or-le (length n) 1000))
-    (lt-or-le (length n) 100))
-    (lt-or-le (length n) 10)

@@ -11,7 +11,7 @@ ghost use Rattle.catalogue.specs.Bytes.{all};
 ghost use Rattle.catalogue.specs.Tree.{kb, ki, kj};
 ghost use Rattle.catalogue.specs.Class.{leadingZero, numeral as numeral-ok, litOk};
 ghost use Rattle.walk.specs.Walk.{capital};
-ghost use Rattle.normal.specs.Places.{part};
+ghost use Rattle.normal.specs.Parts.{part};
 ghost use Rattle.normal.specs.Answers.{RefIs, ValueIs, LitIs, valid-by};
 
 // The index, 65536 for all that are larger, and the place behind `_`.

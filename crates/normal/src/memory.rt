@@ -12,10 +12,10 @@ ghost use lib.Dec.{eqb};
 ghost use lib.ListN.{length, take, getD, getElem?};
 ghost use Rattle.grammar.specs.Text.{Text};
 ghost use Rattle.catalogue.specs.Spelling.{nameBytes};
-ghost use Rattle.nodes.specs.Nodes.{Notes, node, same-node, tag-of, last-is, settled, pushed};
-ghost use Rattle.normal.specs.Places.{part};
+ghost use Rattle.nodes.specs.Nodes.{Notes, node, same-node, last-is, settled, pushed};
+ghost use Rattle.normal.specs.Parts.{part};
 ghost use Rattle.normal.specs.Seeks.{Sought};
-ghost use Rattle.normal.specs.Holds.{Holds, Ready, Room, Steps, Does, Puts, Inside, node-in, nodes-in, notes-node, most-number};
+ghost use Rattle.normal.specs.Holds.{Holds, Ready, Tag, Room, Steps, Does, Puts, Inside, node-in, nodes-in, notes-node, most-number};
 ghost use Rattle.normal.specs.Rows.{row-at, rows-of};
 
 // A byte is written.
@@ -52,7 +52,7 @@ pub fn put_name(out: &mut [u8], p: Writer, s: &[u8], from: usize, to: usize) -> 
 // The tag of the tree with the number d.
 pub fn tag_of(notes: &[u16], p: Writer, d: usize) -> usize
     requires { ⌜ ((s : Text) × ((o : Text) × Ready s o (now notes) p)) ⌝ }
-    ensures { λ r. ⌜ ((s o : Text) (σ : Notes) → Holds s o (now (notes .entry)) p σ → r ≡ tag-of (σ .nodes) d) ⌝ }
+    ensures { λ r. ⌜ Tag (now (notes .entry)) p d r ⌝ }
 {
     if d < Writer::LEAST {
         return 0;

@@ -8,7 +8,7 @@ ghost use lib.ListN.{length, drop};
 ghost use Rattle.grammar.specs.Text.{same};
 ghost use Rattle.catalogue.specs.Bytes.{all};
 ghost use Rattle.catalogue.specs.Class.{wordByte, reserved, listed, nameOk};
-ghost use Rattle.normal.specs.Places.{part};
+ghost use Rattle.normal.specs.Parts.{part};
 ghost use Rattle.normal.specs.Answers.{NameIs};
 
 pub enum Named {

@@ -5,7 +5,7 @@ ghost use Prim.Native.Nat.{suc, _+_, _-_, _≤_, _<_};
 ghost use lib.ListN.{length};
 ghost use Rattle.grammar.specs.Text.{decimal};
 ghost use Rattle.catalogue.specs.Spelling.{digitOf, refBytes, nameBytes};
-ghost use Rattle.normal.specs.Places.{part};
+ghost use Rattle.normal.specs.Parts.{part};
 ghost use Rattle.normal.specs.Written.{Wrote};
 
 // A digit or a capital.

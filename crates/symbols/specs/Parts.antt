@@ -1,5 +1,4 @@
 -- What the parts of the entry promise.
-use mathlib.Core.List.{_++_}
 use mathlib.Core.Path.{_≡_}
 use Prim.Native.Nat.{ℕ, _*_, _≤_}
 use lib.ListN.{length}
@@ -8,10 +7,10 @@ use Rattle.grammar.specs.Names.{demangle, most-symbol-bytes, number-of, within}
 use Rattle.catalogue.specs.Recogniser.{classify}
 use Rattle.catalogue.specs.Answer.{normalIn, normal-told}
 use Rattle.store.specs.Stack.{zeros, Clean}
-use Rattle.store.specs.Table.{pad}
 use Rattle.names.specs.Outcome.{Slices}
 use Rattle.names.specs.Printed.{Tells}
 use Rattle.names.specs.declared.entry.Answer.{Answer}
+use Rattle.normal.specs.Regions.{regions}
 use Rattle.normal.specs.declared.state.Writer.{Writer}
 
 -- the work slices have their least lengths, or more
@@ -39,7 +38,7 @@ pub record Used (text notes : Text) (p : Writer) : Type 0 where
   pub nodes : Text
   pub table : Text
   pub firsts : Text
-  pub notes-are : notes ≡ pad 16384 nodes ++ (pad 4096 table ++ pad 4096 firsts)
+  pub notes-are : notes ≡ regions nodes table firsts
   pub nodes-count : 4 * p .nodes ≡ length nodes
   pub table-count : p .table ≡ length table
   pub firsts-count : p .firsts ≡ length firsts

@@ -1,21 +1,23 @@
 -- Laws of what a writing left: the normal symbol stands in front, and what is counted is all that is to be cleared. Assumes nothing.
-use mathlib.Core.List.{List, [], _∷_, _++_, append-assoc, append-nil}
+use mathlib.Core.List.{[], _++_, append-assoc, append-nil}
 use mathlib.Core.Option.{Option, none, some}
 use mathlib.Core.Path.{_≡_, refl, sym, ap, ap₂, _∙_}
 use Prim.Native.Nat.{ℕ, _+_, _-_, _*_, _≤_}
 use native.Mathlib.Omega.{arith}
-use lib.ListN.{length, take, drop, length-append, length-drop}
+use lib.ListN.{length, take, drop, length-drop}
 use lib.Seq.{take-at, drop-at, drop-append-add, drop-drop, length-take-le}
 use Rattle.grammar.specs.Text.{Text}
 use Rattle.store.specs.Stack.{zeros}
 use Rattle.store.specs.Table.{pad}
-use Rattle.store.specs.Lists.{length-zeros, zeros-zeros, length-pad, drop-pad}
+use Rattle.store.specs.Lists.{length-zeros, zeros-zeros, drop-pad}
 use Rattle.names.specs.Wiped.{stack-zero}
-use Rattle.nodes.specs.Nodes.{Notes, firsts, with-new, table-place, add, add-all}
+use Rattle.nodes.specs.Nodes.{Notes, firsts}
 use Rattle.normal.specs.declared.state.Writer.{Writer}
 use Rattle.writer.specs.declared.symbol.Written.{Written}
 use Rattle.writer.specs.declared.symbol.Written.the-variants.{Symbol, Bad}
-use Rattle.normal.specs.Holds.{Row, flat, Holds}
+use Rattle.normal.specs.Holds.{flat, Holds}
+use Rattle.normal.specs.Regions.{regions-size}
+use Rattle.normal.specs.Slices.{flat-size, flat-most, table-most, firsts-most, out-most, out-size}
 use Rattle.writer.specs.Writes.{Writes, writes, outside}
 use Rattle.symbols.specs.Parts.{Used}
 
@@ -50,12 +52,7 @@ module _ (a w c : Text) (m : ℕ) (h : length w ≤ m) where
 
 module _ {text notes : Text} {p : Writer} (u : Used text notes p) where
   pub used-length : length notes ≡ 24576
-  used-length =
-      ap length (u .notes-are)
-      ∙ length-append (pad 16384 (u .nodes)) (pad 4096 (u .table) ++ pad 4096 (u .firsts))
-      ∙ ap₂ (λ (x y : ℕ). x + y) (length-pad 16384 (u .nodes) (u .few-nodes))
-      (length-append (pad 4096 (u .table)) (pad 4096 (u .firsts))
-      ∙ ap₂ (λ (x y : ℕ). x + y) (length-pad 4096 (u .table) (u .few-entries)) (length-pad 4096 (u .firsts) (u .few-firsts)))
+  used-length = ap length (u .notes-are) ∙ regions-size (u .nodes) (u .table) (u .firsts) (u .few-nodes) (u .few-entries) (u .few-firsts)
 
   pub used-text : (z : Text) → z ≡ zeros (length (take (p .out) text)) → z ++ drop (p .out) text ≡ zeros 65536
   used-text = stack-zero (u .written)
@@ -76,55 +73,34 @@ module _ {text notes : Text} {p : Writer} (u : Used text notes p) where
       ∙ ap (λ (v : Text). zeros 20480 ++ v) (append-nil (zeros 4096))
       ∙ zeros-zeros 20480 4096
 
--- ---- what is counted
-
-add-length : (o : Option ℕ) (d : ℕ) (ds : List ℕ) → length (with-new o d ds) ≤ length ds + 1
-add-length none d ds = omega (arith, length-append ds (d ∷ []))
-add-length (some i) d ds = omega arith
-
-add-all-length : (ds es : List ℕ) → length (add-all ds es) ≤ length ds + length es
-unfolding add-all add
-add-all-length ds [] = omega arith
-add-all-length ds (e ∷ es) = omega (arith, add-all-length (add e ds) es, add-length (table-place e ds) e ds)
-
-flat-length : (rows : List Row) → length (flat rows) ≡ 4 * length rows
-unfolding flat
-flat-length [] = refl
-flat-length (x ∷ xs) = omega (arith, flat-length xs)
-
 -- ---- what the writing left
 
 module _ {s out notes : Text} {p : Writer} {σ : Notes} (h : Holds s out notes p σ) where
-  few : (p .out ≤ 65536) × (p .table ≤ 4096)
-  few = (omega (arith, h .short, h .place, h .source), omega (arith, h .few-entries, h .place, h .source))
-
   pub written-fits : p .out ≤ length out
-  written-fits = omega (arith, few, ap length (h .out-is) ∙ length-pad 65536 (σ .out) (omega (arith, few, h .out-count)))
+  written-fits = omega (arith, out-size h, out-most h, h .out-count)
 
   pub written-is : take (p .out) out ≡ σ .out
   unfolding pad
   written-is = ap (take (p .out)) (h .out-is) ∙ take-at (σ .out) (zeros (65536 - length (σ .out))) (p .out) (sym (h .out-count))
 
   pub written-used : Used out notes p
-  written-used =
-      let few-out : length (σ .out) ≤ 65536 = omega (arith, few, h .out-count) in
-      record {
-        written = record {
-          size = ap length (h .out-is) ∙ length-pad 65536 (σ .out) few-out;
-          most = few .0;
-          rest = ap₂ (λ (n : ℕ) (z : Text). drop n z) (h .out-count) (h .out-is) ∙ drop-pad 65536 (σ .out) ∙ ap (λ (n : ℕ). zeros (65536 - n)) (sym (h .out-count));
-        };
-        nodes = flat (h .rows);
-        table = σ .table;
-        firsts = firsts (σ .table);
-        notes-are = h .notes-are;
-        nodes-count = ap (λ (n : ℕ). 4 * n) (h .nodes-count) ∙ sym (flat-length (h .rows));
-        table-count = h .table-count;
-        firsts-count = h .firsts-count;
-        few-nodes = omega (arith, flat-length (h .rows), h .nodes-count, h .few-nodes, h .place, h .source);
-        few-entries = omega (arith, few, h .table-count);
-        few-firsts = omega (arith, add-all-length [] (σ .table), few, h .table-count);
-      }
+  written-used = record {
+    written = record {
+      size = out-size h;
+      most = omega (arith, out-most h, h .out-count);
+      rest = ap₂ (λ (n : ℕ) (z : Text). drop n z) (h .out-count) (h .out-is) ∙ drop-pad 65536 (σ .out) ∙ ap (λ (n : ℕ). zeros (65536 - n)) (sym (h .out-count));
+    };
+    nodes = flat (h .rows);
+    table = σ .table;
+    firsts = firsts (σ .table);
+    notes-are = h .notes-are;
+    nodes-count = sym (flat-size h);
+    table-count = h .table-count;
+    firsts-count = h .firsts-count;
+    few-nodes = flat-most h;
+    few-entries = table-most h;
+    few-firsts = firsts-most h;
+  }
 
 module _ {s out notes : Text} where
   pub not-written : {g : Written} {x : Option Text} → Writes s out notes g x → g ≡ Bad → x ≡ none

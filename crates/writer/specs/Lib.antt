@@ -1,5 +1,5 @@
 pub mod Cycle
-pub mod Members
+pub mod FirstBytes
 pub mod Types
 pub mod Parts
 pub mod Writes

@@ -33,7 +33,7 @@ use Rattle.nodes.specs.Nodes.{
   note-parts,
   note-more,
 }
-use Rattle.normal.specs.Tests.{first-is}
+use Rattle.grammar.specs.Places.{starts-byte}
 use Rattle.normal.specs.States.{moved-to}
 use Rattle.normal.specs.Leads.{class}
 use Rattle.normal.specs.Holds.{
@@ -47,39 +47,18 @@ use Rattle.normal.specs.Holds.{
   Fueled,
   Does,
   Copies,
+  Tag,
   most-number,
   at-part,
   closed,
 }
 use Rattle.writer.specs.Cycle.{Leads, Ends}
-use Rattle.writer.specs.Members.{
-  Answered,
-  answered,
-  refused,
-  by,
-  within,
-  on-got,
-  on-bad,
-  first-byte,
-  no-byte,
-  byte-is,
-  byte-not,
-  byte-next,
-  holds-moved,
-  spent-less,
-  spent-spent,
-  spent-stands,
-  spent-moved,
-  copied-spent,
-  spent-took,
-  took-spent,
-  took-took,
-  closed-spent,
-  spent-nothing,
-  parts-none,
-  parts-some,
-  more-some,
-}
+use Rattle.normal.specs.Told.{Answered, answered, refused, by, within}
+use Rattle.normal.specs.Steps.{on-got, on-bad}
+use Rattle.normal.specs.Moves.{first-byte, no-byte, byte-is, byte-not, holds-next}
+use Rattle.normal.specs.Tests.{byte-next}
+use Rattle.normal.specs.Limits.{spent-less, spent-spent, spent-stands, spent-moved, passed-spent, spent-took, took-spent, took-more, closed-spent, spent-nothing}
+use Rattle.writer.specs.FirstBytes.{parts-none, parts-some, more-some}
 use Rattle.writer.specs.Types.{by-name, by-reference, Behind, FirstPart, args-from}
 use Rattle.normal.specs.declared.lead.Lead.the-variants.{Digit, S}
 use Rattle.normal.specs.declared.state.Writer.{Writer}
@@ -95,7 +74,7 @@ module _ {s o o₁ o₂ n n₂ : Text} {p p₁ : Writer} {r₁ : Told}
   nested-at {σ} h m l c t e =
       let x : suc (length (σ .out)) ≡ p₁ .out = omega (arith, h .out-count, k .0) in
       by (ap (λ (from : ℕ). note-parts m from (put (c ∷ []) (go-to t σ))) x)
-      (within (λ x y. spent-stands (omega (arith, k .0)) (copied-spent (k .0) y)) (u _ (k .1 n σ h c t e) m (omega (arith, k .0))))
+      (within (λ x y. spent-stands (omega (arith, k .0)) (passed-spent (k .0) (omega arith) y)) (u _ (k .1 n σ h c t e) m (omega (arith, k .0))))
 
   pub nested-refused : r₁ ≡ Bad → (c : ℕ) → Leads leadN c s o n o₂ n₂ p Bad
   nested-refused e c σ h m l t i = by (on-bad _ (refused e (nested-at h m l c t i))) refuses
@@ -112,7 +91,7 @@ module _ {s o o₁ o₂ n n₂ : Text} {p p₁ : Writer} {r₁ : Told}
         let b = v s n₂ (a .state) (a .holds) in
         let z = w s (closed (a .state)) (b .holds) in
         by (on-got _ (a .is) ∙ ap (λ (from : ℕ). got d (entered-nested d from (closed (a .state)))) (sym (h .out-count)))
-        (tells (z .holds) (spent-took (a .limits) (took-took (b .limits) (z .limits)) (omega arith) (omega arith) (omega arith)) (a .small))
+        (tells (z .holds) (spent-took (a .limits) (took-more _ (b .limits) (z .limits) (omega arith)) (omega arith) (omega arith) (omega arith)) (a .small))
 
 -- ---------------------------------------------------------------- parts
 
@@ -157,7 +136,7 @@ module _ {s o n : Text} {p : Writer} where
     pub parts-unreferred : r₁ ≡ Bad → PartsBy leadS s o n o₁ n₁ p Bad
     parts-unreferred e σ h m l c t i = by (on-bad _ (refused e (u σ h c t i))) refuses
 
-    module _ {q : Writer} {d : ℕ} (e : r₁ ≡ Number q d) {tag : ℕ} (g : (s o : Text) (σ : Notes) → Holds s o n₁ q σ → tag ≡ tag-of (σ .nodes) d) where
+    module _ {q : Writer} {d : ℕ} (e : r₁ ≡ Number q d) {tag : ℕ} (g : Tag n₁ q d tag) where
       referred-at : {σ : Notes} → Holds s o n p σ → (m c : ℕ) (t : Text) → σ .rest ≡ c ∷ t
           → (w : Answered s (Behind p) o₁ n₁ q d (at-reference (p .out) (go-to t σ)))
           × (at-parts leadS (p .out) t σ (λ u lone τ. note-more m u lone (p .out) τ) ≡ when (a-class tag) (note-more m d (eqb tag 48) (p .out) (w .state)))
@@ -198,7 +177,7 @@ module _ (m t : ℕ) (lone : Bool) (from : ℕ) (σ : Notes) where
   part-by [] e i = rw (e, name-none) refl
   part-by (c ∷ r) e i =
       more-some σ m e t lone from
-      ∙ ap (λ (b : Bool). at-more b t lone from r σ (λ v τ. note-args m v τ) (λ v l τ. note-more m v l from τ)) (sym (first-is 73 c r) ∙ i)
+      ∙ ap (λ (b : Bool). at-more b t lone from r σ (λ v τ. note-args m v τ) (λ v l τ. note-more m v l from τ)) (sym (starts-byte c 73 r) ∙ i)
       ∙ with-next (name (σ .rest)) _ (ending m from false)
 
 module _ {s o n : Text} {p : Writer} (t : ℕ) (lone : Bool) (from : ℕ) where
@@ -215,7 +194,7 @@ module _ {s o n : Text} {p : Writer} (t : ℕ) (lone : Bool) (from : ℕ) where
         by (part-by m t lone from σ _ (h .rest) i ∙ on-got (ending m from false) (w .is))
         (within (λ x y. spent-spent (w .limits .1) y) (v (w .state) (w .holds) m (omega (arith, w .limits .0))))
 
-  module _ (i : starts (drop (p .at) s) (73 ∷ []) ≡ true) {tag : ℕ} (g : (s o : Text) (σ : Notes) → Holds s o n p σ → tag ≡ tag-of (σ .nodes) t) where
+  module _ (i : starts (drop (p .at) s) (73 ∷ []) ≡ true) {tag : ℕ} (g : Tag n p t tag) where
     angled-by : {σ : Notes} (m : ℕ) → Holds s o n p σ → {b : Bool} → a-bare tag ≡ b
         → note-more (suc m) t lone from σ ≡ when b (next (note-args m t (put (73 ∷ []) (go-to (drop (p .at + 1) s) σ))) (λ u τ. ending m from lone u (closed τ)))
     angled-by {σ} m h e =
@@ -253,7 +232,7 @@ module _ {s o n : Text} {p : Writer} (d : ℕ) (lone : Bool) (from : ℕ) where
     end-lone e σ h m l = by (end-by m h e) refuses
 
     pub end-answer : {q : Writer} → lone ≡ false → q ≡ moved-to p (p .at + 1) → d < most-number → from ≤ p .out → Ends d lone from s o n o n p (Number q d)
-    end-answer e g y b σ h m l = by (end-by m h e) (tells (holds-moved h (byte-is h 69 i) g) (spent-moved g (spent-nothing b)) y)
+    end-answer e g y b σ h m l = by (end-by m h e) (tells (holds-next h (byte-is h 69 i) g) (spent-moved g (spent-nothing b)) y)
 
   pub end-more : {o₁ n₁ o₂ n₂ : Text} {q : Writer} {r : Told} → starts (drop (p .at) s) (69 ∷ []) ≡ false
       → ((s : Text) → Does 0 1 5 from (entered d from) s o n o₁ n₁ p q) → Fueled 1 from 1 (λ m. note-more m d lone from) s o₁ n₁ o₂ n₂ q r

@@ -17,8 +17,6 @@ use Rattle.store.specs.Lists.{pad-none, pad-paste, zeros-zeros}
 use Rattle.catalogue.specs.Spelling.{nameBytes}
 use Rattle.catalogue.specs.Recogniser.{Rd, stop, ifNext}
 use Rattle.walk.specs.Walk.{name}
-use Rattle.walk.specs.Holds.{OfRd}
-use Rattle.walk.specs.Sizes.{name-length}
 use Rattle.nodes.specs.Nodes.{
   Notes,
   notes,
@@ -44,11 +42,15 @@ use Rattle.nodes.specs.Nodes.{
   note-encoding,
   note-symbol,
 }
-use Rattle.normal.specs.Places.{part, rest-some, rest-none}
+use Rattle.normal.specs.Parts.{part}
+use Rattle.grammar.specs.Places.{rest-some, rest-none}
 use Rattle.normal.specs.Tests.{next-here, next-not}
 use Rattle.normal.specs.States.{begun-at, moved-to}
+use Rattle.normal.specs.Told.{Answered, answered, refused}
+use Rattle.normal.specs.Limits.{spent-room}
+use Rattle.normal.specs.LeafSteps.{name-size}
 use Rattle.normal.specs.Answers.{NameAt}
-use Rattle.normal.specs.Holds.{nodes-in, flat, Inside, noting, Holds, Ready, Spent, Room, Refines, tells, refuses, Fueled, Does, Puts, closed}
+use Rattle.normal.specs.Holds.{nodes-in, flat, Inside, noting, Holds, Ready, Spent, Room, Refines, Fueled, Does, Puts, Tag, closed}
 use Rattle.writer.specs.Writes.{Writes, writes, outside, Heads, heads, nameless, Scoped, Plain, Functions, at-plain, Ended, ended, broken, Types}
 use Rattle.normal.specs.declared.state.Writer.{Writer}
 use Rattle.normal.specs.declared.state.Told.{Told}
@@ -94,30 +96,6 @@ begun-holds s w at {out} {ns} {p} e l h k o z = subst (λ (q : Writer). Holds s 
 
 -- ---------------------------------------------------------------- answers
 
--- what an answer with a number says
-pub record Tells (s : Text) (L : Writer → Type 0) (out ns : Text) (p : Writer) (d : ℕ) (g : Got ℕ) : Type 0 where
-  pub state : Notes
-  pub holds : Holds s out ns p state
-  pub limits : L p
-  pub is : g ≡ got d state
-
-module _ {s : Text} {L : Writer → Type 0} {out ns : Text} where
-  told : {p : Writer} {d : ℕ} {g : Got ℕ} → Refines s L out ns (Number p d) g → Tells s L out ns p d g
-  told (tells {σ = σ} h l k) = record { state = σ; holds = h; limits = l; is = refl }
-
-  untold : {g : Got ℕ} → Refines s L out ns Bad g → g ≡ bad
-  untold refuses = refl
-
-  pub told-as : {r : Told} {p : Writer} {d : ℕ} {g : Got ℕ} → r ≡ Number p d → Refines s L out ns r g → Tells s L out ns p d g
-  told-as {g = g} e h = told (subst (λ (v : Told). Refines s L out ns v g) e h)
-
-  pub untold-as : {r : Told} {g : Got ℕ} → r ≡ Bad → Refines s L out ns r g → g ≡ bad
-  untold-as {g = g} e h = untold (subst (λ (v : Told). Refines s L out ns v g) e h)
-
--- the tag that the code found
-abbrev pub Tag : Text → Writer → ℕ → ℕ → Type 0
-Tag ns p d c = (s o : Text) (σ : Notes) → Holds s o ns p σ → c ≡ tag-of (σ .nodes) d
-
 module _ {s out ns : Text} where
   heads-by : {r : Headed} {f g : Got Bool} → f ≡ g → Heads s out ns r g → Heads s out ns r f
   heads-by {r = r} e h = subst (λ (x : Got Bool). Heads s out ns r x) (sym e) h
@@ -138,10 +116,7 @@ module _ {s : Text} {from to : ℕ} (h : NameAt s 2 from to) where
 
   -- it has as many bytes as were read
   pub plain-size : length word + 2 ≡ to
-  unfolding OfRd
-  plain-size =
-      let k = subst (λ (o : Rd Text). OfRd o (λ n r. (length (nameBytes n) + length r ≡ length (drop 2 s)) × (2 ≤ length (nameBytes n)))) (h .is) (name-length (drop 2 s)) in
-      omega (arith, k .0, length-drop 2 s, length-drop to s, h .inside, h .behind, h .some)
+  plain-size = let z = name-size h in omega arith
 
   pub plain-heads : {o o' : Text} {p q : Writer} → p ≡ moved-to (begun-at 2 2) to → length s ≤ 4096 → o ≡ pad 65536 (95 ∷ 90 ∷ []) → Puts word o o' p q
       → Plain s o' (Name q false)
@@ -190,26 +165,17 @@ module _ {s w o n : Text} {p : Writer} (b : Begun s w o n p) where
         subst (λ (j : ℕ). Refines s (Spent 1 (p .out) p) o' n' r (note-parts m j (first s w))) end-is (f (first s w) scoped-holds m (omega arith))
 
     pub scoped-none : (c : Bool) → r ≡ Bad → Scoped w c s o' n' no-name
-    scoped-none c g m k = heads-by (ap (at-scoped c) (untold-as g (by-size m k))) nameless
+    scoped-none c g m k = heads-by (ap (at-scoped c) (refused g (by-size m k))) nameless
 
     module _ {q : Writer} {u : ℕ} (g : r ≡ Number q u) where
-      pub scoped-told : (m : ℕ) → length s ≤ m + length w → Tells s (Spent 1 (p .out) p) o' n' q u (note-parts m (length w) (first s w))
-      scoped-told m k = told-as g (by-size m k)
+      pub scoped-told : (m : ℕ) → length s ≤ m + length w → Answered s (Spent 1 (p .out) p) o' n' q u (note-parts m (length w) (first s w))
+      scoped-told m k = answered g (by-size m k)
 
-      pub scoped-ready : Tells s (Spent 1 (p .out) p) o' n' q u (note-parts (length s) (length w) (first s w))
+      pub scoped-ready : Answered s (Spent 1 (p .out) p) o' n' q u (note-parts (length s) (length w) (first s w))
       scoped-ready = scoped-told (length s) (omega arith)
 
       pub scoped-room : Room 0 0 1 q
-      scoped-room =
-          let t = scoped-ready in
-          let a = at-is in
-          let e = end-is in
-          record {
-            nodes = omega (arith, t .holds .few-nodes);
-            table = omega (arith, t .holds .few-entries);
-            out = omega (arith, t .limits .out);
-            args = omega (arith, t .holds .few-args);
-          }
+      scoped-room = spent-room scoped-holds (scoped-ready .limits) (omega arith) (omega arith) (omega arith)
 
       module _ (c : Bool) {v : ℕ} {y : Bool} (d : Tag n' q u v) (x : y ≡ a-bare v) where
         by-tag : (m : ℕ) (k : length s ≤ m + length w)
@@ -287,11 +253,11 @@ module _ {s o n : Text} {p : Writer} {g : Got (Unit {0})} (a : Goes s o n p g) (
     typed = f (a .state) (a .holds) less (omega (arith, a .enough))
 
     pub turn-none : r ≡ Bad → g ≡ bad
-    turn-none e = step ∙ ap (λ (x : Got ℕ). next x (λ t τ. when (not (a-lit (tag-of (τ .nodes) t))) (at-end τ (τ .rest) (λ ρ. note-types less ρ)))) (untold-as e typed)
+    turn-none e = step ∙ ap (λ (x : Got ℕ). next x (λ t τ. when (not (a-lit (tag-of (τ .nodes) t))) (at-end τ (τ .rest) (λ ρ. note-types less ρ)))) (refused e typed)
 
     module _ {q : Writer} {t : ℕ} (e : r ≡ Number q t) where
-      pub turn-told : Tells s (Spent 1 (p .out) p) o' n' q t (note-type less (a .state))
-      turn-told = told-as e typed
+      pub turn-told : Answered s (Spent 1 (p .out) p) o' n' q t (note-type less (a .state))
+      turn-told = answered e typed
 
       module _ {v : ℕ} (d : Tag n' q t v) where
         abbrev after : Notes
@@ -412,12 +378,12 @@ module _ {s : Text} (y : starts s (95 ∷ 90 ∷ []) ≡ true) {o n : Text} {r :
   named : Heads s o n r (at-function (drop 2 s) (λ from σ. note-parts size from σ))
   named = f size (omega (arith, long s y, length-drop 2 s))
 
-  by-name : (g : Got Bool) → at-function (drop 2 s) (λ from σ. note-parts size from σ) ≡ g → note-symbol s ≡ symbol-of (next g (λ k σ. read-types k σ))
+  named-by : (g : Got Bool) → at-function (drop 2 s) (λ from σ. note-parts size from σ) ≡ g → note-symbol s ≡ symbol-of (next g (λ k σ. read-types k σ))
   unfolding note-encoding
-  by-name g e = symbol-is s y ∙ ap (λ (x : Got Bool). symbol-of (next x (λ k σ. read-types k σ))) e
+  named-by g e = symbol-is s y ∙ ap (λ (x : Got Bool). symbol-of (next x (λ k σ. read-types k σ))) e
 
   pub symbol-nameless : r ≡ no-name → note-symbol s ≡ none
-  symbol-nameless e = by-name bad (unheaded (subst (λ (v : Headed). Heads s o n v (at-function (drop 2 s) (λ from σ. note-parts size from σ))) e named))
+  symbol-nameless e = named-by bad (unheaded (subst (λ (v : Headed). Heads s o n v (at-function (drop 2 s) (λ from σ. note-parts size from σ))) e named))
 
   module _ {p : Writer} {k : Bool} (e : r ≡ Name p k) where
     pub symbol-headed : Headed-by s o n p k (at-function (drop 2 s) (λ from σ. note-parts size from σ))
@@ -427,7 +393,7 @@ module _ {s : Text} (y : starts s (95 ∷ 90 ∷ []) ≡ true) {o n : Text} {r :
     first-types = symbol-headed .state
 
     by-types : note-symbol s ≡ symbol-of (read-types k first-types)
-    by-types = by-name (got k first-types) (symbol-headed .is)
+    by-types = named-by (got k first-types) (symbol-headed .is)
 
     rest-is : first-types .rest ≡ drop (p .at) s
     rest-is = symbol-headed .holds .rest

@@ -9,25 +9,7 @@ use lib.ListN.{length, drop, getD}
 use Rattle.grammar.specs.Text.{Text, starts}
 use Rattle.catalogue.specs.Tree.{Letter, Wrap}
 use Rattle.catalogue.specs.Recogniser.{ifNext, Lead, leadLetter, leadWrap, leadL, leadNone, lead}
-use Rattle.nodes.specs.Nodes.{
-  Notes,
-  Noter,
-  Got,
-  got,
-  next,
-  when,
-  put,
-  go-to,
-  entered,
-  tag-of,
-  at-lead,
-  at-name,
-  at-reference,
-  with-args,
-  note-type,
-  note-args,
-  note-parts,
-}
+use Rattle.nodes.specs.Nodes.{Notes, Noter, Got, got, next, when, put, go-to, entered, at-lead, at-name, at-reference, with-args, note-type, note-args, note-parts}
 use Rattle.normal.specs.States.{moved-to}
 use Rattle.normal.specs.Holds.{
   Holds,
@@ -42,6 +24,7 @@ use Rattle.normal.specs.Holds.{
   Steps,
   Does,
   Copies,
+  Tag,
   most-number,
   at-literal,
   counts-arg,
@@ -49,33 +32,12 @@ use Rattle.normal.specs.Holds.{
   closed,
 }
 use Rattle.writer.specs.Cycle.{Leads, WithArgs}
-use Rattle.writer.specs.Members.{
-  Answered,
-  answered,
-  refused,
-  by,
-  within,
-  on-got,
-  on-bad,
-  first-byte,
-  no-byte,
-  byte-is,
-  byte-not,
-  byte-next,
-  holds-moved,
-  spent-less,
-  spent-spent,
-  copied-spent,
-  moved-spent,
-  spent-took,
-  took-took,
-  spent-nothing,
-  spent-moved,
-  spent-stands,
-  spent-room,
-  type-none,
-  type-some,
-}
+use Rattle.normal.specs.Told.{Answered, answered, refused, by, within}
+use Rattle.normal.specs.Steps.{on-got, on-bad}
+use Rattle.normal.specs.Moves.{first-byte, no-byte, byte-is, byte-not, holds-next}
+use Rattle.normal.specs.Tests.{byte-next}
+use Rattle.normal.specs.Limits.{spent-less, spent-spent, passed-spent, passed-none, spent-took, took-more, spent-nothing, spent-moved, spent-stands, spent-room}
+use Rattle.writer.specs.FirstBytes.{type-none, type-some}
 use Rattle.normal.specs.declared.state.Writer.{Writer}
 use Rattle.normal.specs.declared.state.Told.{Told}
 use Rattle.normal.specs.declared.state.Told.the-variants.{Number, Bad}
@@ -99,14 +61,14 @@ module _ {s o o₁ o₂ n n₂ : Text} {p p₁ : Writer} {r₁ : Told}
         → (d < most-number) × ((p .out ≤ p₂ .out) × ((Room 1 1 5 p₂) × Ready s o₂ n₂ p₂))
     wrap-next l (σ, h) =
         let w = fueled 0 e u (_, k .1 n σ h _ _ (first-byte h l)) in
-        (w .small, (omega (arith, w .limits, k .0), (spent-room h (copied-spent (k .0) (w .limits)) (omega arith) (omega arith) (omega arith), (w .state, w .holds))))
+        (w .small, (omega (arith, w .limits, k .0), (spent-room h (passed-spent (k .0) (omega arith) (w .limits)) (omega arith) (omega arith) (omega arith), (w .state, w .holds))))
 
     pub wrap-answer : {o₃ n₃ : Text} {r : Told} (q : Wrap) (c : ℕ) → Steps 1 1 5 (p .out) (wraps c d (p .out)) s o₂ n₂ o₃ n₃ p₂ r
         → Leads (leadWrap q) c s o n o₃ n₃ p r
     wrap-answer q c v σ h m l t i =
         let w = answered e (u _ (k .1 n σ h c t i) m (omega (arith, k .0))) in
         by (on-got _ (w .is) ∙ ap (λ (from : ℕ). wraps c d from (w .state)) (sym (h .out-count)))
-        (within (λ x y. spent-took (copied-spent (k .0) (w .limits)) y (omega arith) (omega arith) (omega arith)) (v (w .state) (w .holds)))
+        (within (λ x y. spent-took (passed-spent (k .0) (omega arith) (w .limits)) y (omega arith) (omega arith) (omega arith)) (v (w .state) (w .holds)))
 
 -- ---------------------------------------------------------------- a first part, and what follows it
 
@@ -141,7 +103,7 @@ module _ {s o n o₁ n₁ : Text} {p : Writer} {r₁ : Told} where
     where
       go : Reads 1 (p .out) (at-reference (p .out)) s o n o₁ n₁ (moved-to p (p .at + 1)) r₁
           → Refines s (Behind p) o₁ n₁ r₁ (at-reference (p .out) (go-to t σ))
-      go v = within (λ x (y, z). (omega arith, spent-less (omega arith) (moved-spent refl z))) (v (go-to t σ) (holds-moved h e refl))
+      go v = within (λ x (y, z). (omega arith, spent-less (omega arith) (passed-spent (passed-none p refl) (omega arith) z))) (v (go-to t σ) (holds-next h e refl))
 
   module _ (f : ℕ → Text → Noter ℕ) (u : FirstPart f s o n o₁ n₁ p r₁) where
     class-at : (m : ℕ) (σ : Notes) (t : Text) → Holds s o n p σ
@@ -173,7 +135,7 @@ module _ {s o o₁ o₂ n n₂ : Text} {p p₁ : Writer} (t : ℕ) {r₁ : Told}
 
   pub args-at : {σ : Notes} → Holds s o n p σ → (m : ℕ) → length s ≤ m + p .at
       → Refines s (Spent 1 (p .out) p) o₂ n₂ r₁ (note-args m t (put (73 ∷ []) (go-to (drop (p .at + 1) s) σ)))
-  args-at h m l = within (λ x y. spent-stands (omega (arith, k .0)) (copied-spent (k .0) y)) (args-from h m l)
+  args-at h m l = within (λ x y. spent-stands (omega (arith, k .0)) (passed-spent (k .0) (omega arith) y)) (args-from h m l)
 
   module _ {p₂ : Writer} {d : ℕ} (e : r₁ ≡ Number p₂ d) where
     pub args-told : (w : Ready s o n p) → Answered s (Spent 1 (p .out) p) o₂ n₂ p₂ d (note-args (length s) t (put (73 ∷ []) (go-to (drop (p .at + 1) s) (w .0))))
@@ -218,7 +180,7 @@ module _ {s o n : Text} {p : Writer} (t from : ℕ) where
   pub without-args : starts (drop (p .at) s) (73 ∷ []) ≡ false → t < most-number → from ≤ p .out → WithArgs t from s o n o n p (Number p t)
   without-args e l b σ h m f = by (byte-not h 73 _ _ e) (tells h (spent-nothing b) l)
 
-  module _ (i : starts (drop (p .at) s) (73 ∷ []) ≡ true) {tag : ℕ} (g : (s o : Text) (σ : Notes) → Holds s o n p σ → tag ≡ tag-of (σ .nodes) t) where
+  module _ (i : starts (drop (p .at) s) (73 ∷ []) ≡ true) {tag : ℕ} (g : Tag n p t tag) where
     with-args-at : {σ : Notes} (m : ℕ) → Holds s o n p σ → {b : Bool} → eqb tag 48 ≡ b → with-args t from (λ v ρ. note-args m v ρ) σ ≡ when b (enclosed m t from (drop (p .at + 1) s) σ)
     with-args-at {σ} m h {b} e =
         byte-next _ _ (byte-is h 73 i) ∙ ap (λ (x : ℕ). when (eqb x 48) (enclosed m t from (drop (p .at + 1) s) σ)) (sym (g s o σ h)) ∙ ap (λ (b : Bool). when b (enclosed m t from (drop (p .at + 1) s) σ)) e
@@ -238,7 +200,7 @@ module _ {s o n : Text} {p : Writer} (t from : ℕ) where
           let b = v s n₂ (a .state) (a .holds) in
           let c = w s (closed (a .state)) (b .holds) in
           by (with-args-at m h z ∙ on-got _ (a .is))
-          (tells (c .holds) (spent-took (a .limits) (took-took (b .limits) (c .limits)) (omega arith) (omega arith) (omega arith)) (a .small))
+          (tells (c .holds) (spent-took (a .limits) (took-more _ (b .limits) (c .limits) (omega arith)) (omega arith) (omega arith) (omega arith)) (a .small))
 
 -- ---------------------------------------------------------------- args
 
@@ -287,7 +249,7 @@ module _ {s o n o₁ n₁ : Text} {p : Writer} {r₁ : Told} (t : ℕ) (u : Fuel
         args-end j g σ h zero l = absurd (omega (arith, h .place))
         args-end j g σ h (suc m) l =
             let ((τ, (k, (b, (a, y)))), f) = counted-at h m (omega arith) in
-            by (f ∙ byte-next _ _ (byte-is k 69 j)) (tells (holds-moved k (byte-is k 69 j) g) (spent-moved g b) y)
+            by (f ∙ byte-next _ _ (byte-is k 69 j)) (tells (holds-next k (byte-is k 69 j) g) (spent-moved g b) y)
 
         pub args-more : {o₃ n₃ : Text} {r : Told} → starts (drop (q₂ .at) s) (69 ∷ []) ≡ false
             → Fueled 0 (q₂ .out) 1 (λ m. note-args m d) s o₁ n₂ o₃ n₃ q₂ r → Fueled 0 (p .out) 1 (λ m. note-args m t) s o n o₃ n₃ p r
@@ -318,7 +280,7 @@ module _ {s o n : Text} {p : Writer} where
   literal-answer {o'} {n'} {q} {r} c i u σ h m f t e = go (subst (λ (x : Writer). Reads 1 (x .out) at-literal s o n o' n' x r) i u)
     where
       go : Reads 1 (p .out) at-literal s o n o' n' (moved-to p (p .at + 1)) r → Refines s (Spent 1 (p .out) p) o' n' r (at-literal (go-to t σ))
-      go v = within (λ x (y, z). spent-less (omega arith) (moved-spent refl z)) (v (go-to t σ) (holds-moved h e refl))
+      go v = within (λ x (y, z). spent-less (omega arith) (passed-spent (passed-none p refl) (omega arith) z)) (v (go-to t σ) (holds-next h e refl))
 
   pub none-answer : (c : ℕ) → Leads leadNone c s o n o n p Bad
   none-answer c σ h m f t e = refuses

@@ -4,7 +4,7 @@ use Prim.Native.Nat.{_-_}
 use borrow.Author.Tests.{not-true, not-false}
 use Rattle.catalogue.specs.Bytes.{all}
 use Rattle.walk.specs.Walk.{capital}
-use Rattle.normal.specs.Places.{part, part-none, all-more, all-stop}
+use Rattle.normal.specs.Parts.{part, part-none, all-more, all-stop}
 use borrow.Author.Needs.{needs}
 use native.Mathlib.Omega.{arith}
 use Rattle.normal.proofs.marks.capitals.Statement.{statement}

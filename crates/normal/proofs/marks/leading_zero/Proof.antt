@@ -1,7 +1,7 @@
 -- `normal::marks::leading_zero` tells whether a zero stands before another byte. Assumes nothing.
 use mathlib.Core.Path.{refl}
 use Prim.Native.Nat.{_+_}
-use Rattle.normal.specs.Places.{part-none, part-more}
+use Rattle.normal.specs.Parts.{part-none, part-more}
 use borrow.Author.Needs.{needs}
 use native.Mathlib.Omega.{arith}
 use Rattle.normal.proofs.marks.leading_zero.Statement.{statement}

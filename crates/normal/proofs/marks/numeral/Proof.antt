@@ -2,7 +2,7 @@
 use mathlib.Core.Path.{refl, sym, ap, _∙_}
 use mathlib.Core.Bool.{not}
 use Rattle.catalogue.specs.Class.{numeral}
-use Rattle.normal.specs.Places.{part, part-none, part-length}
+use Rattle.normal.specs.Parts.{part, part-none, part-length}
 use Rattle.normal.specs.Tests.{numeral-is}
 use borrow.Author.Needs.{needs}
 use native.Mathlib.Omega.{arith}

@@ -3,7 +3,7 @@ use mathlib.Core.Path.{sym, _∙_}
 use lib.ListN.{drop}
 use borrow.Author.Tests.{not-true, not-false}
 use Rattle.grammar.specs.Text.{run, digit}
-use Rattle.normal.specs.Tests.{inside}
+use Rattle.grammar.specs.Places.{starts-inside}
 use Rattle.normal.specs.Leaves.{index-none, index-some, ref-open, ref-small, ref-zero, ref-right}
 use borrow.Author.Needs.{needs}
 use native.Mathlib.Omega.{arith}
@@ -29,7 +29,7 @@ capitals-requires c κs =
     let a = c .before .before .before .before .before .args in
     let d = c .before .before .before .seq-id .ensures in
     let h = sym (c .before .starts-with .ensures) ∙ not-false _ (c .if1 .left) in
-    let i = inside 95 (a .s .now) (c .before .before .before .seq-id .result .next) h in
+    let i = starts-inside (a .s .now) (c .before .before .before .seq-id .result .next) 95 h in
     omega arith
 
 returns-2 : tie.Need-returns-2
@@ -44,7 +44,7 @@ leading-zero-requires c κs =
     let a = c .before .before .before .before .before .before .before .args in
     let d = c .before .before .before .before .before .seq-id .ensures in
     let h = sym (c .before .before .before .starts-with .ensures) ∙ not-false _ (c .before .before .if1 .left) in
-    let i = inside 95 (a .s .now) (c .before .before .before .before .before .seq-id .result .next) h in
+    let i = starts-inside (a .s .now) (c .before .before .before .before .before .seq-id .result .next) 95 h in
     omega arith
 
 returns-3 : tie.Need-returns-3
@@ -60,7 +60,7 @@ add-t11 c =
     let a = c .before .before .before .before .before .before .before .before .before .before .args in
     let d = c .before .before .before .before .before .before .before .before .seq-id .ensures in
     let h = sym (c .before .before .before .before .before .before .starts-with .ensures) ∙ not-false _ (c .before .before .before .before .before .if1 .left) in
-    let i = inside 95 (a .s .now) (c .before .before .before .before .before .before .before .before .seq-id .result .next) h in
+    let i = starts-inside (a .s .now) (c .before .before .before .before .before .before .before .before .seq-id .result .next) 95 h in
     omega arith
 
 returns-4 : tie.Need-returns-4

@@ -3,8 +3,9 @@ use mathlib.Core.Path.{sym, ap, _∙_}
 use Rattle.grammar.specs.Text.{digit}
 use lib.ListN.{drop}
 use borrow.Author.Tests.{not-true, not-false}
-use Rattle.normal.specs.Places.{run-is, run-all}
-use Rattle.normal.specs.Tests.{inside}
+use Rattle.normal.specs.Parts.{run-is}
+use Rattle.walk.specs.Digits.{run-all}
+use Rattle.grammar.specs.Places.{starts-inside}
 use Rattle.catalogue.specs.Bytes.{all}
 use Rattle.normal.specs.Leaves.{value-open, value-wrong, value-right}
 use borrow.Author.Needs.{needs}
@@ -31,7 +32,7 @@ value-ok-requires c κs =
     let a = c .before .before .before .before .before .args in
     let d = c .before .before .before .decimal .ensures in
     let h = sym (c .before .starts-with .ensures) ∙ not-false _ (c .if1 .left) in
-    let i = inside 69 (a .s .now) (c .before .before .before .decimal .result .next) h in
+    let i = starts-inside (a .s .now) (c .before .before .before .decimal .result .next) 69 h in
     let e = run-is (digit 10) (a .s .now) (a .from) _ (d .behind) in
     (omega (arith, d .behind), (omega arith, ap (all (digit 10)) (sym e) ∙ run-all (digit 10) (drop (a .from) (a .s .now))))
 
@@ -47,7 +48,7 @@ add-t12 c =
     let a = c .before .before .before .before .before .before .before .args in
     let d = c .before .before .before .before .before .decimal .ensures in
     let h = sym (c .before .before .before .starts-with .ensures) ∙ not-false _ (c .before .before .if1 .left) in
-    let i = inside 69 (a .s .now) (c .before .before .before .before .before .decimal .result .next) h in
+    let i = starts-inside (a .s .now) (c .before .before .before .before .before .decimal .result .next) 69 h in
     omega arith
 
 returns-3 : tie.Need-returns-3

@@ -6,7 +6,7 @@ use Rattle.grammar.specs.Text.{if_then_else_, choose}
 use Rattle.catalogue.specs.Tree.{Kind, kindCode}
 use Rattle.catalogue.specs.Class.{litOk}
 use Rattle.catalogue.specs.Recogniser.{withCode, allKinds}
-use Rattle.normal.specs.Places.{part}
+use Rattle.normal.specs.Parts.{part}
 use Rattle.normal.specs.Answers.{valid-by}
 use Rattle.normal.specs.Leads.{uncoded}
 use borrow.Author.Needs.{needs}

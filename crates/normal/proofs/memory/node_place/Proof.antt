@@ -3,7 +3,7 @@ use mathlib.Core.Option.{none}
 use mathlib.Core.Path.{_≡_, sym, ap, _∙_}
 use Prim.Native.Nat.{ℕ, _-_, _≤_}
 use Rattle.nodes.specs.Nodes.{node, same-node, seek-by}
-use Rattle.normal.specs.Places.{part}
+use Rattle.normal.specs.Parts.{part}
 use Rattle.normal.specs.Holds.{nodes-in}
 use Rattle.normal.specs.Seeks.{seek-empty, sought-nowhere}
 use Rattle.normal.specs.Rows.{rows-of, inside-at, node-here, node-past}

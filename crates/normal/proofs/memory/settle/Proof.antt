@@ -1,8 +1,8 @@
 -- `normal::memory::settle` writes the reference of what is in the table. Assumes nothing.
 use mathlib.Core.Path.{refl}
 use lib.ListN.{length-take, length-drop}
-use Rattle.normal.specs.Keeps.{out-size, notes-size, firsts-most, out-most}
-use Rattle.normal.specs.Changes.{sought-firsts, settle-not, cleared-size, index-most, reference-room, settle-here}
+use Rattle.normal.specs.Slices.{out-size, notes-size, firsts-most, out-most}
+use Rattle.normal.specs.Memory.{sought-firsts, settle-not, cleared-size, index-most, reference-room, settle-here}
 use borrow.Author.Needs.{needs}
 use native.Mathlib.Omega.{arith}
 use Rattle.normal.proofs.memory.settle.Statement.{statement}

@@ -1,7 +1,11 @@
 -- `normal::steps::arg` notes an argument behind what has the number t, and counts it. Assumes nothing.
 use native.Mathlib.Omega.{arith}
 use borrow.Author.Needs.{needs}
-use Rattle.normal.specs.HoldLaws.{told, never, counted-is, tells-as, by-state, holds-counted, took-counted}
+use Rattle.normal.specs.Holds.{tells}
+use Rattle.normal.specs.Told.{told, never, by}
+use Rattle.normal.specs.Steps.{counted-is}
+use Rattle.normal.specs.Moves.{by-state, holds-counted}
+use Rattle.normal.specs.Limits.{took-counted}
 use Rattle.normal.proofs.steps.arg.Statement.{statement}
 use Rattle.normal.proofs.steps.arg.Tie as tie
 
@@ -45,10 +49,8 @@ returns-2 c o σ h =
     let t = told (c .before .before .before .before .before .before .note .ensures o σ h) (c .before .before .noted .given .1) in
     let k = t .0 in
     let l = t .1 .0 in
-    tells-as (counted-is (a .t) (a .x) σ (t .1 .1 .0))
-    (by-state (c .counted .ensures) (holds-counted k (omega arith)))
-    (took-counted l (c .counted .ensures) (omega arith))
-    (t .1 .1 .1)
+    by (counted-is (a .t) (a .x) σ (t .1 .1 .0))
+    (tells (by-state (c .counted .ensures) (holds-counted k (omega arith))) (took-counted l (c .counted .ensures) (omega arith)) (t .1 .1 .1))
 
 pub arg-spec : {M : Type 1} → statement M
 arg-spec =

@@ -3,8 +3,9 @@ use native.Mathlib.Omega.{arith}
 use borrow.Author.Needs.{needs}
 use mathlib.Core.List.{[], _∷_}
 use lib.ListN.{getD}
-use Rattle.normal.specs.Keeps.{out-size}
-use Rattle.normal.specs.HoldLaws.{wrote-none, wrote-more, next-byte, put-moved}
+use Rattle.normal.specs.Slices.{out-size}
+use Rattle.normal.specs.Limits.{passed-none, passed-more}
+use Rattle.normal.specs.Moves.{next-byte, put-moved}
 use Rattle.normal.proofs.steps.copy_byte.Statement.{statement}
 use Rattle.normal.proofs.steps.copy_byte.Tie as tie
 
@@ -20,7 +21,7 @@ shared-slice-read-put-byte c = search needs
 put-byte-requires : tie.Need-put-byte-requires
 put-byte-requires c κs =
     let h = c .before .before .before .before .before .pre .1 .1 .1 in
-    let w = wrote-none (c .before .before .before .before .before .args .p) (c .before .moved .ensures) in
+    let w = passed-none (c .before .before .before .before .before .args .p) (c .before .moved .ensures) in
     let l = c .before .before .before .before .before .pre .0 in
     omega (arith, out-size h)
 
@@ -32,10 +33,10 @@ returns c =
     let a = c .before .before .before .before .before .before .before .before .args in
     let l = c .before .before .before .before .before .before .before .before .pre .0 in
     let x = c .before .before .put-byte .ensures in
-    let w = wrote-more 1 (wrote-none (c .before .before .before .before .before .before .before .before .args .p) (c .before .before .before .before .moved .ensures)) (x .0) in (
-      record { at = w .at; out = w .out; nodes = w .nodes; table = w .table; args = w .args },
+    let w = passed-more 1 (passed-none (c .before .before .before .before .before .before .before .before .args .p) (c .before .before .before .before .moved .ensures)) (x .0) in (
+      w,
       λ n σ h k t e.
-          let f = next-byte h l e in
+          let f = next-byte h e in
           rw (f .0, f .1) (put-moved h (getD (a .s .now) (a .p .at) 0 ∷ []) (c .before .before .before .before .moved .ensures) x (omega arith) (omega arith) (omega arith)),
     )
 

@@ -2,13 +2,16 @@
 use mathlib.Core.Path.{refl, ap, _∙_}
 use lib.ListN.{drop}
 use Rattle.catalogue.specs.Spelling.{nameBytes}
-use Rattle.normal.specs.Places.{part}
+use Rattle.normal.specs.Holds.{tells, refuses}
+use Rattle.normal.specs.Parts.{part}
 use native.Mathlib.Omega.{arith}
 use borrow.Author.Needs.{needs}
 use Rattle.walk.specs.Walk.{name}
 use Rattle.nodes.specs.Nodes.{root-node, put, go-to}
-use Rattle.normal.specs.HoldLaws.{room-less, room-after, told, never, entered-is, refuses-as, tells-as, with-none, with-some, took-more, spent}
-use Rattle.normal.specs.ReadLaws.{no-name-at, name-at, name-size, name-fits, name-wrote, name-held, name-room}
+use Rattle.normal.specs.Limits.{room-less, room-after, took-more, spent}
+use Rattle.normal.specs.Told.{told, never, by}
+use Rattle.normal.specs.Steps.{entered-is, with-none, with-some}
+use Rattle.normal.specs.LeafSteps.{no-name-at, name-at, name-size, name-fits, name-wrote, name-held, name-room}
 use Rattle.normal.proofs.steps.first_name.Statement.{statement}
 use Rattle.normal.proofs.steps.first_name.Tie as tie
 
@@ -25,7 +28,7 @@ returns : tie.Need-returns
 returns c σ h =
     let a = c .before .before .before .before .before .before .args in
     let e = no-name-at (a .s .now) (a .p .at) (c .before .before .source-name .ensures) (c .enum-told .given .1) in
-    refuses-as (with-none _ (ap name (h .rest) ∙ e))
+    by (with-none _ (ap name (h .rest) ∙ e)) refuses
 
 moved-requires : tie.Need-moved-requires
 moved-requires c κs = search needs
@@ -99,8 +102,8 @@ returns-3 c σ h =
     let v = c .before .before .before .before .enter .ensures _ _ (t .0) in
     let l = took-more (a .p .out) (t .1 .0) (v .limits) (omega arith) in
     let n = part (a .s .now) (c .before .before .before .before .before .before .before .before .before .before .before .before .before .before .before .before .before .before .before .before .from .given .0 .0) (c .before .before .before .before .before .before .before .before .before .before .before .before .before .before .before .before .before .before .before .before .from .given .0 .1 .0) in
-    tells-as (with-some _ (ap name (h .rest) ∙ x .is) ∙ entered-is (root-node n) (a .p .out) (put (nameBytes n) (go-to (drop (c .before .before .before .before .before .before .before .before .before .before .before .before .before .before .before .before .before .before .before .before .from .given .0 .1 .0) (a .s .now)) σ)) (t .1 .1 .0)) (v .holds)
-    (omega arith, spent w l (omega arith) (omega arith) (omega arith) (omega arith)) (t .1 .1 .1)
+    by (with-some _ (ap name (h .rest) ∙ x .is) ∙ entered-is (root-node n) (a .p .out) (put (nameBytes n) (go-to (drop (c .before .before .before .before .before .before .before .before .before .before .before .before .before .before .before .before .before .before .before .before .from .given .0 .1 .0) (a .s .now)) σ)) (t .1 .1 .0))
+    (tells (v .holds) (omega arith, spent w l (omega arith) (omega arith) (omega arith) (omega arith)) (t .1 .1 .1))
 
 pub first-name-spec : {M : Type 1} → statement M
 first-name-spec =

@@ -3,8 +3,12 @@ use mathlib.Core.Path.{ap, _∙_}
 use native.Mathlib.Omega.{arith}
 use borrow.Author.Needs.{needs}
 use Rattle.walk.specs.Walk.{reference}
-use Rattle.normal.specs.HoldLaws.{by-state, holds-moved, wrote-none, refuses-as, tells-as, with-none, spent}
-use Rattle.normal.specs.ReadLaws.{no-reference-at, reference-at, reference-none, reference-is}
+use Rattle.normal.specs.Holds.{tells, refuses}
+use Rattle.normal.specs.Moves.{by-state, holds-moved}
+use Rattle.normal.specs.Limits.{passed-none, spent}
+use Rattle.normal.specs.Told.{by}
+use Rattle.normal.specs.Steps.{with-none}
+use Rattle.normal.specs.LeafSteps.{no-reference-at, reference-at, reference-none, reference-is}
 use Rattle.normal.proofs.steps.first_reference.Statement.{statement}
 use Rattle.normal.proofs.steps.first_reference.Tie as tie
 
@@ -21,13 +25,13 @@ returns : tie.Need-returns
 returns c σ h =
     let a = c .before .before .before .before .before .before .args in
     let e = no-reference-at (a .s .now) (a .p .at) (c .before .before .reference .ensures) (c .enum-told .given .1) in
-    refuses-as (with-none _ (ap reference (h .rest) ∙ e))
+    by (with-none _ (ap reference (h .rest) ∙ e)) refuses
 
 returns-2 : tie.Need-returns-2
 returns-2 c σ h =
     let a = c .before .before .before .before .before .before .before .before .before .args in
     let x = reference-at (a .s .now) (a .p .at) (c .before .before .before .before .before .reference .ensures) (c .before .before .before .i .given .1) in
-    refuses-as (reference-none h x (a .p .out) (c .if1 .taken))
+    by (reference-none h x (a .p .out) (c .if1 .taken)) refuses
 
 entry-requires : tie.Need-entry-requires
 entry-requires c κs = (omega (arith, c .before .if1 .left), (_, (_, c .before .before .before .before .before .before .before .before .before .before .pre)))
@@ -41,7 +45,7 @@ settle-requires c κs =
     let h = c .before .before .before .before .before .before .before .before .before .before .before .before .before .before .pre .1 in
     let x = reference-at (a .s .now) (a .p .at) (c .before .before .before .before .before .before .before .before .before .before .reference .ensures) (c .before .before .before .before .before .before .before .before .i .given .1) in
     let e = c .moved .ensures in
-    let w = wrote-none (a .p) e in
+    let w = passed-none (a .p) e in
     let b = x .behind in (
       omega arith,
       (
@@ -61,13 +65,13 @@ returns-3 c σ h =
     let a = c .before .before .before .before .before .before .before .before .before .before .before .before .before .before .before .before .before .args in
     let x = reference-at (a .s .now) (a .p .at) (c .before .before .before .before .before .before .before .before .before .before .before .before .before .reference .ensures) (c .before .before .before .before .before .before .before .before .before .before .before .i .given .1) in
     let e = c .before .before .before .moved .ensures in
-    let w = wrote-none (a .p) e in
+    let w = passed-none (a .p) e in
     let b = x .behind in
     let t = c .before .before .before .before .before .before .entry .ensures _ _ σ h in
     let v = c .before .before .settle .ensures _ _ (by-state e (holds-moved h (c .before .before .before .before .before .before .before .before .before .before .before .i .given .0 .1 .0) (omega arith) (x .inside))) in
     let l = v .limits in
-    tells-as (reference-is h x (a .p .out) (t .0)) (v .holds)
-    (omega arith, spent w l (omega arith) (omega arith) (omega arith) (omega arith)) (t .1)
+    by (reference-is h x (a .p .out) (t .0))
+    (tells (v .holds) (omega arith, spent w l (omega arith) (omega arith) (omega arith) (omega arith)) (t .1))
 
 pub first-reference-spec : {M : Type 1} → statement M
 first-reference-spec =

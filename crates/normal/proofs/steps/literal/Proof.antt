@@ -3,19 +3,12 @@ use mathlib.Core.Path.{ap, _∙_}
 use native.Mathlib.Omega.{arith}
 use borrow.Author.Needs.{needs}
 use Rattle.walk.specs.Walk.{literal}
-use Rattle.normal.specs.Keeps.{out-size}
-use Rattle.normal.specs.HoldLaws.{wrote-none, wrote-more, room-less, refuses-as, refines-as, with-none, spent}
-use Rattle.normal.specs.ReadLaws.{
-  no-literal-at,
-  literal-at,
-  literal-is,
-  literal-kind,
-  literal-marked,
-  literal-wrote,
-  literal-held,
-  literal-room,
-  signed-below,
-}
+use Rattle.normal.specs.Holds.{refuses}
+use Rattle.normal.specs.Slices.{out-size}
+use Rattle.normal.specs.Limits.{passed-none, passed-more, room-less, spent}
+use Rattle.normal.specs.Told.{by, within}
+use Rattle.normal.specs.Steps.{with-none}
+use Rattle.normal.specs.LeafSteps.{no-literal-at, literal-at, literal-is, literal-kind, literal-marked, literal-wrote, literal-held, literal-room, signed-below}
 use Rattle.normal.proofs.steps.literal.Statement.{statement}
 use Rattle.normal.proofs.steps.literal.Tie as tie
 
@@ -32,7 +25,7 @@ returns : tie.Need-returns
 returns c σ h =
     let a = c .before .before .before .before .before .before .args in
     let e = no-literal-at (a .s .now) (a .p .at) (c .before .before .literal .ensures) (c .enum-told .given .1) in
-    refuses-as (with-none _ (ap literal (h .rest) ∙ e))
+    by (with-none _ (ap literal (h .rest) ∙ e)) refuses
 
 moved-requires : tie.Need-moved-requires
 moved-requires c κs = search needs
@@ -43,7 +36,7 @@ put-byte-requires c κs =
     let h = c .before .before .before .before .before .before .before .before .before .pre .1 in
     let x = literal-at (a .s .now) (a .p .at) (c .before .before .before .before .before .literal .ensures) (c .before .before .before .to .given .1) in
     let v = x .0 in
-    let w = wrote-none (a .p) (c .moved .ensures) in
+    let w = passed-none (a .p) (c .moved .ensures) in
     omega (arith, out-size h, v .some, v .inside, x .1)
 
 put-part-requires : tie.Need-put-part-requires
@@ -53,7 +46,7 @@ put-part-requires c κs =
     let x = literal-at (a .s .now) (a .p .at) (c .before .before .before .before .before .before .before .before .before .literal .ensures) (c .before .before .before .before .before .before .before .to .given .1) in
     let v = x .0 in
     let y = c .before .before .before .put-byte .ensures in
-    let w = wrote-more 1 (wrote-none (a .p) (c .before .before .before .before .moved .ensures)) (y .0) in
+    let w = passed-more 1 (passed-none (a .p) (c .before .before .before .before .moved .ensures)) (y .0) in
     let k = literal-marked h v (x .1) (c .before .before .before .before .moved .ensures) y in
     (omega (arith, v .some, x .1), (v .inside, omega (arith, out-size k, v .some, v .inside, x .1)))
 
@@ -103,9 +96,9 @@ returns-2 c σ h =
     let w = literal-wrote h v (x .1) e y z in
     let k = v .some in
     let j = x .1 in
-    refines-as (literal-is h v (x .1) _ (c .before .before .before .signed .ensures))
-    (λ q l. let g = l .at in (omega arith, spent w l (omega arith) (omega arith) (omega arith) (omega arith)))
-    (c .before .before .note .ensures _ _ (literal-held h v (x .1) e y z))
+    by (literal-is h v (x .1) _ (c .before .before .before .signed .ensures))
+    (within (λ q l. let g = l .at in (omega arith, spent w l (omega arith) (omega arith) (omega arith) (omega arith)))
+    (c .before .before .note .ensures _ _ (literal-held h v (x .1) e y z)))
 
 pub literal-spec : {M : Type 1} → statement M
 literal-spec =

@@ -3,8 +3,11 @@ use mathlib.Core.Path.{refl, _∙_, ap}
 use native.Mathlib.Omega.{arith}
 use Rattle.walk.specs.Walk.{name}
 use borrow.Author.Needs.{needs}
-use Rattle.normal.specs.HoldLaws.{room-less, refuses-as, refines-as, with-none, with-some, spent}
-use Rattle.normal.specs.ReadLaws.{no-name-at, name-at, name-size, name-fits, name-wrote, name-held, name-room}
+use Rattle.normal.specs.Holds.{refuses}
+use Rattle.normal.specs.Limits.{room-less, spent}
+use Rattle.normal.specs.Told.{by, within}
+use Rattle.normal.specs.Steps.{with-none, with-some}
+use Rattle.normal.specs.LeafSteps.{no-name-at, name-at, name-size, name-fits, name-wrote, name-held, name-room}
 use Rattle.normal.proofs.steps.part.Statement.{statement}
 use Rattle.normal.proofs.steps.part.Tie as tie
 
@@ -21,7 +24,7 @@ returns : tie.Need-returns
 returns c σ h =
     let a = c .before .before .before .before .before .before .args in
     let e = no-name-at (a .s .now) (a .p .at) (c .before .before .source-name .ensures) (c .enum-told .given .1) in
-    refuses-as (with-none _ (ap name (h .rest) ∙ e))
+    by (with-none _ (ap name (h .rest) ∙ e)) refuses
 
 moved-requires : tie.Need-moved-requires
 moved-requires c κs = search needs
@@ -60,9 +63,9 @@ returns-2 c σ h =
     let y = c .before .before .before .before .before .before .put-name .ensures in
     let z = name-size x in
     let w = name-wrote x h refl e y in
-    refines-as (with-some _ (ap name (h .rest) ∙ x .is))
-    (λ q l. let g = l .at in (omega arith, spent w l (omega arith) (omega arith) (omega arith) (omega arith)))
-    (c .before .before .note .ensures _ _ (name-held x h refl e y))
+    by (with-some _ (ap name (h .rest) ∙ x .is))
+    (within (λ q l. let g = l .at in (omega arith, spent w l (omega arith) (omega arith) (omega arith) (omega arith)))
+    (c .before .before .note .ensures _ _ (name-held x h refl e y)))
 
 pub part-spec : {M : Type 1} → statement M
 part-spec =

@@ -4,7 +4,10 @@ use native.Mathlib.Omega.{arith}
 use borrow.Author.Needs.{needs}
 use borrow.Author.Tests.{not-true, not-false}
 use Rattle.nodes.specs.Nodes.{wrap-node, may-stand}
-use Rattle.normal.specs.HoldLaws.{room-less, room-after, told, never, entered-is, refuses-as, tells-as, when-true, when-false, took-more}
+use Rattle.normal.specs.Holds.{tells, refuses}
+use Rattle.normal.specs.Limits.{room-less, room-after, took-more}
+use Rattle.normal.specs.Told.{told, never, by}
+use Rattle.normal.specs.Steps.{entered-is, when-true, when-false}
 use Rattle.normal.proofs.steps.wrap.Statement.{statement}
 use Rattle.normal.proofs.steps.wrap.Tie as tie
 
@@ -20,7 +23,7 @@ same-length c = search needs
 returns : tie.Need-returns
 returns c σ h =
     let a = c .before .before .before .before .before .before .before .args in
-    refuses-as (when-false _ (ap (may-stand (a .c)) (sym (c .before .before .tag-of .ensures _ _ σ h)) ∙ sym (c .before .may-stand .ensures) ∙ not-true _ (c .if1 .taken)))
+    by (when-false _ (ap (may-stand (a .c)) (sym (c .before .before .tag-of .ensures _ _ σ h)) ∙ sym (c .before .may-stand .ensures) ∙ not-true _ (c .if1 .taken))) refuses
 
 note-requires : tie.Need-note-requires
 note-requires c κs =
@@ -61,7 +64,8 @@ returns-3 c σ h =
     let e = ap (may-stand (a .c)) (sym (c .before .before .before .before .before .before .before .before .before .before .before .before .before .before .before .before .tag-of .ensures _ _ σ h)) ∙ sym (c .before .before .before .before .before .before .before .before .before .before .before .before .before .before .before .may-stand .ensures) ∙ not-false _ (c .before .before .before .before .before .before .before .before .before .before .before .before .before .before .if1 .left) in
     let t = told (c .before .before .before .before .before .before .before .before .before .before .before .before .note .ensures _ σ h) (c .before .before .before .before .before .before .before .before .noted .given .1) in
     let v = c .before .before .before .before .enter .ensures _ _ (t .0) in
-    tells-as (when-true _ e ∙ entered-is (wrap-node (a .c) (a .t)) (a .from) σ (t .1 .1 .0)) (v .holds) (took-more (a .from) (t .1 .0) (v .limits) (omega arith)) (t .1 .1 .1)
+    by (when-true _ e ∙ entered-is (wrap-node (a .c) (a .t)) (a .from) σ (t .1 .1 .0))
+    (tells (v .holds) (took-more (a .from) (t .1 .0) (v .limits) (omega arith)) (t .1 .1 .1))
 
 pub wrap-spec : {M : Type 1} → statement M
 wrap-spec =

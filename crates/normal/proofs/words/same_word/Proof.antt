@@ -3,7 +3,7 @@ use mathlib.Core.Path.{sym, ap, _∙_}
 use Prim.Native.Nat.{ℕ, _-_}
 use lib.ListN.{take, drop}
 use Rattle.grammar.specs.Text.{same}
-use Rattle.normal.specs.Places.{part, part-length}
+use Rattle.normal.specs.Parts.{part, part-length}
 use Rattle.normal.specs.Tests.{same-no}
 use borrow.Author.Needs.{needs}
 use native.Mathlib.Omega.{arith}

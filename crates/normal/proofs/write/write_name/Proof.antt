@@ -5,7 +5,7 @@ use Prim.Native.Nat.{ℕ, suc, _-_}
 use lib.ListN.{length, length-append}
 use Rattle.grammar.specs.Text.{Text, decimal}
 use Rattle.catalogue.specs.Spelling.{lengthDigits}
-use Rattle.normal.specs.Places.{part, part-length}
+use Rattle.normal.specs.Parts.{part, part-length}
 use Rattle.normal.specs.Written.{wrote-as, wrote-both}
 use borrow.Author.Needs.{needs}
 use native.Mathlib.Omega.{arith}

@@ -9,7 +9,6 @@ mod Referred
 mod Ty
 mod WithArgs
 mod Wrap
-use Prim.Native.Nat.{ℕ}
 use Rattle.writer.proofs.cycle.+args+end_or+more+named+nested+parts+referred+ty+with_args+wrap.Lts-args as args-lts
 use Rattle.writer.proofs.cycle.+args+end_or+more+named+nested+parts+referred+ty+with_args+wrap.Lts-end_or as end-or-lts
 use Rattle.writer.proofs.cycle.+args+end_or+more+named+nested+parts+referred+ty+with_args+wrap.Lts-more as more-lts

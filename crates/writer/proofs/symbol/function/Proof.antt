@@ -1,7 +1,7 @@
 -- `normal::symbol::function` writes the name of a function. Assumes nothing.
 use mathlib.Core.Path.{sym, _∙_}
 use borrow.Author.Tests.{not-true, not-false}
-use Rattle.normal.specs.Tests.{inside}
+use Rattle.grammar.specs.Places.{starts-inside}
 use Rattle.writer.specs.Symbols.{function-plain, function-scoped, function-constant}
 use borrow.Author.Needs.{needs}
 use native.Mathlib.Omega.{arith}
@@ -34,7 +34,7 @@ slice-aggregate-scoped c = search needs
 
 scoped-requires : tie.Need-scoped-requires
 scoped-requires c κs =
-    let i = inside 75 (c .before .before .before .before .before .before .before .before .before .before .before .before .args .s .now) 3 (sym (c .before .before .before .before .starts-with2 .ensures) ∙ c .before .before .before .if2 .taken) in
+    let i = starts-inside (c .before .before .before .before .before .before .before .before .before .before .before .before .args .s .now) 3 75 (sym (c .before .before .before .before .starts-with2 .ensures) ∙ c .before .before .before .if2 .taken) in
     ((c .before .before .before .before .before .before .before .before .before .before .before .before .pre .0, (omega arith, (omega arith, omega arith))), c .before .before .before .before .before .before .before .before .before .before .before .before .pre .1)
 
 same-length-2 : tie.Need-same-length-2
@@ -52,7 +52,7 @@ slice-aggregate-scoped-2 c = search needs
 
 scoped-requires-2 : tie.Need-scoped-requires-2
 scoped-requires-2 c κs =
-    let i = inside 78 (c .before .before .before .before .before .before .before .before .before .before .before .before .args .s .now) 2 (sym (c .before .before .before .before .before .before .before .starts-with .ensures) ∙ not-false _ (c .before .before .before .before .before .before .if1 .left)) in
+    let i = starts-inside (c .before .before .before .before .before .before .before .before .before .before .before .before .args .s .now) 2 78 (sym (c .before .before .before .before .before .before .before .starts-with .ensures) ∙ not-false _ (c .before .before .before .before .before .before .if1 .left)) in
     ((c .before .before .before .before .before .before .before .before .before .before .before .before .pre .0, (omega arith, (omega arith, omega arith))), c .before .before .before .before .before .before .before .before .before .before .before .before .pre .1)
 
 same-length-4 : tie.Need-same-length-4

@@ -4,8 +4,10 @@ use borrow.Author.Needs.{needs}
 use native.Mathlib.Omega.{arith}
 use mathlib.Core.Path.{sym, _∙_}
 use borrow.Author.Tests.{not-true, not-false}
-use Rattle.normal.specs.Tests.{inside}
-use Rattle.writer.specs.Members.{answered, spent-room, copied-ready}
+use Rattle.grammar.specs.Places.{starts-inside}
+use Rattle.normal.specs.Told.{answered}
+use Rattle.normal.specs.Limits.{spent-room}
+use Rattle.normal.specs.Moves.{copied-ready}
 use Rattle.writer.specs.Types.{args-told, close-next, closed-next}
 use Rattle.writer.specs.Parts.{part-refused, part-answer, angled-barred, angled-refused, angled-answer}
 use Rattle.writer.proofs.cycle.more.Reads as more
@@ -64,11 +66,11 @@ pub returns-3 : (t : ℕ) → lts.Need-returns-3 (more-calls t) (more-at t) more
 returns-3 t c = angled-barred _ _ _ (sym (c .before .before .before .before .before .starts-with .ensures) ∙ not-false _ (c .before .before .before .before .if1 .left)) (c .before .before .tag-of .ensures) (sym (c .before .bare .ensures) ∙ not-true _ (c .if2 .taken))
 
 pub copy-byte-requires : (t : ℕ) → lts.Need-copy-byte-requires (more-calls t) (more-at t) more.Post
-copy-byte-requires t c κs = (inside 73 (c .before .before .before .before .before .before .before .before .before .before .before .args .s .now) (c .before .before .before .before .before .before .before .before .before .before .before .args .p .at) (sym (c .before .before .before .before .before .before .starts-with .ensures) ∙ not-false _ (c .before .before .before .before .before .if1 .left)), (_, c .before .before .before .before .before .before .before .before .before .before .before .pre .1 .1))
+copy-byte-requires t c κs = (starts-inside (c .before .before .before .before .before .before .before .before .before .before .before .args .s .now) (c .before .before .before .before .before .before .before .before .before .before .before .args .p .at) 73 (sym (c .before .before .before .before .before .before .starts-with .ensures) ∙ not-false _ (c .before .before .before .before .before .if1 .left)), (_, c .before .before .before .before .before .before .before .before .before .before .before .pre .1 .1))
 
 pub args-requires : (t : ℕ) → lts.Need-args-requires (more-calls t) (more-at t) more.Post
 args-requires t c κs =
-    let l = inside 73 (c .before .before .before .before .before .before .before .before .before .before .before .before .before .before .before .before .args .s .now) (c .before .before .before .before .before .before .before .before .before .before .before .before .before .before .before .before .args .p .at) (sym (c .before .before .before .before .before .before .before .before .before .before .before .starts-with .ensures) ∙ not-false _ (c .before .before .before .before .before .before .before .before .before .before .if1 .left)) in
+    let l = starts-inside (c .before .before .before .before .before .before .before .before .before .before .before .before .before .before .before .before .args .s .now) (c .before .before .before .before .before .before .before .before .before .before .before .before .before .before .before .before .args .p .at) 73 (sym (c .before .before .before .before .before .before .before .before .before .before .before .starts-with .ensures) ∙ not-false _ (c .before .before .before .before .before .before .before .before .before .before .if1 .left)) in
     (omega (arith, c .before .before .before .before .before .before .before .before .before .before .before .before .before .before .before .before .pre .0, l, c .before .before .before .before .copy-byte .ensures .0), (c .before .before .before .before .before .before .before .before .before .before .before .before .before .before .before .before .pre .1 .0 .0, copied-ready (c .before .before .before .before .copy-byte .ensures) l (c .before .before .before .before .before .before .before .before .before .before .before .before .before .before .before .before .pre .1 .1)))
 
 pub enum-known-next-2 : (t : ℕ) → lts.Need-enum-known-next-2 (more-calls t) (more-at t) more.Post

@@ -2,7 +2,7 @@
 use Prim.Native.Nat.{ℕ}
 use borrow.Author.Needs.{needs}
 use native.Mathlib.Omega.{arith}
-use Rattle.writer.specs.Members.{copied-ready}
+use Rattle.normal.specs.Moves.{copied-ready}
 use Rattle.writer.specs.Types.{close-next, closed-next}
 use Rattle.writer.specs.Parts.{nested-refused, nested-told, nested-answer}
 use Rattle.writer.proofs.cycle.nested.Reads as nested

@@ -2,7 +2,7 @@
 use Prim.Native.Nat.{ℕ}
 use borrow.Author.Needs.{needs}
 use native.Mathlib.Omega.{arith}
-use Rattle.writer.specs.Members.{moved-ready}
+use Rattle.normal.specs.Moves.{moved-ready}
 use Rattle.writer.specs.Types.{by-reference, first-referred, first-next, class-refused, class-answer}
 use Rattle.writer.proofs.cycle.referred.Reads as referred
 use Rattle.writer.proofs.cycle.+args+end_or+more+named+nested+parts+referred+ty+with_args+wrap.Lts-referred as lts

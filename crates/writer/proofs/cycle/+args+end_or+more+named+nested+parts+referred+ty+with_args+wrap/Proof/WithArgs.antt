@@ -4,8 +4,8 @@ use borrow.Author.Needs.{needs}
 use native.Mathlib.Omega.{arith}
 use mathlib.Core.Path.{sym, _∙_}
 use borrow.Author.Tests.{not-true, not-false, eq-eqb, ne-eqb}
-use Rattle.normal.specs.Tests.{inside}
-use Rattle.writer.specs.Members.{copied-ready}
+use Rattle.grammar.specs.Places.{starts-inside}
+use Rattle.normal.specs.Moves.{copied-ready}
 use Rattle.writer.specs.Types.{args-told, close-next, closed-next, without-args, args-barred, args-refused, args-answer}
 use Rattle.writer.proofs.cycle.with_args.Reads as with-args
 use Rattle.writer.proofs.cycle.+args+end_or+more+named+nested+parts+referred+ty+with_args+wrap.Lts-with_args as lts
@@ -33,11 +33,11 @@ pub returns-2 : (t : ℕ) → lts.Need-returns-2 (with-args-calls t) (with-args-
 returns-2 t c = args-barred _ _ (sym (c .before .before .before .before .starts-with .ensures) ∙ not-false _ (c .before .before .before .if1 .left)) (c .before .tag-of .ensures) (ne-eqb _ _ (c .if2 .taken))
 
 pub copy-byte-requires : (t : ℕ) → lts.Need-copy-byte-requires (with-args-calls t) (with-args-at t) with-args.Post
-copy-byte-requires t c κs = (inside 73 _ _ (sym (c .before .before .before .before .before .starts-with .ensures) ∙ not-false _ (c .before .before .before .before .if1 .left)), (_, c .before .before .before .before .before .before .before .before .before .before .pre .1 .1))
+copy-byte-requires t c κs = (starts-inside _ _ 73 (sym (c .before .before .before .before .before .starts-with .ensures) ∙ not-false _ (c .before .before .before .before .if1 .left)), (_, c .before .before .before .before .before .before .before .before .before .before .pre .1 .1))
 
 pub args-requires : (t : ℕ) → lts.Need-args-requires (with-args-calls t) (with-args-at t) with-args.Post
 args-requires t c κs =
-    let l = inside 73 (c .before .before .before .before .before .before .before .before .before .before .before .before .before .before .before .args .s .now) (c .before .before .before .before .before .before .before .before .before .before .before .before .before .before .before .args .p .at) (sym (c .before .before .before .before .before .before .before .before .before .before .starts-with .ensures) ∙ not-false _ (c .before .before .before .before .before .before .before .before .before .if1 .left)) in
+    let l = starts-inside (c .before .before .before .before .before .before .before .before .before .before .before .before .before .before .before .args .s .now) (c .before .before .before .before .before .before .before .before .before .before .before .before .before .before .before .args .p .at) 73 (sym (c .before .before .before .before .before .before .before .before .before .before .starts-with .ensures) ∙ not-false _ (c .before .before .before .before .before .before .before .before .before .if1 .left)) in
     (omega (arith, c .before .before .before .before .before .before .before .before .before .before .before .before .before .before .before .pre .0, l, c .before .before .before .before .copy-byte .ensures .0), (c .before .before .before .before .before .before .before .before .before .before .before .before .before .before .before .pre .1 .0 .0, copied-ready (c .before .before .before .before .copy-byte .ensures) l (c .before .before .before .before .before .before .before .before .before .before .before .before .before .before .before .pre .1 .1)))
 
 pub enum-known-next : (t : ℕ) → lts.Need-enum-known-next (with-args-calls t) (with-args-at t) with-args.Post

@@ -2,7 +2,7 @@
 use Prim.Native.Nat.{ℕ}
 use borrow.Author.Needs.{needs}
 use native.Mathlib.Omega.{arith}
-use Rattle.writer.specs.Members.{copied-ready}
+use Rattle.normal.specs.Moves.{copied-ready}
 use Rattle.writer.specs.Types.{wrap-refused, wrap-next, wrap-answer}
 use Rattle.writer.proofs.cycle.wrap.Reads as wrap
 use Rattle.writer.proofs.cycle.+args+end_or+more+named+nested+parts+referred+ty+with_args+wrap.Lts-wrap as lts

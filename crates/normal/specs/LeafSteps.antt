@@ -18,13 +18,15 @@ use Rattle.walk.specs.Leaves.{Literal, lit-sound}
 use Rattle.walk.specs.Sizes.{name-length}
 use Rattle.nodes.specs.Nodes.{node, Notes, Got, got, bad, notes, put, go-to, settled, signed-kind, with-node, number-of, at-reference}
 use Rattle.nodes.specs.Laws.{kind-below}
-use Rattle.normal.specs.Places.{part, part-length}
+use Rattle.normal.specs.Parts.{part, part-length}
 use Rattle.normal.specs.Answers.{NameAt, NameIs, RefAt, RefIs, Value, LitIs}
 use Rattle.normal.specs.Leaves.{no-entry, entry-told}
 use Rattle.normal.specs.States.{moved-to}
-use Rattle.normal.specs.Holds.{Holds, Room, Puts, notes-node, at-literal}
-use Rattle.normal.specs.Keeps.{out-size}
-use Rattle.normal.specs.HoldLaws.{put-moved, Wrote, wrote-none, wrote-more, room-for, with-some}
+use Rattle.normal.specs.Holds.{Holds, Room, Puts, notes-node, at-literal, Passed}
+use Rattle.normal.specs.Slices.{out-size}
+use Rattle.normal.specs.Moves.{put-moved}
+use Rattle.normal.specs.Limits.{passed-none, passed-more, room-for}
+use Rattle.normal.specs.Steps.{with-some}
 use Rattle.normal.specs.declared.state.Writer.{Writer}
 use Rattle.normal.specs.declared.words.Named.{Named}
 use Rattle.normal.specs.declared.words.Named.the-variants.{At, Bad as no-name}
@@ -59,11 +61,11 @@ module _ {s : Text} {at from to : ℕ} (x : NameAt s at from to) where
     name-fits e = let z = name-size in let i = x .inside in omega (arith, out-size h, ap (λ (y : Writer). y .out) e)
 
     module _ {o' : Text} {q r : Writer} (e : q ≡ moved-to p to) (y : Puts (name-of s from to) o o' q r) where
-      pub name-wrote : Wrote to (to - at) p r
+      pub name-wrote : Passed to (to - at) p r
       name-wrote =
           let z = name-size in
           let l : 0 + length (name-of s from to) ≡ to - at = omega arith in
-          subst (λ (k : ℕ). Wrote to k p r) l (wrote-more (length (name-of s from to)) (wrote-none p e) (y .0))
+          subst (λ (k : ℕ). Passed to k p r) l (passed-more (length (name-of s from to)) (passed-none p e) (y .0))
 
       pub name-held : Holds s o' n r (put (name-of s from to) (go-to (drop to s) σ))
       name-held = let z = name-size in put-moved h (name-of s from to) e y (omega arith) (x .inside) (omega arith)
@@ -153,14 +155,14 @@ module _ {s o n : Text} {p : Writer} {σ : Notes} (h : Holds s o n p σ) {to kin
     literal-marked = put-moved h (code "L" ∷ []) e y (omega (arith, x .some)) (x .inside) (omega (arith, x .some))
 
     module _ {o'' : Text} {u : Writer} (z : Puts (part s (p .at) to) o' o'' r u) where
-      pub literal-wrote : Wrote to (to - p .at + 1) p u
+      pub literal-wrote : Passed to (to - p .at + 1) p u
       literal-wrote =
           let l : 0 + 1 + length (part s (p .at) to) ≡ to - p .at + 1 = omega (arith, part-length s (p .at) to (x .inside)) in
-          subst (λ (k : ℕ). Wrote to k p u) l (wrote-more (length (part s (p .at) to)) (wrote-more 1 (wrote-none p e) (y .0)) (z .0))
+          subst (λ (k : ℕ). Passed to k p u) l (passed-more (length (part s (p .at) to)) (passed-more 1 (passed-none p e) (y .0)) (z .0))
 
       pub literal-held : Holds s o'' n u (put (part s (p .at) to) marked)
       literal-held =
-          let w = wrote-more 1 (wrote-none p e) (y .0) in
+          let w = passed-more 1 (passed-none p e) (y .0) in
           z .1 s n marked literal-marked (omega (arith, part-length s (p .at) to (x .inside), x .some))
 
       pub literal-room : Room 1 1 5 u

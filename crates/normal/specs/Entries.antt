@@ -14,15 +14,15 @@ use Rattle.normal.specs.Holds.{most-number, small}
 
 -- ---------------------------------------------------------------- one entry more
 
-all-more : (ds es : List ℕ) (d : ℕ) → add-all ds (es ++ (d ∷ [])) ≡ add d (add-all ds es)
+add-all-more : (ds es : List ℕ) (d : ℕ) → add-all ds (es ++ (d ∷ [])) ≡ add d (add-all ds es)
 unfolding add-all
-all-more ds [] d = refl
-all-more ds (e ∷ es) d = all-more (add e ds) es d
+add-all-more ds [] d = refl
+add-all-more ds (e ∷ es) d = add-all-more (add e ds) es d
 
 module _ (ds : List ℕ) (d : ℕ) where
   by-place : (o : Option ℕ) → table-place d (firsts ds) ≡ o → firsts (ds ++ (d ∷ [])) ≡ with-new o d (firsts ds)
   unfolding add
-  by-place o e = all-more [] ds d ∙ ap (λ (q : Option ℕ). with-new q d (firsts ds)) e
+  by-place o e = add-all-more [] ds d ∙ ap (λ (q : Option ℕ). with-new q d (firsts ds)) e
 
   pub firsts-known : (i : ℕ) → table-place d (firsts ds) ≡ some i → firsts (ds ++ (d ∷ [])) ≡ firsts ds
   firsts-known i e = by-place (some i) e

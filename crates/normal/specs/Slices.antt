@@ -20,7 +20,7 @@ use Rattle.normal.specs.Written.{Wrote}
 use Rattle.normal.specs.Holds.{Row, node-in, nodes-in, flat, noting, most-number, Holds, Puts}
 use Rattle.normal.specs.Rows.{length-flat, nodes-more, inside-more, tag-at, no-tag}
 use Rattle.normal.specs.Regions.{pad-wrote, first-front, second-at, third-take, regions-size}
-use Rattle.normal.specs.Firsts.{firsts-length, some-at, small-at, small-more, last-none, last-at}
+use Rattle.normal.specs.Entries.{firsts-length, some-at, small-at, small-more, last-none, last-at}
 
 module _ {s o n : Text} {p : Writer} {σ : Notes} (h : Holds s o n p σ) where
   -- ---------------------------------------------------------------- sizes

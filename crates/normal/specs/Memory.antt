@@ -40,8 +40,8 @@ use Rattle.normal.specs.Holds.{Row, node-in, nodes-in, flat, Inside, not
 use Rattle.normal.specs.Seeks.{Sought}
 use Rattle.normal.specs.Rows.{rows-of, rows-flat, flat-more, length-nodes}
 use Rattle.normal.specs.Regions.{regions, pad-wrote, pad-cut, first-front, first-wrote, second-set, third-set}
-use Rattle.normal.specs.Firsts.{firsts-known, firsts-new, firsts-length}
-use Rattle.normal.specs.Keeps.{flat-size, flat-most, firsts-most, out-most, notes-size, firsts-here, with-out, with-entry, with-row}
+use Rattle.normal.specs.Entries.{firsts-known, firsts-new, firsts-length}
+use Rattle.normal.specs.Slices.{flat-size, flat-most, firsts-most, out-most, notes-size, firsts-here, with-out, with-entry, with-row}
 
 module _ {s o n : Text} {p : Writer} {σ : Notes} (h : Holds s o n p σ) where
   -- ---------------------------------------------------------------- the searches
