@@ -11,6 +11,7 @@ use Rattle.grammar.specs.Text.{Text, if_then_else_}
 use Rattle.store.specs.Stack.{zeros}
 use Rattle.store.specs.Lists.{length-zeros}
 use Rattle.names.specs.Outcome.{Slices, slices}
+use Rattle.names.specs.Fronts.{both-true}
 use Rattle.listing.specs.Listing.{Outcome, lines, fitting, bytes-taken, listing, least-ends-of, sized, work-sized, lists, listed, Lists}
 use Rattle.listing.specs.Kinds.{Idle}
 use Rattle.listing.specs.Lines.{Same, same-slices, Goes}
@@ -35,11 +36,6 @@ module _ (kind : Kind) (name text store ends : ℕ) where
   pub long-others : 16384 ≤ name → 65536 ≤ text → 65536 ≤ store → leb (least-ends-of kind) ends ≡ sized kind name text store ends
   unfolding sized
   long-others h k l = rw (le-leb 16384 name h, le-leb 65536 text k, le-leb 65536 store l)
-
-both : (p q : Bool) → p && q ≡ true → (p ≡ true) × (q ≡ true)
-unfolding if_then_else_
-both true q e = (refl, e)
-both false q e = let z : _≡_ {A = Bool} false true = e in absurd (omega (arith, ap {B = ℕ} (λ (b : Bool). if b then 1 else 0) z))
 
 -- ---------------------------------------------------------------- the work slices
 
@@ -68,8 +64,8 @@ module _ (kind : Kind) (l : Slices) (s : work-sized kind l ≡ true) where
           ends = zero-is (zeros (length (l .ends))) (length (l .ends)) refl;
         };
         name = zero-is (zeros (length (l .out))) (length (l .out)) refl;
-        long = omega (arith, leb-true 16384 (length (l .out)) (both name others s .0), length-zeros (length (l .out)));
-        fits = rw (length-zeros (length (l .text)), length-zeros (length (l .store)), length-zeros (length (l .ends))) (both name others s .1);
+        long = omega (arith, leb-true 16384 (length (l .out)) (both-true name others s .0), length-zeros (length (l .out)));
+        fits = rw (length-zeros (length (l .text)), length-zeros (length (l .store)), length-zeros (length (l .ends))) (both-true name others s .1);
       })
 
 -- ---------------------------------------------------------------- the outcome

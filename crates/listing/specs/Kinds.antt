@@ -1,39 +1,23 @@
 -- What holds of an answer whatever is listed: its length, a symbol that is too long, and that an entry with work slices of its least lengths
 -- gives it. Assumes nothing.
 use mathlib.Core.Bool.{Bool, true, false, _&&_}
-use mathlib.Core.List.{[], _∷_}
 use mathlib.Core.Option.{Option, none, some}
 use mathlib.Core.Path.{_≡_, refl, sym, ap, _∙_, subst}
-use Prim.Native.Nat.{ℕ, _≤_, _<_}
+use Prim.Native.Nat.{_≤_, _<_}
 use native.Mathlib.Omega.{arith}
-use borrow.Author.Tests.{le-leb, lt-ltb, leb-true}
-use lib.Dec.{leb, ltb}
+use borrow.Author.Tests.{lt-ltb, leb-true}
+use lib.Dec.{leb}
 use lib.ListN.{length}
-use Rattle.grammar.specs.Text.{Text, if_then_else_, choose}
-use Rattle.grammar.specs.Tables.{_⇒_}
-use Rattle.grammar.specs.Reader.{find}
-use Rattle.grammar.specs.Names.{
-  Answer,
-  named,
-  refusal,
-  mangled-name,
-  high,
-  front,
-  demangle,
-  most-symbol-bytes,
-  least-text,
-  least-store,
-  work-fits,
-  within,
-  length-of,
-}
+use Rattle.grammar.specs.Text.{Text, if_then_else_}
+use Rattle.grammar.specs.Names.{Answer, named, refusal, mangled-name, front, demangle, most-symbol-bytes, least-text, least-store, work-fits, within, length-of}
 use Rattle.catalogue.specs.Recogniser.{classify}
 use Rattle.catalogue.specs.Answer.{normalIn, normal-told, normal-after, normal-symbol, normal-work-fits, normal-answer}
 use Rattle.store.specs.Stack.{zeros}
-use Rattle.names.specs.Lengths.{short-answer, answer-is}
+use Rattle.names.specs.Lengths.{short-answer, within-is, answer-is}
 use Rattle.names.specs.Outcome.{Slices, Zero, Demangles, Leaves, lent, leaves, demangled}
 use Rattle.names.specs.declared.entry.Answer.{Answer as Code}
 use Rattle.symbols.specs.Outcome.{Normalizes, normalized}
+use Rattle.symbols.specs.Runs.{normal-behind}
 use Rattle.listing.specs.Listing.{answer-of, least-ends-of}
 use Rattle.listing.specs.declared.listing.Kind.{Kind}
 use Rattle.listing.specs.declared.listing.Kind.the-variants.{Names, Symbols}
@@ -53,26 +37,9 @@ unfolding normal-after length-of
 after-short s (named x) = told-short (normalIn (classify s))
 after-short s (refusal r) = omega arith
 
--- what is refused in front stays so
-front-after : (s t : Text) (f : Text → Answer) → front most-symbol-bytes t (λ u. normal-after s (f u)) ≡ normal-after s (front most-symbol-bytes t f)
-unfolding front normal-after choose if_then_else_
-front-after s t f = go (ltb most-symbol-bytes (length t)) (high t) (find ("_Z" ⇒ tt {0} ∷ "__Z" ⇒ tt {0} ∷ []) t) where
-  go : {A : Type 0} (p q : Bool) (x : Option (A × Text)) →
-      (if p then refusal 1 else if q then refusal 2 else choose x (λ r. normal-after s (f (r .1))) (refusal 3))
-      ≡ normal-after s (if p then refusal 1 else if q then refusal 2 else choose x (λ r. f (r .1)) (refusal 3))
-  go true q x = refl
-  go false true x = refl
-  go false false none = refl
-  go false false (some r) = refl
-
-within-is : (n : ℕ) (a : Answer) → length-of a ≤ n → within n a ≡ a
-unfolding within length-of if_then_else_
-within-is n (named t) h = rw (le-leb (length t) n h)
-within-is n (refusal r) h = refl
-
 normal-is : (l : Slices) (s : Text) → 16384 ≤ length (l .out) → normal-work-fits (lent l) ≡ true → normal-answer (lent l) s ≡ normal-symbol s
 unfolding normal-answer normal-symbol demangle if_then_else_
-normal-is l s h k = ap (front most-symbol-bytes s) (λ i u. step u i) ∙ front-after s s mangled-name where
+normal-is l s h k = ap (front most-symbol-bytes s) (λ i u. step u i) ∙ normal-behind s where
   step : (u : Text) → (if normal-work-fits (lent l) then within (length (l .out)) (normal-after s (mangled-name u)) else refusal 14) ≡ normal-after s (mangled-name u)
   step u =
       let a = normal-after s (mangled-name u) in

@@ -4,7 +4,7 @@ use mathlib.Core.Bool.{Bool, true, false}
 use mathlib.Core.List.{[], _∷_, _++_}
 use mathlib.Core.Option.{Option, none, some}
 use mathlib.Core.Path.{_≡_, refl, sym, ap, _∙_, subst}
-use Prim.Native.Nat.{ℕ, zero, suc, _≤_}
+use Prim.Native.Nat.{ℕ, suc, _≤_}
 use native.Mathlib.Omega.{arith}
 use borrow.Author.Tests.{le-leb, leb-true}
 use lib.Dec.{eqb, leb}
@@ -140,13 +140,15 @@ short-answer s = short-length (demangle most-symbol-bytes s) (demangle-fits most
 
 -- ---------------------------------------------------------------- the entry for names
 
-within-is : (n : ℕ) (a : Answer) → 16384 ≤ n → Fits a → within n a ≡ a
-unfolding within if_then_else_
-within-is n (named t) h (fits k) = rw (le-leb (length t) n (omega arith))
-within-is n (refusal r) h no-name = refl
+pub within-is : (n : ℕ) (a : Answer) → length-of a ≤ n → within n a ≡ a
+unfolding within length-of if_then_else_
+within-is n (named t) h = rw (le-leb (length t) n h)
+within-is n (refusal r) h = refl
 
 pub answer-is : (l : Slices) (s : Text) → 16384 ≤ length (l .out) → work-fits (lent l) ≡ true → answer most-symbol-bytes (lent l) s ≡ demangle most-symbol-bytes s
 unfolding answer demangle if_then_else_
 answer-is l s h k = ap (front most-symbol-bytes s) (λ i u. step u i) where
   step : (u : Text) → (if work-fits (lent l) then within (length (l .out)) (mangled-name u) else refusal 14) ≡ mangled-name u
-  step u = ap (λ (q : Bool). if q then within (length (l .out)) (mangled-name u) else refusal 14) k ∙ within-is (length (l .out)) (mangled-name u) h (mangled-fits u)
+  step u =
+      ap (λ (q : Bool). if q then within (length (l .out)) (mangled-name u) else refusal 14) k
+      ∙ within-is (length (l .out)) (mangled-name u) (omega (arith, short-length (mangled-name u) (mangled-fits u)))

@@ -6,7 +6,7 @@ use borrow.Author.Tests.{leb-true}
 use lib.Dec.{leb}
 use lib.ListN.{length, drop}
 use Rattle.grammar.specs.Text.{Text, if_then_else_}
-use Rattle.grammar.specs.Names.{answer, refusal, work-fits, within, mangled-name}
+use Rattle.grammar.specs.Names.{front, most-symbol-bytes, answer, refusal, work-fits, within, mangled-name}
 use Rattle.grammar.specs.Names as n
 use Rattle.store.specs.Stack.{zeros}
 use Rattle.store.specs.Lists.{length-zeros}
@@ -39,17 +39,23 @@ pub told-leaves : {a : n.Answer} (l m : Slices) {r : Answer} → Tells a (l .out
 unfolding leaves
 told-leaves l m h e f g = λ i. record { number = h .number i; bytes = h .bytes i; slices = record { out = h .out i; text = e i; store = f i; ends = g i } }
 
-refusal-leaves : (l : Slices) {r : ℕ} → Zero l → Leaves (refusal r) l l (Refused r)
+pub refusal-leaves : (l : Slices) {r : ℕ} → Zero l → Leaves (refusal r) l l (Refused r)
 refusal-leaves l z = told-leaves l l (tells-refusal refl) (z .text) (z .store) (z .ends)
 
 -- ---- by the front
 
 module _ {s : Text} {f : Front} (h : Fronts s f) where
+  -- whatever is read behind the front
+  pub front-leaves : (g : Text → n.Answer) (l : Slices) {r : Answer} {k : ℕ} → f ≡ front-as.Refused k → r ≡ refused-of f → Zero l
+      → Leaves (front most-symbol-bytes s g) l l r
+  front-leaves g l {r} {k} e i z =
+      let j : Fronts s (front-as.Refused k) = subst (Fronts s) e h in
+      subst (λ (x : Answer). Leaves (front most-symbol-bytes s g) l l x) (sym (i ∙ ap refused-of e))
+      (refusal-leaves l z ∙ ap (λ (a : n.Answer). leaves a l) (sym (j .is g)))
+
   pub front-refuses : (l : Slices) {r : Answer} {k : ℕ} → f ≡ front-as.Refused k → r ≡ refused-of f → Zero l → Demangles s l l r
   unfolding demangled answer
-  front-refuses l {r} {k} e g z =
-      let i : Fronts s (front-as.Refused k) = subst (Fronts s) e h in
-      subst (λ (x : Answer). Demangles s l l x) (sym (g ∙ ap refused-of e)) (refusal-leaves l z ∙ ap (λ (a : n.Answer). leaves a l) (sym (i .is _)))
+  front-refuses l e g z = front-leaves _ l e g z
 
   module _ {k : ℕ} (e : f ≡ front-as.Behind k) where
     pub front-inside : (k ≤ length s) × (length s ≤ 4096)
@@ -69,15 +75,16 @@ module _ {s : Text} {f : Front} (h : Fronts s f) where
 
 -- ---- only the lengths of the work slices matter
 
+-- a slice that was cleared has its length
+pub again : (x y : Text) → y ≡ zeros (length x) → length y ≡ length x
+again x y e = ap length e ∙ length-zeros (length x)
+
 lengths-matter : (s out text store ends text' store' ends' : Text) → length text' ≡ length text → length store' ≡ length store → length ends' ≡ length ends
     → demangled s (slices out text' store' ends') ≡ demangled s (slices out text store ends)
 unfolding demangled leaves
 lengths-matter s out text store ends text' store' ends' a b c = rw (a, b, c)
 
 module _ {text store ends text' store' ends' : Text} (h : Cleared (mem text store ends) (mem text' store' ends')) where
-  again : (x y : Text) → y ≡ zeros (length x) → length y ≡ length x
-  again x y e = ap length e ∙ length-zeros (length x)
-
   pub cleared-zero : (out : Text) → Zero (slices out text' store' ends')
   cleared-zero out = record {
     text = h .text ∙ ap zeros (sym (again text text' (h .text)));

@@ -19,17 +19,17 @@ use Rattle.walk.specs.Equal.{walk-is}
 use Rattle.nodes.specs.Nodes.{note-symbol}
 use Rattle.nodes.specs.Equal.{nodes-are-walk}
 use Rattle.store.specs.Stack.{zeros}
-use Rattle.store.specs.Lists.{length-zeros}
+use Rattle.parser.specs.Holds.{mem}
 use Rattle.names.specs.declared.entry.Answer.{Answer}
 use Rattle.names.specs.declared.entry.Answer.the-variants.{Name, Refused}
 use Rattle.names.specs.declared.symbol.Front.{Front}
 use Rattle.names.specs.declared.symbol.Front.the-variants as front-as
-use Rattle.names.specs.Outcome.{Slices, Outcome, slices, lent, leaves, demangled, Demangles, Leaves, Zero, number-in}
-use Rattle.names.specs.Symbols.{Fronts, Front-inside}
+use Rattle.names.specs.Outcome.{Slices, Outcome, slices, lent, leaves, demangled, Demangles, Zero, number-in}
+use Rattle.names.specs.Symbols.{Fronts}
 use Rattle.names.specs.Fronts.{both-true}
-use Rattle.names.specs.Printed.{Tells, refused-of}
+use Rattle.names.specs.Printed.{Tells, Cleared, refused-of}
 use Rattle.names.specs.Tells.{tells-refusal, tells-name, tells-as}
-use Rattle.names.specs.Told.{told-leaves}
+use Rattle.names.specs.Told.{told-leaves, refusal-leaves, front-leaves, again}
 use Rattle.names.specs.Lengths.{answer-is}
 use Rattle.symbols.specs.Outcome.{normalized, Normalizes}
 use Rattle.symbols.specs.Parts.{Long, Accepts, Normal}
@@ -107,24 +107,12 @@ fit-long l h =
 
 -- ---- by the front
 
--- a slice that was cleared has its length
-pub again : (x y : Text) → y ≡ zeros (length x) → length y ≡ length x
-again x y e = ap length e ∙ length-zeros (length x)
-
-refusal-leaves : (l : Slices) {k : ℕ} → Zero l → Leaves (refusal k) l l (Refused k)
-refusal-leaves l z = told-leaves l l (tells-refusal refl) (z .text) (z .store) (z .ends)
-
 module _ {s : Text} {f : Front} (h : Fronts s f) where
   pub front-refuses : (l : Slices) {r : Answer} {k : ℕ} → f ≡ front-as.Refused k → r ≡ refused-of f → Zero l → Normalizes s l l r
   unfolding normalized normal-answer
-  front-refuses l {r} {k} e g z =
-      let i : Fronts s (front-as.Refused k) = subst (Fronts s) e h in
-      subst (λ (x : Answer). Normalizes s l l x) (sym (g ∙ ap refused-of e)) (refusal-leaves l z ∙ ap (λ (a : n.Answer). leaves a l) (sym (i .is _)))
+  front-refuses l e g z = front-leaves h _ l e g z
 
   module _ {k : ℕ} (e : f ≡ front-as.Behind k) where
-    pub front-inside : (k ≤ length s) × (length s ≤ 4096)
-    front-inside = subst (Front-inside s) e (h .inside)
-
     abbrev here : Fronts s (front-as.Behind k)
     here = subst (Fronts s) e h
 
@@ -144,24 +132,17 @@ module _ {s : Text} {f : Front} (h : Fronts s f) where
           (tells-refusal (after-is l g ∙ ap (within (length (l .out))) (after-refused s (demangle most-symbol-bytes s) (a .number) z)))
           (a .text) (a .store) (a .ends)
 
-      pub normal-written : (m : Slices) {r : Answer} → j ≡ 0 → Normal s (l .out) (m .out) (zeros (length text)) (m .text) (zeros (length ends)) (m .ends) r
+      pub reading-accepts : (m : Slices) {r : Answer} → j ≡ 0 → Normal s (l .out) (m .out) (zeros (length text)) (m .text) (zeros (length ends)) (m .ends) r
           → m .store ≡ store → Normalizes s l m r
       unfolding normalized
-      normal-written m z i c =
+      reading-accepts m z i c =
           told-leaves l m
           (tells-as (sym (after-is l g ∙ ap (within (length (l .out))) (after-accepted s (demangle most-symbol-bytes s) (never-0 most-symbol-bytes s) (a .number) z))) (i .tells))
           (i .text-is ∙ ap zeros (again (l .text) text (a .text))) (c ∙ a .store) (i .ends-is ∙ ap zeros (again (l .ends) ends (a .ends)))
 
 -- ---- only the lengths of the work slices matter
 
-module _ (text store ends : Text) {text' store' ends' : Text} (e : text' ≡ zeros (length text)) (f : store' ≡ zeros (length store)) (g : ends' ≡ zeros (length ends)) where
-  pub cleared-zero : (out : Text) → Zero (slices out text' store' ends')
-  cleared-zero out = record {
-    text = e ∙ ap zeros (sym (again text text' e));
-    store = f ∙ ap zeros (sym (again store store' f));
-    ends = g ∙ ap zeros (sym (again ends ends' g));
-  }
-
-  pub cleared-normalized : (s out : Text) → normalized s (slices out text' store' ends') ≡ normalized s (slices out text store ends)
-  unfolding normalized leaves
-  cleared-normalized s out = rw (again text text' e, again store store' f, again ends ends' g)
+pub cleared-normalized : {text store ends text' store' ends' : Text} → Cleared (mem text store ends) (mem text' store' ends') → (s out : Text)
+    → normalized s (slices out text' store' ends') ≡ normalized s (slices out text store ends)
+unfolding normalized leaves
+cleared-normalized {text} {store} {ends} {text'} {store'} {ends'} h s out = rw (again text text' (h .text), again store store' (h .store), again ends ends' (h .ends))

@@ -85,6 +85,10 @@ unfolding normal-after
 after-front s F (refuses r h) = h _ ∙ ap (normal-after s) (sym (h mangled-name))
 after-front s F (behind u h) = h _ ∙ ap (normal-after s) (sym (h mangled-name))
 
+pub normal-behind : (s : Text) → front most-symbol-bytes s (λ u. normal-after s (mangled-name u)) ≡ normal-symbol s
+unfolding normal-symbol demangle
+normal-behind s = after-front s (front most-symbol-bytes s) (fronted s)
+
 -- ---- what an answer leaves
 
 module _ (a : Answer) (l l' : Slices) (r : told.Answer) (h : Leaves a l l' r) where
@@ -169,16 +173,12 @@ module _ (s : Text) (l l' : Slices) (r : told.Answer) (h : Normalizes s l l' r) 
   abbrev behind-front : Text → Answer
   behind-front u = normal-after s (mangled-name u)
 
-  plain : front most-symbol-bytes s behind-front ≡ normal-symbol s
-  unfolding normal-symbol demangle
-  plain = after-front s (front most-symbol-bytes s) (fronted s)
-
   pub normal-written : number-in r ≡ 0 → Has-normal s (take (bytes-in r) (l' .out))
   unfolding normal-answer normal-symbol
   normal-written z =
       let k : number-of wanted ≡ 0 = sym (number-left wanted l l' r normal-leaves) ∙ z in
       let e : wanted ≡ normal-symbol s =
-      cut-front (front most-symbol-bytes s) behind-front (normal-work-fits (lent l)) (length (l .out)) (fronted s) k ∙ plain in
+      cut-front (front most-symbol-bytes s) behind-front (normal-work-fits (lent l)) (length (l .out)) (fronted s) k ∙ normal-behind s in
       let (v, (i, j)) = has-normal s (demangle most-symbol-bytes s) refl (ap number-of (sym e) ∙ k) in
       rw (text-left wanted l l' r normal-leaves v (e ∙ i)) j
 
@@ -187,5 +187,5 @@ module _ (s : Text) (l l' : Slices) (r : told.Answer) (h : Normalizes s l l' r) 
   unfolding normal-answer number-of
   writes-normal v e f g =
       let i : wanted ≡ named v =
-      named-front (front most-symbol-bytes s) behind-front (normal-work-fits (lent l)) (length (l .out)) (fronted s) v (plain ∙ normal-named s v e) f g in
+      named-front (front most-symbol-bytes s) behind-front (normal-work-fits (lent l)) (length (l .out)) (fronted s) v (normal-behind s ∙ normal-named s v e) f g in
       (number-left wanted l l' r normal-leaves ∙ ap number-of i, text-left wanted l l' r normal-leaves v i)

@@ -1,6 +1,7 @@
 -- `symbols::entry::normalize` meets its contract: only the lengths of the work slices matter. Assumes nothing.
 use mathlib.Core.Path.{_∙_}
-use Rattle.symbols.specs.Answers.{cleared-zero, cleared-normalized}
+use Rattle.names.specs.Told.{cleared-zero}
+use Rattle.symbols.specs.Answers.{cleared-normalized}
 use borrow.Author.Needs.{needs}
 use Rattle.symbols.proofs.entry.normalize.Statement.{statement}
 use Rattle.symbols.proofs.entry.normalize.Tie as tie
@@ -17,7 +18,11 @@ clear-ends-requires c κs = search needs
 normalize-zeroed-requires : tie.Need-normalize-zeroed-requires
 normalize-zeroed-requires c κs =
     let a = c .before .before .before .before .before .before .before .before .before .before .before .before .before .before .before .before .before .before .before .before .before .args in
-    cleared-zero (a .text .now) (a .store .now) (a .ends .now) (c .before .before .before .before .before .before .before .before .before .before .before .before .before .before .clear .ensures) (c .before .before .before .before .before .before .before .before .before .before .clear2 .ensures) (c .before .before .before .before .before .before .clear-ends .ensures) (a .out .now)
+    cleared-zero {text = a .text .now} {store = a .store .now} {ends = a .ends .now} record {
+      text = c .before .before .before .before .before .before .before .before .before .before .before .before .before .before .clear .ensures;
+      store = c .before .before .before .before .before .before .before .before .before .before .clear2 .ensures;
+      ends = c .before .before .before .before .before .before .clear-ends .ensures;
+    } (a .out .now)
 
 same-length : tie.Need-same-length
 same-length c = search needs
@@ -35,7 +40,11 @@ returns : tie.Need-returns
 returns c =
     let a = c .before .before .before .before .before .before .before .before .before .before .before .before .before .before .before .before .before .before .before .before .before .before .before .before .before .before .before .before .before .before .args in
     c .before .before .before .before .before .before .before .before .normalize-zeroed .ensures
-    ∙ cleared-normalized (a .text .now) (a .store .now) (a .ends .now) (c .before .before .before .before .before .before .before .before .before .before .before .before .before .before .before .before .before .before .before .before .before .before .before .clear .ensures) (c .before .before .before .before .before .before .before .before .before .before .before .before .before .before .before .before .before .before .before .clear2 .ensures) (c .before .before .before .before .before .before .before .before .before .before .before .before .before .before .before .clear-ends .ensures) (a .s .now) (a .out .now)
+    ∙ cleared-normalized {text = a .text .now} {store = a .store .now} {ends = a .ends .now} record {
+      text = c .before .before .before .before .before .before .before .before .before .before .before .before .before .before .before .before .before .before .before .before .before .before .before .clear .ensures;
+      store = c .before .before .before .before .before .before .before .before .before .before .before .before .before .before .before .before .before .before .before .clear2 .ensures;
+      ends = c .before .before .before .before .before .before .before .before .before .before .before .before .before .before .before .clear-ends .ensures;
+    } (a .s .now) (a .out .now)
 
 pub normalize-spec : {M : Type 1} → statement M
 normalize-spec =

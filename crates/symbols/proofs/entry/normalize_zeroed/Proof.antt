@@ -4,7 +4,8 @@ use native.Mathlib.Omega.{arith}
 use borrow.Author.Tests.{not-true, not-false}
 use Rattle.store.specs.Stack.{zeros}
 use Rattle.names.specs.Outcome.{slices}
-use Rattle.symbols.specs.Answers.{again, fit-long, front-refuses, front-inside, front-short, reading-refuses, normal-written}
+use Rattle.names.specs.Told.{again, front-inside}
+use Rattle.symbols.specs.Answers.{fit-long, front-refuses, front-short, reading-refuses, reading-accepts}
 use borrow.Author.Needs.{needs}
 use Rattle.symbols.proofs.entry.normalize_zeroed.Statement.{statement}
 use Rattle.symbols.proofs.entry.normalize_zeroed.Tie as tie
@@ -76,7 +77,7 @@ same-length-7 c = search needs
 returns-4 : tie.Need-returns-4
 returns-4 c =
     let a = c .before .before .before .before .before .before .before .before .before .before .before .before .before .before .before .before .before .before .before .before .before .before .before .before .before .before .before .before .before .before .before .args in
-    normal-written (c .before .before .before .before .before .before .before .before .before .before .before .before .before .before .before .before .before .before .before .before .before .before .before .before .before .behind-front .ensures) (c .before .before .before .before .before .before .before .before .before .before .before .before .before .before .before .before .before .before .before .before .before .before .before .enum-told .given .1) (slices (a .out .now) (a .text .now) (a .store .now) (a .ends .now))
+    reading-accepts (c .before .before .before .before .before .before .before .before .before .before .before .before .before .before .before .before .before .before .before .before .before .before .before .before .before .behind-front .ensures) (c .before .before .before .before .before .before .before .before .before .before .before .before .before .before .before .before .before .before .before .before .before .before .before .enum-told .given .1) (slices (a .out .now) (a .text .now) (a .store .now) (a .ends .now))
     (sym (c .before .before .before .before .before .before .before .before .before .before .before .before .before .before .before .before .before .before .before .before .before .before .work-fits .ensures) ∙ not-false _ (c .before .before .before .before .before .before .before .before .before .before .before .before .before .before .before .before .before .before .before .before .before .if1 .left)) (c .before .before .before .before .before .before .before .before .before .before .before .before .before .before .before .before .before .accepted .ensures) _ (c .before .before .before .before .before .before .before .before .before .before .if2 .left) (c .before .before .before .before .before .before .write-within .ensures) refl
 
 pub normalize-zeroed-spec : {M : Type 1} → statement M
