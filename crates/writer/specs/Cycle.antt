@@ -1,12 +1,11 @@
 -- What the members of the cycle promise.
-use mathlib.Core.Bool.{Bool}
 use mathlib.Core.List.{_∷_}
 use mathlib.Core.Path.{_≡_}
 use Prim.Native.Nat.{ℕ, suc, _+_, _≤_}
 use lib.ListN.{length}
 use Rattle.grammar.specs.Text.{Text}
 use Rattle.catalogue.specs.Recogniser.{Lead}
-use Rattle.nodes.specs.Nodes.{Notes, at-lead, with-args, end-or, note-type, note-args, note-parts, note-more}
+use Rattle.nodes.specs.Nodes.{Notes, at-lead, with-args, note-type, note-args, note-parts}
 use Rattle.normal.specs.Holds.{Holds, Spent, Refines, Fueled}
 use Rattle.normal.specs.declared.state.Writer.{Writer}
 use Rattle.normal.specs.declared.state.Told.{Told}
@@ -21,7 +20,3 @@ Leads l c s o n o' n' p r =
 -- arguments, if there are any
 abbrev pub WithArgs : ℕ → ℕ → Text → Text → Text → Text → Text → Writer → Told → Type 0
 WithArgs t from = Fueled 0 from 0 (λ m. with-args t from (λ u τ. note-args m u τ))
-
--- the end of a nested name, or more of its parts
-abbrev pub Ends : ℕ → Bool → ℕ → Text → Text → Text → Text → Text → Writer → Told → Type 0
-Ends u lone from = Fueled 0 from 1 (λ m. end-or from (λ t l τ. note-more m t l from τ) u lone)

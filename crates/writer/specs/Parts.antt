@@ -52,14 +52,15 @@ use Rattle.normal.specs.Holds.{
   at-part,
   closed,
 }
-use Rattle.writer.specs.Cycle.{Leads, Ends}
+use Rattle.writer.specs.Cycle.{Leads}
 use Rattle.normal.specs.Told.{Answered, answered, refused, by, within}
 use Rattle.normal.specs.Steps.{on-got, on-bad}
 use Rattle.normal.specs.Moves.{first-byte, no-byte, byte-is, byte-not, holds-next}
 use Rattle.normal.specs.Tests.{byte-next}
-use Rattle.normal.specs.Limits.{spent-less, spent-spent, spent-stands, spent-moved, passed-spent, spent-took, took-spent, took-more, closed-spent, spent-nothing}
+use Rattle.normal.specs.Limits.{spent-less, spent-spent, spent-stands, spent-moved, passed-spent, spent-took, took-spent, took-more, closed-spent, spent-nothing, spent-room}
 use Rattle.writer.specs.FirstBytes.{parts-none, parts-some, more-some}
-use Rattle.writer.specs.Types.{by-name, by-reference, Behind, FirstPart, args-from}
+use Rattle.writer.specs.Types.{by-name, by-reference, Behind, FirstPart, args-from, Enclosed}
+use Rattle.writer.specs.Loops.{SoFar, nothing-yet, one-more}
 use Rattle.normal.specs.declared.lead.Lead.the-variants.{Digit, S}
 use Rattle.normal.specs.declared.state.Writer.{Writer}
 use Rattle.normal.specs.declared.state.Told.{Told}
@@ -168,6 +169,10 @@ name-none : name [] ≡ stop
 unfolding name readName cut run past number nameOk if_then_else_
 name-none = refl
 
+-- the end of a nested name, or more of its parts
+abbrev pub Ends : ℕ → Bool → ℕ → Text → Text → Text → Text → Text → Writer → Told → Type 0
+Ends u lone from = Fueled 0 from 1 (λ m. end-or from (λ t l τ. note-more m t l from τ) u lone)
+
 abbrev ending : ℕ → ℕ → Bool → ℕ → Noter ℕ
 ending m from lone u τ = end-or from (λ v l ρ. note-more m v l from ρ) u lone τ
 
@@ -185,6 +190,17 @@ module _ {s o n : Text} {p : Writer} (t : ℕ) (lone : Bool) (from : ℕ) where
     pub part-refused : r₁ ≡ Bad → Fueled 1 from 1 (λ m. note-more m t lone from) s o n o₁ n₁ p Bad
     part-refused e σ h zero l = absurd (omega (arith, h .place))
     part-refused e σ h (suc m) l = by (part-by m t lone from σ _ (h .rest) i ∙ on-bad (ending m from false) (refused e (u σ h))) refuses
+
+    pub part-next : {q : Writer} {d : ℕ} → r₁ ≡ Number q d → from ≤ p .out → Ready s o n p → Enclosed s o₁ n₁ from p q d
+    part-next e b (σ, h) =
+        let w = answered e (u σ h) in
+        record {
+          at = w .limits .0;
+          small = w .small;
+          stands = omega (arith, w .limits .1 .stands);
+          room = spent-room h (w .limits .1) (omega arith) (omega arith) (omega arith);
+          ready = (w .state, w .holds);
+        }
 
     pub part-answer : {o₂ n₂ : Text} {q : Writer} {d : ℕ} {r : Told} → r₁ ≡ Number q d → Ends d false from s o₁ n₁ o₂ n₂ q r
         → Fueled 1 from 1 (λ m. note-more m t lone from) s o n o₂ n₂ p r
@@ -221,7 +237,7 @@ module _ {s o n : Text} {p : Writer} (t : ℕ) (lone : Bool) (from : ℕ) where
           by (angled-by m h z ∙ on-got (λ u τ. ending m from lone u (closed τ)) (a .is))
           (within (λ x y. closed-spent (k .0) (a .limits) (b .limits) y) (w (closed (a .state)) (b .holds) m (omega (arith, k .0, a .limits, b .limits))))
 
--- ---------------------------------------------------------------- end_or
+-- ---------------------------------------------------------------- the end of a nested name, or more of its parts
 
 module _ {s o n : Text} {p : Writer} (d : ℕ) (lone : Bool) (from : ℕ) where
   module _ (i : starts (drop (p .at) s) (69 ∷ []) ≡ true) where
@@ -240,3 +256,30 @@ module _ {s o n : Text} {p : Writer} (d : ℕ) (lone : Bool) (from : ℕ) where
   end-more i v u σ h m l =
       let w = v s σ h in
       by (byte-not h 69 _ _ i) (within (λ x y. took-spent (w .limits) y (omega arith) (omega arith) (omega arith)) (u (entered d from σ) (w .holds) m (omega (arith, w .limits))))
+
+-- ---------------------------------------------------------------- the loop of `more`
+
+abbrev pub MoreFrom : ℕ → Bool → ℕ → Text → Text → Text → Writer → Text → Text → Told → Type 0
+MoreFrom t lone from s o n p o' n' r = Fueled 1 from 1 (λ m. note-more m t lone from) s o n o' n' p r
+
+abbrev pub MoreSoFar : Text → ℕ → Text → Text → Writer → ℕ → Bool → Text → Text → Writer → ℕ → Bool → Type 0
+MoreSoFar s from o₀ n₀ p₀ t₀ lone₀ o n p t lone =
+    (from ≤ p .out) × SoFar (MoreFrom t₀ lone₀ from s o₀ n₀ p₀) s o₀ n₀ p₀ (MoreFrom t lone from s o n p) o n p t
+
+pub more-start : {s o n : Text} {p : Writer} {t from : ℕ} (lone : Bool) → t < most-number → from ≤ p .out → Ready s o n p → MoreSoFar s from o n p t lone o n p t lone
+more-start lone l b w = (b, nothing-yet l w)
+
+-- a part or arguments, no E behind them, and what was read enters the table
+module _ {s o₁ n₁ o₂ n₂ : Text} {from d : ℕ} {p q z : Writer} (a : Enclosed s o₁ n₁ from p q d) (v : (s : Text) → Does 0 1 5 from (entered d from) s o₁ n₁ o₂ n₂ q z) where
+  pub more-behind : (p .at + 1 ≤ z .at) × (z .at ≤ length s)
+  more-behind =
+      let b = v s (a .ready .0) (a .ready .1) in (omega (arith, a .at, b .limits .at), b .holds .place)
+
+  pub more-again : {F : Text → Text → Told → Type 0} {o₀ n₀ o n : Text} {p₀ : Writer} {t : ℕ} (lone lone' : Bool) → starts (drop (q .at) s) (69 ∷ []) ≡ false
+      → length o₂ ≡ length o → length n₂ ≡ length n
+      → ((o' n' : Text) (r : Told) → Ends d lone' from s o₁ n₁ o' n' q r → MoreFrom t lone from s o n p o' n' r)
+      → SoFar F s o₀ n₀ p₀ (MoreFrom t lone from s o n p) o n p t
+      → (from ≤ z .out) × SoFar F s o₀ n₀ p₀ (MoreFrom d lone' from s o₂ n₂ z) o₂ n₂ z d
+  more-again lone lone' j x y g w =
+      let b = v s (a .ready .0) (a .ready .1) in
+      (b .limits .stands, one-more w x y (omega (arith, more-behind)) (a .small) (_, b .holds) (λ o' n' r k. g o' n' r (end-more d lone' from j v k)))

@@ -38,6 +38,7 @@ use Rattle.normal.specs.Moves.{first-byte, no-byte, byte-is, byte-not, holds-ne
 use Rattle.normal.specs.Tests.{byte-next}
 use Rattle.normal.specs.Limits.{spent-less, spent-spent, passed-spent, passed-none, spent-took, took-more, spent-nothing, spent-moved, spent-stands, spent-room}
 use Rattle.writer.specs.FirstBytes.{type-none, type-some}
+use Rattle.writer.specs.Loops.{SoFar, one-more}
 use Rattle.normal.specs.declared.state.Writer.{Writer}
 use Rattle.normal.specs.declared.state.Told.{Told}
 use Rattle.normal.specs.declared.state.Told.the-variants.{Number, Bad}
@@ -207,6 +208,13 @@ module _ {s o n : Text} {p : Writer} (t from : ℕ) where
 abbrev behind-arg : ℕ → ℕ → Noter ℕ
 behind-arg m d ρ = ifNext 69 (ρ .rest) (λ r. got d (go-to r ρ)) (note-args m d ρ)
 
+abbrev pub ArgsFrom : ℕ → Text → Text → Text → Writer → Text → Text → Told → Type 0
+ArgsFrom t s o n p o' n' r = Fueled 0 (p .out) 1 (λ m. note-args m t) s o n o' n' p r
+
+-- of the loop
+abbrev pub ArgsSoFar : Text → Text → Text → Writer → ℕ → Text → Text → Writer → ℕ → Type 0
+ArgsSoFar s o₀ n₀ p₀ t₀ o n p t = SoFar (ArgsFrom t₀ s o₀ n₀ p₀) s o₀ n₀ p₀ (ArgsFrom t s o n p) o n p t
+
 args-by : (m t : ℕ) (σ : Notes) → note-args (suc m) t σ ≡ next (note-type m σ) (λ x τ. next (counts-arg t x τ) (behind-arg m))
 unfolding note-args
 args-by m t σ = refl
@@ -251,12 +259,17 @@ module _ {s o n o₁ n₁ : Text} {p : Writer} {r₁ : Told} (t : ℕ) (u : Fuel
             let ((τ, (k, (b, (a, y)))), f) = counted-at h m (omega arith) in
             by (f ∙ byte-next _ _ (byte-is k 69 j)) (tells (holds-next k (byte-is k 69 j) g) (spent-moved g b) y)
 
-        pub args-more : {o₃ n₃ : Text} {r : Told} → starts (drop (q₂ .at) s) (69 ∷ []) ≡ false
+        args-more : {o₃ n₃ : Text} {r : Told} → starts (drop (q₂ .at) s) (69 ∷ []) ≡ false
             → Fueled 0 (q₂ .out) 1 (λ m. note-args m d) s o₁ n₂ o₃ n₃ q₂ r → Fueled 0 (p .out) 1 (λ m. note-args m t) s o n o₃ n₃ p r
         args-more j g σ h zero l = absurd (omega (arith, h .place))
         args-more j g σ h (suc m) l =
             let ((τ, (k, (b, (a, y)))), f) = counted-at h m (omega arith) in
             by (f ∙ byte-not k 69 _ _ j) (within (λ x z. spent-stands (b .stands) (spent-spent b z)) (g τ k m (omega arith)))
+
+        pub args-again : {F : Text → Text → Told → Type 0} {o₀ n₀ : Text} {p₀ : Writer} → starts (drop (q₂ .at) s) (69 ∷ []) ≡ false → length o₁ ≡ length o → length n₂ ≡ length n
+            → SoFar F s o₀ n₀ p₀ (ArgsFrom t s o n p) o n p t → SoFar F s o₀ n₀ p₀ (ArgsFrom d s o₁ n₂ q₂) o₁ n₂ q₂ d
+        args-again j x y w =
+            let (τ, (h, (v, (l, k)))) = counted-next (w .ready) in one-more w x y (omega (arith, l)) k (τ, h) (λ o' n' r z. args-more j z)
 
 -- ---------------------------------------------------------------- ty
 

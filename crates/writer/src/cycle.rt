@@ -13,8 +13,8 @@ ghost use lib.ListN.{length};
 ghost use Rattle.catalogue.specs.Tree.{Wrap};
 ghost use Rattle.catalogue.specs.Recogniser.{leadWrap, leadDigit, leadS, leadN};
 ghost use Rattle.nodes.specs.Nodes.{note-type, note-args, note-parts, note-more};
-ghost use Rattle.normal.specs.Holds.{Ready, Room, Fueled, most-number};
-ghost use Rattle.writer.specs.Cycle.{Leads, WithArgs, Ends};
+ghost use Rattle.normal.specs.Holds.{Ready, Fueled, most-number};
+ghost use Rattle.writer.specs.Cycle.{Leads, WithArgs};
 
 // <type>, <template-arg>
 pub fn ty(s: &[u8], out: &mut [u8], notes: &mut [u16], p: Writer) -> Told
@@ -99,17 +99,22 @@ pub fn args(s: &[u8], out: &mut [u8], notes: &mut [u16], p: Writer, t: usize) ->
     requires { ⌜ (t < most-number) × Ready (now s) (now out) (now notes) p ⌝ }
     ensures { λ r. ⌜ Fueled 0 (p .out) 1 (λ m. note-args m t) (now (s .entry)) (now (out .entry)) (now (notes .entry)) (now (out .exit)) (now (notes .exit)) p r ⌝ }
 {
-    let Told::Number(next, x) = ty(s, out, notes, p) else {
-        return Told::Bad;
-    };
-    let Told::Number(counted, u) = steps::arg(s, notes, next, t, x) else {
-        return Told::Bad;
-    };
-    let at = counted.at;
-    if bytes::starts_with(s, at, b"E") {
-        return Told::Number(counted.moved(at + 1), u);
+    let mut next = p;
+    let mut of = t;
+    loop {
+        let Told::Number(behind, x) = ty(s, out, notes, next) else {
+            return Told::Bad;
+        };
+        let Told::Number(counted, u) = steps::arg(s, notes, behind, of, x) else {
+            return Told::Bad;
+        };
+        let at = counted.at;
+        if bytes::starts_with(s, at, b"E") {
+            return Told::Number(counted.moved(at + 1), u);
+        }
+        next = counted;
+        of = u;
     }
-    args(s, out, notes, counted, u)
 }
 
 // N <parts> E
@@ -158,7 +163,8 @@ pub fn parts(s: &[u8], out: &mut [u8], notes: &mut [u16], p: Writer) -> Told
     }
 }
 
-// (I <template-args> E or <source-name>) (E or <more>), behind what has the number t and is written from `from` on
+// (I <template-args> E or <source-name>) (E or <more>), behind what has the number t and is written from `from` on. E is taken where there is
+// not one part alone; without E, what was read is leading parts and enters the table
 fn more(
     s: &[u8],
     out: &mut [u8],
@@ -171,43 +177,39 @@ fn more(
     requires { ⌜ ((t < most-number) × (from ≤ p .out)) × Ready (now s) (now out) (now notes) p ⌝ }
     ensures { λ r. ⌜ Fueled 1 from 1 (λ m. note-more m t lone from) (now (s .entry)) (now (out .entry)) (now (notes .entry)) (now (out .exit)) (now (notes .exit)) p r ⌝ }
 {
-    if !bytes::starts_with(s, p.at, b"I") {
-        let Told::Number(next, u) = steps::part(s, out, notes, p, t) else {
-            return Told::Bad;
-        };
-        return end_or(s, out, notes, next, u, false, from);
-    }
-    if !steps::bare(memory::tag_of(notes, p, t)) {
-        return Told::Bad;
-    }
-    let behind = steps::copy_byte(s, out, p);
-    let Told::Number(next, u) = args(s, out, notes, behind, t) else {
-        return Told::Bad;
-    };
-    let closed = steps::close(out, next);
-    end_or(s, out, notes, closed, u, lone, from)
-}
-
-// E, where there is not one part alone; or u is leading parts and enters the table
-fn end_or(
-    s: &[u8],
-    out: &mut [u8],
-    notes: &mut [u16],
-    p: Writer,
-    u: usize,
-    lone: bool,
-    from: usize,
-) -> Told
-    requires { ⌜ ((u < most-number) × (from ≤ p .out)) × ((Room 0 1 5 p) × Ready (now s) (now out) (now notes) p) ⌝ }
-    ensures { λ r. ⌜ Ends u lone from (now (s .entry)) (now (out .entry)) (now (notes .entry)) (now (out .exit)) (now (notes .exit)) p r ⌝ }
-{
-    let at = p.at;
-    if bytes::starts_with(s, at, b"E") {
-        if lone {
+    let mut next = p;
+    let mut of = t;
+    let mut alone = lone;
+    loop {
+        if !bytes::starts_with(s, next.at, b"I") {
+            let Told::Number(behind, u) = steps::part(s, out, notes, next, of) else {
+                return Told::Bad;
+            };
+            let at = behind.at;
+            if bytes::starts_with(s, at, b"E") {
+                return Told::Number(behind.moved(at + 1), u);
+            }
+            next = steps::enter(out, notes, behind, u, from);
+            of = u;
+            alone = false;
+            continue;
+        }
+        if !steps::bare(memory::tag_of(notes, next, of)) {
             return Told::Bad;
         }
-        return Told::Number(p.moved(at + 1), u);
+        let within = steps::copy_byte(s, out, next);
+        let Told::Number(last, v) = args(s, out, notes, within, of) else {
+            return Told::Bad;
+        };
+        let closed = steps::close(out, last);
+        let end = closed.at;
+        if bytes::starts_with(s, end, b"E") {
+            if alone {
+                return Told::Bad;
+            }
+            return Told::Number(closed.moved(end + 1), v);
+        }
+        next = steps::enter(out, notes, closed, v, from);
+        of = v;
     }
-    let next = steps::enter(out, notes, p, u, from);
-    more(s, out, notes, next, u, lone, from)
 }

@@ -9,8 +9,8 @@ use Rattle.normal.specs.Moves.{moved-ready}
 use Rattle.writer.specs.Types.{type-end, type-by, letter-answer, literal-answer, none-answer}
 use Rattle.normal.specs.declared.lead.Lead.the-variants.{Letter, Wrap, Digit, S, N, L, None}
 use Rattle.writer.proofs.cycle.ty.Reads as ty
-use Rattle.writer.proofs.cycle.+args+end_or+more+named+nested+parts+referred+ty+with_args+wrap.Lts-ty as lts
-use Rattle.writer.proofs.cycle.+args+end_or+more+named+nested+parts+referred+ty+with_args+wrap.Proof.Cycle.{ty-at, ty-calls}
+use Rattle.writer.proofs.cycle.+args+more+named+nested+parts+referred+ty+with_args+wrap.Lts-ty as lts
+use Rattle.writer.proofs.cycle.+args+more+named+nested+parts+referred+ty+with_args+wrap.Proof.Cycle.{ty-at, ty-calls}
 
 pub returns : (t : ℕ) → lts.Need-returns (ty-calls t) (ty-at t) ty.Post
 returns t c = type-end (c .if1 .taken)

@@ -17,8 +17,8 @@ use Rattle.normal.specs.declared.lead.Lead.{Lead}
 use Rattle.normal.specs.declared.lead.Lead.the-variants.{Digit, S}
 use Rattle.normal.proofs.lead.Lead as lead-type
 use Rattle.writer.proofs.cycle.parts.Reads as parts
-use Rattle.writer.proofs.cycle.+args+end_or+more+named+nested+parts+referred+ty+with_args+wrap.Lts-parts as lts
-use Rattle.writer.proofs.cycle.+args+end_or+more+named+nested+parts+referred+ty+with_args+wrap.Proof.Cycle.{parts-at, parts-calls}
+use Rattle.writer.proofs.cycle.+args+more+named+nested+parts+referred+ty+with_args+wrap.Lts-parts as lts
+use Rattle.writer.proofs.cycle.+args+more+named+nested+parts+referred+ty+with_args+wrap.Proof.Cycle.{parts-at, parts-calls}
 
 -- the last arm's variants
 abbrev others : List ℕ

@@ -6,8 +6,8 @@ use Rattle.normal.specs.Moves.{copied-ready}
 use Rattle.writer.specs.Types.{close-next, closed-next}
 use Rattle.writer.specs.Parts.{nested-refused, nested-told, nested-answer}
 use Rattle.writer.proofs.cycle.nested.Reads as nested
-use Rattle.writer.proofs.cycle.+args+end_or+more+named+nested+parts+referred+ty+with_args+wrap.Lts-nested as lts
-use Rattle.writer.proofs.cycle.+args+end_or+more+named+nested+parts+referred+ty+with_args+wrap.Proof.Cycle.{nested-at, nested-calls}
+use Rattle.writer.proofs.cycle.+args+more+named+nested+parts+referred+ty+with_args+wrap.Lts-nested as lts
+use Rattle.writer.proofs.cycle.+args+more+named+nested+parts+referred+ty+with_args+wrap.Proof.Cycle.{nested-at, nested-calls}
 
 pub copy-byte-requires : (t : ℕ) → lts.Need-copy-byte-requires (nested-calls t) (nested-at t) nested.Post
 copy-byte-requires t c κs = search needs

@@ -8,8 +8,8 @@ use Rattle.grammar.specs.Places.{starts-inside}
 use Rattle.normal.specs.Moves.{copied-ready}
 use Rattle.writer.specs.Types.{args-told, close-next, closed-next, without-args, args-barred, args-refused, args-answer}
 use Rattle.writer.proofs.cycle.with_args.Reads as with-args
-use Rattle.writer.proofs.cycle.+args+end_or+more+named+nested+parts+referred+ty+with_args+wrap.Lts-with_args as lts
-use Rattle.writer.proofs.cycle.+args+end_or+more+named+nested+parts+referred+ty+with_args+wrap.Proof.Cycle.{with-args-at, with-args-calls}
+use Rattle.writer.proofs.cycle.+args+more+named+nested+parts+referred+ty+with_args+wrap.Lts-with_args as lts
+use Rattle.writer.proofs.cycle.+args+more+named+nested+parts+referred+ty+with_args+wrap.Proof.Cycle.{with-args-at, with-args-calls}
 
 pub slice-aggregate-starts-with : (t : ℕ) → lts.Need-slice-aggregate-starts-with (with-args-calls t) (with-args-at t) with-args.Post
 slice-aggregate-starts-with t c = search needs

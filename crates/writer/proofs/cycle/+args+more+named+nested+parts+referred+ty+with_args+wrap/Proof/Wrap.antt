@@ -5,8 +5,8 @@ use native.Mathlib.Omega.{arith}
 use Rattle.normal.specs.Moves.{copied-ready}
 use Rattle.writer.specs.Types.{wrap-refused, wrap-next, wrap-answer}
 use Rattle.writer.proofs.cycle.wrap.Reads as wrap
-use Rattle.writer.proofs.cycle.+args+end_or+more+named+nested+parts+referred+ty+with_args+wrap.Lts-wrap as lts
-use Rattle.writer.proofs.cycle.+args+end_or+more+named+nested+parts+referred+ty+with_args+wrap.Proof.Cycle.{wrap-at, wrap-calls}
+use Rattle.writer.proofs.cycle.+args+more+named+nested+parts+referred+ty+with_args+wrap.Lts-wrap as lts
+use Rattle.writer.proofs.cycle.+args+more+named+nested+parts+referred+ty+with_args+wrap.Proof.Cycle.{wrap-at, wrap-calls}
 
 pub copy-byte-requires : (t : ℕ) → lts.Need-copy-byte-requires (wrap-calls t) (wrap-at t) wrap.Post
 copy-byte-requires t c κs = search needs

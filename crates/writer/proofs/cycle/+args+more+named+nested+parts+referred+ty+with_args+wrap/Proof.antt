@@ -1,6 +1,5 @@
 mod Cycle
 mod Args
-mod EndOr
 mod More
 mod Named
 mod Nested
@@ -9,18 +8,17 @@ mod Referred
 mod Ty
 mod WithArgs
 mod Wrap
-use Rattle.writer.proofs.cycle.+args+end_or+more+named+nested+parts+referred+ty+with_args+wrap.Lts-args as args-lts
-use Rattle.writer.proofs.cycle.+args+end_or+more+named+nested+parts+referred+ty+with_args+wrap.Lts-end_or as end-or-lts
-use Rattle.writer.proofs.cycle.+args+end_or+more+named+nested+parts+referred+ty+with_args+wrap.Lts-more as more-lts
-use Rattle.writer.proofs.cycle.+args+end_or+more+named+nested+parts+referred+ty+with_args+wrap.Lts-named as named-lts
-use Rattle.writer.proofs.cycle.+args+end_or+more+named+nested+parts+referred+ty+with_args+wrap.Lts-nested as nested-lts
-use Rattle.writer.proofs.cycle.+args+end_or+more+named+nested+parts+referred+ty+with_args+wrap.Lts-parts as parts-lts
-use Rattle.writer.proofs.cycle.+args+end_or+more+named+nested+parts+referred+ty+with_args+wrap.Lts-referred as referred-lts
-use Rattle.writer.proofs.cycle.+args+end_or+more+named+nested+parts+referred+ty+with_args+wrap.Lts-ty as ty-lts
-use Rattle.writer.proofs.cycle.+args+end_or+more+named+nested+parts+referred+ty+with_args+wrap.Lts-with_args as with-args-lts
-use Rattle.writer.proofs.cycle.+args+end_or+more+named+nested+parts+referred+ty+with_args+wrap.Lts-wrap as wrap-lts
+use Prim.Native.Nat.{ℕ}
+use Rattle.writer.proofs.cycle.+args+more+named+nested+parts+referred+ty+with_args+wrap.Lts-args as args-lts
+use Rattle.writer.proofs.cycle.+args+more+named+nested+parts+referred+ty+with_args+wrap.Lts-more as more-lts
+use Rattle.writer.proofs.cycle.+args+more+named+nested+parts+referred+ty+with_args+wrap.Lts-named as named-lts
+use Rattle.writer.proofs.cycle.+args+more+named+nested+parts+referred+ty+with_args+wrap.Lts-nested as nested-lts
+use Rattle.writer.proofs.cycle.+args+more+named+nested+parts+referred+ty+with_args+wrap.Lts-parts as parts-lts
+use Rattle.writer.proofs.cycle.+args+more+named+nested+parts+referred+ty+with_args+wrap.Lts-referred as referred-lts
+use Rattle.writer.proofs.cycle.+args+more+named+nested+parts+referred+ty+with_args+wrap.Lts-ty as ty-lts
+use Rattle.writer.proofs.cycle.+args+more+named+nested+parts+referred+ty+with_args+wrap.Lts-with_args as with-args-lts
+use Rattle.writer.proofs.cycle.+args+more+named+nested+parts+referred+ty+with_args+wrap.Lts-wrap as wrap-lts
 use Rattle.writer.proofs.cycle.args.Reads as args
-use Rattle.writer.proofs.cycle.end_or.Reads as end-or
 use Rattle.writer.proofs.cycle.more.Reads as more
 use Rattle.writer.proofs.cycle.named.Reads as named
 use Rattle.writer.proofs.cycle.nested.Reads as nested
@@ -29,15 +27,14 @@ use Rattle.writer.proofs.cycle.referred.Reads as referred
 use Rattle.writer.proofs.cycle.ty.Reads as ty
 use Rattle.writer.proofs.cycle.with_args.Reads as with-args
 use Rattle.writer.proofs.cycle.wrap.Reads as wrap
-use Rattle.writer.proofs.cycle.+args+end_or+more+named+nested+parts+referred+ty+with_args+wrap.{statement}
-use Rattle.writer.proofs.cycle.+args+end_or+more+named+nested+parts+referred+ty+with_args+wrap.Tie.{close}
+use Rattle.writer.proofs.cycle.+args+more+named+nested+parts+referred+ty+with_args+wrap.{statement}
+use Rattle.writer.proofs.cycle.+args+more+named+nested+parts+referred+ty+with_args+wrap.Tie.{close}
 
-pub +args+end-or+more+named+nested+parts+referred+ty+with-args+wrap-spec : {M : Type 1} → statement M
-+args+end-or+more+named+nested+parts+referred+ty+with-args+wrap-spec =
-    close Cycle.μ-args Cycle.μ-end-or Cycle.μ-more Cycle.μ-named Cycle.μ-nested Cycle.μ-parts Cycle.μ-referred Cycle.μ-ty Cycle.μ-with-args Cycle.μ-wrap
-    (λ t. args-lts.spec (Cycle.args-calls t) (Cycle.args-at t) args.Post (Args.ty-requires t) (Args.enum-known-next t) (Args.enum-told t) (Args.same-length t) (Args.same-length-2 t) (Args.returns t) (Args.arg-requires t) (Args.enum-known-counted t) (Args.enum-told-2 t) (Args.same-length-3 t) (Args.same-length-4 t) (Args.returns-2 t) (Args.slice-aggregate-starts-with t) (Args.starts-with-requires t) (Args.add-moved t) (Args.moved-requires t) (Args.same-length-5 t) (Args.same-length-6 t) (Args.returns-3 t) (Args.args-requires t) (Args.same-length-7 t) (Args.same-length-8 t) (Args.returns-4 t))
-    (λ t. end-or-lts.spec (Cycle.end-or-calls t) (Cycle.end-or-at t) end-or.Post (EndOr.slice-aggregate-starts-with t) (EndOr.starts-with-requires t) (EndOr.returns t) (EndOr.add-moved t) (EndOr.moved-requires t) (EndOr.returns-2 t) (EndOr.enter-requires t) (EndOr.more-requires t) (EndOr.same-length t) (EndOr.same-length-2 t) (EndOr.returns-3 t))
-    (λ t. more-lts.spec (Cycle.more-calls t) (Cycle.more-at t) more.Post (More.slice-aggregate-starts-with t) (More.starts-with-requires t) (More.part-requires t) (More.enum-known-next t) (More.enum-told t) (More.same-length t) (More.same-length-2 t) (More.returns t) (More.end-or-requires t) (More.same-length-3 t) (More.same-length-4 t) (More.returns-2 t) (More.tag-of-requires t) (More.bare-requires t) (More.same-length-5 t) (More.returns-3 t) (More.copy-byte-requires t) (More.args-requires t) (More.enum-known-next-2 t) (More.enum-told-2 t) (More.same-length-6 t) (More.same-length-7 t) (More.returns-4 t) (More.close-requires t) (More.end-or-requires-2 t) (More.same-length-8 t) (More.same-length-9 t) (More.returns-5 t))
+pub +args+more+named+nested+parts+referred+ty+with-args+wrap-spec : {M : Type 1} → statement M
++args+more+named+nested+parts+referred+ty+with-args+wrap-spec =
+    close Cycle.μ-args Cycle.μ-more Cycle.μ-named Cycle.μ-nested Cycle.μ-parts Cycle.μ-referred Cycle.μ-ty Cycle.μ-with-args Cycle.μ-wrap
+    (λ t. args-lts.spec (Cycle.args-calls t) (Cycle.args-at t) args.Post Args.Inv-loop Args.μ-loop (Args.loop-holds t) (Args.ty-requires t) (Args.enum-known-behind t) (Args.enum-told t) (Args.same-length t) (Args.same-length-2 t) (Args.returns t) (Args.arg-requires t) (Args.enum-known-counted t) (Args.enum-told-2 t) (Args.same-length-3 t) (Args.same-length-4 t) (Args.returns-2 t) (Args.slice-aggregate-starts-with t) (Args.starts-with-requires t) (Args.add-moved t) (Args.moved-requires t) (Args.same-length-5 t) (Args.same-length-6 t) (Args.returns-3 t) (Args.loop-less t) (Args.loop-again t))
+    (λ t. more-lts.spec (Cycle.more-calls t) (Cycle.more-at t) more.Post More.Inv-loop More.μ-loop (More.loop-holds t) (More.slice-aggregate-starts-with t) (More.starts-with-requires t) (More.part-requires t) (More.enum-known-behind t) (More.enum-told t) (More.same-length t) (More.same-length-2 t) (More.returns t) (More.slice-aggregate-starts-with-2 t) (More.starts-with-requires-2 t) (More.add-moved t) (More.moved-requires t) (More.same-length-3 t) (More.same-length-4 t) (More.returns-2 t) (More.enter-requires t) (More.loop-less t) (More.loop-again t) (More.tag-of-requires t) (More.bare-requires t) (More.same-length-5 t) (More.same-length-6 t) (More.returns-3 t) (More.copy-byte-requires t) (More.args-requires t) (More.enum-known-last t) (More.enum-told-2 t) (More.same-length-7 t) (More.same-length-8 t) (More.returns-4 t) (More.close-requires t) (More.slice-aggregate-starts-with-3 t) (More.starts-with-requires-3 t) (More.same-length-9 t) (More.same-length-10 t) (More.returns-5 t) (More.add-moved-2 t) (More.moved-requires-2 t) (More.same-length-11 t) (More.same-length-12 t) (More.returns-6 t) (More.enter-requires-2 t) (More.loop-less-2 t) (More.loop-again-2 t))
     (λ t. named-lts.spec (Cycle.named-calls t) (Cycle.named-at t) named.Post (Named.first-name-requires t) (Named.enum-known-next t) (Named.enum-told t) (Named.same-length t) (Named.same-length-2 t) (Named.returns t) (Named.with-args-requires t) (Named.same-length-3 t) (Named.same-length-4 t) (Named.returns-2 t))
     (λ t. nested-lts.spec (Cycle.nested-calls t) (Cycle.nested-at t) nested.Post (Nested.copy-byte-requires t) (Nested.parts-requires t) (Nested.enum-known-next t) (Nested.enum-told t) (Nested.same-length t) (Nested.same-length-2 t) (Nested.returns t) (Nested.close-requires t) (Nested.enter-nested-requires t) (Nested.same-length-3 t) (Nested.same-length-4 t) (Nested.returns-2 t))
     (λ t. parts-lts.spec (Cycle.parts-calls t) (Cycle.parts-at t) parts.Post (Parts.returns t) (Parts.shared-slice-read-lead-of t) (Parts.lead-of-requires t) (Parts.enum-told t) (Parts.first-name-requires t) (Parts.enum-known-next t) (Parts.enum-told-2 t) (Parts.same-length t) (Parts.same-length-2 t) (Parts.returns-2 t) (Parts.more-requires t) (Parts.enum-told-3 t) (Parts.add-moved t) (Parts.moved-requires t) (Parts.first-reference-requires t) (Parts.enum-known-next-2 t) (Parts.enum-told-4 t) (Parts.same-length-3 t) (Parts.same-length-4 t) (Parts.returns-3 t) (Parts.tag-of-requires t) (Parts.class-requires t) (Parts.same-length-5 t) (Parts.same-length-6 t) (Parts.returns-4 t) (Parts.cast-more t) (Parts.more-requires-2 t) (Parts.same-length-7 t) (Parts.same-length-8 t) (Parts.returns-5 t) (Parts.same-length-9 t) (Parts.same-length-10 t) (Parts.returns-6 t) (Parts.returns-7 t))

@@ -4,8 +4,8 @@ use borrow.Author.Needs.{needs}
 use native.Mathlib.Omega.{arith}
 use Rattle.writer.specs.Types.{by-name, first-named, first-next, class-refused, class-answer}
 use Rattle.writer.proofs.cycle.named.Reads as named
-use Rattle.writer.proofs.cycle.+args+end_or+more+named+nested+parts+referred+ty+with_args+wrap.Lts-named as lts
-use Rattle.writer.proofs.cycle.+args+end_or+more+named+nested+parts+referred+ty+with_args+wrap.Proof.Cycle.{named-at, named-calls}
+use Rattle.writer.proofs.cycle.+args+more+named+nested+parts+referred+ty+with_args+wrap.Lts-named as lts
+use Rattle.writer.proofs.cycle.+args+more+named+nested+parts+referred+ty+with_args+wrap.Proof.Cycle.{named-at, named-calls}
 
 pub first-name-requires : (t : ℕ) → lts.Need-first-name-requires (named-calls t) (named-at t) named.Post
 first-name-requires t c κs = search needs

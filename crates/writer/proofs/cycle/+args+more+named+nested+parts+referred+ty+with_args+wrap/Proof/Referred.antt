@@ -5,8 +5,8 @@ use native.Mathlib.Omega.{arith}
 use Rattle.normal.specs.Moves.{moved-ready}
 use Rattle.writer.specs.Types.{by-reference, first-referred, first-next, class-refused, class-answer}
 use Rattle.writer.proofs.cycle.referred.Reads as referred
-use Rattle.writer.proofs.cycle.+args+end_or+more+named+nested+parts+referred+ty+with_args+wrap.Lts-referred as lts
-use Rattle.writer.proofs.cycle.+args+end_or+more+named+nested+parts+referred+ty+with_args+wrap.Proof.Cycle.{referred-at, referred-calls}
+use Rattle.writer.proofs.cycle.+args+more+named+nested+parts+referred+ty+with_args+wrap.Lts-referred as lts
+use Rattle.writer.proofs.cycle.+args+more+named+nested+parts+referred+ty+with_args+wrap.Proof.Cycle.{referred-at, referred-calls}
 
 pub add-moved : (t : ℕ) → lts.Need-add-moved (referred-calls t) (referred-at t) referred.Post
 add-moved t c = search needs

@@ -5,34 +5,31 @@ use borrow.Fn.Kinds.{In}
 use borrow.Fn.PlainCycle.{Measures, is, falls, and}
 use Rattle.writer.proofs.cycle.args.Reads as args
 use Rattle.writer.proofs.cycle.args.Kinds as args-kinds
-use Rattle.writer.proofs.cycle.+args+end_or+more+named+nested+parts+referred+ty+with_args+wrap.Lts-args as args-lts
-use Rattle.writer.proofs.cycle.end_or.Reads as end-or
-use Rattle.writer.proofs.cycle.end_or.Kinds as end-or-kinds
-use Rattle.writer.proofs.cycle.+args+end_or+more+named+nested+parts+referred+ty+with_args+wrap.Lts-end_or as end-or-lts
+use Rattle.writer.proofs.cycle.+args+more+named+nested+parts+referred+ty+with_args+wrap.Lts-args as args-lts
 use Rattle.writer.proofs.cycle.more.Reads as more
 use Rattle.writer.proofs.cycle.more.Kinds as more-kinds
-use Rattle.writer.proofs.cycle.+args+end_or+more+named+nested+parts+referred+ty+with_args+wrap.Lts-more as more-lts
+use Rattle.writer.proofs.cycle.+args+more+named+nested+parts+referred+ty+with_args+wrap.Lts-more as more-lts
 use Rattle.writer.proofs.cycle.named.Reads as named
 use Rattle.writer.proofs.cycle.named.Kinds as named-kinds
-use Rattle.writer.proofs.cycle.+args+end_or+more+named+nested+parts+referred+ty+with_args+wrap.Lts-named as named-lts
+use Rattle.writer.proofs.cycle.+args+more+named+nested+parts+referred+ty+with_args+wrap.Lts-named as named-lts
 use Rattle.writer.proofs.cycle.nested.Reads as nested
 use Rattle.writer.proofs.cycle.nested.Kinds as nested-kinds
-use Rattle.writer.proofs.cycle.+args+end_or+more+named+nested+parts+referred+ty+with_args+wrap.Lts-nested as nested-lts
+use Rattle.writer.proofs.cycle.+args+more+named+nested+parts+referred+ty+with_args+wrap.Lts-nested as nested-lts
 use Rattle.writer.proofs.cycle.parts.Reads as parts
 use Rattle.writer.proofs.cycle.parts.Kinds as parts-kinds
-use Rattle.writer.proofs.cycle.+args+end_or+more+named+nested+parts+referred+ty+with_args+wrap.Lts-parts as parts-lts
+use Rattle.writer.proofs.cycle.+args+more+named+nested+parts+referred+ty+with_args+wrap.Lts-parts as parts-lts
 use Rattle.writer.proofs.cycle.referred.Reads as referred
 use Rattle.writer.proofs.cycle.referred.Kinds as referred-kinds
-use Rattle.writer.proofs.cycle.+args+end_or+more+named+nested+parts+referred+ty+with_args+wrap.Lts-referred as referred-lts
+use Rattle.writer.proofs.cycle.+args+more+named+nested+parts+referred+ty+with_args+wrap.Lts-referred as referred-lts
 use Rattle.writer.proofs.cycle.ty.Reads as ty
 use Rattle.writer.proofs.cycle.ty.Kinds as ty-kinds
-use Rattle.writer.proofs.cycle.+args+end_or+more+named+nested+parts+referred+ty+with_args+wrap.Lts-ty as ty-lts
+use Rattle.writer.proofs.cycle.+args+more+named+nested+parts+referred+ty+with_args+wrap.Lts-ty as ty-lts
 use Rattle.writer.proofs.cycle.with_args.Reads as with-args
 use Rattle.writer.proofs.cycle.with_args.Kinds as with-args-kinds
-use Rattle.writer.proofs.cycle.+args+end_or+more+named+nested+parts+referred+ty+with_args+wrap.Lts-with_args as with-args-lts
+use Rattle.writer.proofs.cycle.+args+more+named+nested+parts+referred+ty+with_args+wrap.Lts-with_args as with-args-lts
 use Rattle.writer.proofs.cycle.wrap.Reads as wrap
 use Rattle.writer.proofs.cycle.wrap.Kinds as wrap-kinds
-use Rattle.writer.proofs.cycle.+args+end_or+more+named+nested+parts+referred+ty+with_args+wrap.Lts-wrap as wrap-lts
+use Rattle.writer.proofs.cycle.+args+more+named+nested+parts+referred+ty+with_args+wrap.Lts-wrap as wrap-lts
 use Rattle.grammar.proofs.text.starts_with.Reads as starts-with-reads
 use Rattle.normal.proofs.lead.lead_of.Reads as lead-of-reads
 use Rattle.normal.proofs.memory.tag_of.Reads as tag-of-reads
@@ -52,9 +49,6 @@ use Rattle.normal.proofs.steps.wrap.Reads as wrap-reads
 
 abbrev pub μ-args : Measures 3 args-kinds.ps ℕ
 μ-args κs a = 3 * (length (a .0 .now) - a .1 .1 .1 .0 .at) + 2
-
-abbrev pub μ-end-or : Measures 3 end-or-kinds.ps ℕ
-μ-end-or κs a = 3 * (length (a .0 .now) - a .1 .1 .1 .0 .at) + 1
 
 abbrev pub μ-more : Measures 3 more-kinds.ps ℕ
 μ-more κs a = 3 * (length (a .0 .now) - a .1 .1 .1 .0 .at)
@@ -85,12 +79,6 @@ args-at t = and 3 args-kinds.ps (is 3 args-kinds.ps μ-args t) args.Pre
 
 abbrev pub args-below : ℕ → In 3 args-kinds.ps
 args-below t = and 3 args-kinds.ps (falls 3 args-kinds.ps _<_ μ-args t) args.Pre
-
-abbrev pub end-or-at : ℕ → In 3 end-or-kinds.ps
-end-or-at t = and 3 end-or-kinds.ps (is 3 end-or-kinds.ps μ-end-or t) end-or.Pre
-
-abbrev pub end-or-below : ℕ → In 3 end-or-kinds.ps
-end-or-below t = and 3 end-or-kinds.ps (falls 3 end-or-kinds.ps _<_ μ-end-or t) end-or.Pre
 
 abbrev pub more-at : ℕ → In 3 more-kinds.ps
 more-at t = and 3 more-kinds.ps (is 3 more-kinds.ps μ-more t) more.Pre
@@ -143,13 +131,10 @@ abbrev pub wrap-below : ℕ → In 3 wrap-kinds.ps
 wrap-below t = and 3 wrap-kinds.ps (falls 3 wrap-kinds.ps _<_ μ-wrap t) wrap.Pre
 
 abbrev pub args-calls : ℕ → args-lts.Claims
-args-calls t = (ty-below t, ty.Post, arg-reads.Asked, arg-reads.Learnt, starts-with-reads.Asked, starts-with-reads.Learnt, moved-reads.Asked, moved-reads.Learnt, args-below t, args.Post)
-
-abbrev pub end-or-calls : ℕ → end-or-lts.Claims
-end-or-calls t = (starts-with-reads.Asked, starts-with-reads.Learnt, moved-reads.Asked, moved-reads.Learnt, enter-reads.Asked, enter-reads.Learnt, more-below t, more.Post)
+args-calls t = (ty-below t, ty.Post, arg-reads.Asked, arg-reads.Learnt, starts-with-reads.Asked, starts-with-reads.Learnt, moved-reads.Asked, moved-reads.Learnt)
 
 abbrev pub more-calls : ℕ → more-lts.Claims
-more-calls t = (starts-with-reads.Asked, starts-with-reads.Learnt, part-reads.Asked, part-reads.Learnt, end-or-below t, end-or.Post, tag-of-reads.Asked, tag-of-reads.Learnt, bare-reads.Asked, bare-reads.Learnt, copy-byte-reads.Asked, copy-byte-reads.Learnt, args-below t, args.Post, close-reads.Asked, close-reads.Learnt)
+more-calls t = (starts-with-reads.Asked, starts-with-reads.Learnt, part-reads.Asked, part-reads.Learnt, moved-reads.Asked, moved-reads.Learnt, enter-reads.Asked, enter-reads.Learnt, tag-of-reads.Asked, tag-of-reads.Learnt, bare-reads.Asked, bare-reads.Learnt, copy-byte-reads.Asked, copy-byte-reads.Learnt, args-below t, args.Post, close-reads.Asked, close-reads.Learnt)
 
 abbrev pub named-calls : ℕ → named-lts.Claims
 named-calls t = (first-name-reads.Asked, first-name-reads.Learnt, with-args-below t, with-args.Post)
