@@ -8,16 +8,12 @@ use std::io::Write;
 
 /// The Rust original, unchanged.
 mod itanium;
+/// The functions of the library.
+mod library;
+
+use library::{entry, Entry};
 
 extern "C" {
-    fn patchname_demangle(
-        symbol: *const u8, symbol_length: usize, out: *mut u8, out_length: usize, text: *mut u8, text_length: usize,
-        store: *mut u8, store_length: usize, ends: *mut u16, ends_length: usize, bytes: *mut usize,
-    ) -> u8;
-    fn patchname_normalize(
-        symbol: *const u8, symbol_length: usize, out: *mut u8, out_length: usize, text: *mut u8, text_length: usize,
-        store: *mut u8, store_length: usize, ends: *mut u16, ends_length: usize, bytes: *mut usize,
-    ) -> u8;
     #[cfg(cxa)]
     fn __cxa_demangle(symbol: *const u8, out: *mut u8, length: *mut usize, status: *mut i32) -> *mut u8;
     #[cfg(cxa)]
@@ -27,47 +23,31 @@ extern "C" {
 
 // ---------------------------------------------------------------- the library
 
-/// The output and the work slices, of their least lengths: each call clears the work slices, so that longer ones would cost more.
+/// A function with an output and work slices of their least lengths: each call clears the work slices, so that longer ones would cost more.
 struct Lent {
+    entry: &'static Entry,
     out: Vec<u8>,
     text: Vec<u8>,
     store: Vec<u8>,
     ends: Vec<u16>,
 }
 
-const ENDS: usize = 2048;
-const NORMALIZE_ENDS: usize = 24576;
-
 impl Lent {
-    fn new(ends: usize) -> Lent {
-        Lent { out: vec![0; 16384], text: vec![0; 65536], store: vec![0; 65536], ends: vec![0; ends] }
+    fn new(what: &str) -> Lent {
+        let entry = entry(what).expect("a function of the library");
+        let [text, store, ends] = entry.least;
+        Lent { entry, out: vec![0; entry.longest], text: vec![0; text], store: vec![0; store], ends: vec![0; ends] }
     }
 
-    /// The number, and the length of the name.
-    fn demangle(&mut self, symbol: &[u8]) -> (u8, usize) {
+    /// The number, and the length of what is written.
+    fn call(&mut self, symbol: &[u8]) -> (u8, usize) {
         let mut bytes = 0;
-        let number = unsafe {
-            patchname_demangle(
-                symbol.as_ptr(), symbol.len(), self.out.as_mut_ptr(), self.out.len(), self.text.as_mut_ptr(), self.text.len(),
-                self.store.as_mut_ptr(), self.store.len(), self.ends.as_mut_ptr(), self.ends.len(), &mut bytes,
-            )
-        };
-        (number, bytes)
-    }
-
-    fn normalize(&mut self, symbol: &[u8]) -> (u8, usize) {
-        let mut bytes = 0;
-        let number = unsafe {
-            patchname_normalize(
-                symbol.as_ptr(), symbol.len(), self.out.as_mut_ptr(), self.out.len(), self.text.as_mut_ptr(), self.text.len(),
-                self.store.as_mut_ptr(), self.store.len(), self.ends.as_mut_ptr(), self.ends.len(), &mut bytes,
-            )
-        };
+        let number = self.entry.call(symbol, &mut self.out, &mut self.text, &mut self.store, &mut self.ends, &mut bytes);
         (number, bytes)
     }
 
     fn name(&mut self, symbol: &[u8]) -> Result<Vec<u8>, u8> {
-        let (number, bytes) = self.demangle(symbol);
+        let (number, bytes) = self.call(symbol);
         if number == 0 { Ok(self.out[..bytes].to_vec()) } else { Err(number) }
     }
 }
@@ -103,12 +83,12 @@ extern "C" fn between_passes() {
 // The sum is returned so that no call can be left out.
 
 fn pass_library(bench: &mut Bench, symbols: &[Symbol]) -> usize {
-    symbols.iter().map(|symbol| bench.names.demangle(symbol.bytes()).1).sum()
+    symbols.iter().map(|symbol| bench.names.call(symbol.bytes()).1).sum()
 }
 
 /// As many calls that are refused before anything is read: what clearing costs.
 fn pass_clearing(bench: &mut Bench, symbols: &[Symbol]) -> usize {
-    symbols.iter().map(|_| bench.names.demangle(b"").1).sum()
+    symbols.iter().map(|_| bench.names.call(b"").1).sum()
 }
 
 fn pass_rust(_: &mut Bench, symbols: &[Symbol]) -> usize {
@@ -122,7 +102,7 @@ fn pass_cxa(bench: &mut Bench, symbols: &[Symbol]) -> usize {
 }
 
 fn pass_normalize(bench: &mut Bench, symbols: &[Symbol]) -> usize {
-    symbols.iter().map(|symbol| bench.normals.normalize(symbol.bytes()).1).sum()
+    symbols.iter().map(|symbol| bench.normals.call(symbol.bytes()).1).sum()
 }
 
 type Pass = fn(&mut Bench, &[Symbol]) -> usize;
@@ -141,8 +121,8 @@ fn passes() -> Vec<(&'static str, Pass)> {
 impl Bench {
     fn new() -> Bench {
         Bench {
-            names: Lent::new(ENDS),
-            normals: Lent::new(NORMALIZE_ENDS),
+            names: Lent::new("names"),
+            normals: Lent::new("normals"),
             #[cfg(cxa)]
             buffer: (unsafe { malloc(16384) }, 16384),
         }
@@ -192,7 +172,7 @@ fn different(symbol: &Symbol) -> ! {
 
 /// A normal symbol has the name of its symbol.
 fn check_normal_symbol(bench: &mut Bench, symbol: &Symbol) {
-    let (number, bytes) = bench.normals.normalize(symbol.bytes());
+    let (number, bytes) = bench.normals.call(symbol.bytes());
     if number == 0 {
         let normal = bench.normals.out[..bytes].to_vec();
         assert_eq!(bench.names.name(&normal), bench.names.name(symbol.bytes()), "{}", symbol.text);
@@ -261,7 +241,7 @@ impl Bench {
         match contender {
             #[cfg(cxa)]
             "cxa" => self.cxa(&symbol.ended).map(<[u8]>::to_vec),
-            "normalize" => match self.normals.normalize(symbol.bytes()) {
+            "normalize" => match self.normals.call(symbol.bytes()) {
                 (0, bytes) => Some(self.normals.out[..bytes].to_vec()),
                 _ => None,
             },

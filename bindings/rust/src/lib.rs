@@ -33,48 +33,21 @@ const NORMALIZE_ENDS_LENGTH: usize = 24576;
 // A slice is a pointer and a length; include/patchname.h says what a caller owes. Slices of Rust fulfil it: they are never null, and those
 // that can be written overlap nothing.
 type Entry = unsafe extern "C" fn(
-    symbol: *const u8,
-    symbol_length: usize,
-    out: *mut u8,
-    out_length: usize,
-    text: *mut u8,
-    text_length: usize,
-    store: *mut u8,
-    store_length: usize,
-    ends: *mut u16,
-    ends_length: usize,
-    bytes: *mut usize,
+    *const u8, usize, *mut u8, usize, *mut u8, usize, *mut u8, usize, *mut u16, usize, *mut usize,
 ) -> u8;
 
-extern "C" {
-    fn patchname_demangle(
-        symbol: *const u8,
-        symbol_length: usize,
-        out: *mut u8,
-        out_length: usize,
-        text: *mut u8,
-        text_length: usize,
-        store: *mut u8,
-        store_length: usize,
-        ends: *mut u16,
-        ends_length: usize,
-        bytes: *mut usize,
-    ) -> u8;
-
-    fn patchname_normalize(
-        symbol: *const u8,
-        symbol_length: usize,
-        out: *mut u8,
-        out_length: usize,
-        text: *mut u8,
-        text_length: usize,
-        store: *mut u8,
-        store_length: usize,
-        ends: *mut u16,
-        ends_length: usize,
-        bytes: *mut usize,
-    ) -> u8;
+// An extern block can't use the type above, and both functions have it.
+macro_rules! functions {
+    ($($name:ident),*) => {
+        extern "C" {
+            $(fn $name(
+                symbol: *const u8, symbol_length: usize, out: *mut u8, out_length: usize, text: *mut u8, text_length: usize,
+                store: *mut u8, store_length: usize, ends: *mut u16, ends_length: usize, bytes: *mut usize,
+            ) -> u8;)*
+        }
+    };
 }
+functions!(patchname_demangle, patchname_normalize);
 
 /// What a call is lent for work. The contents don't matter before it, and are zero after it.
 struct Work<'a> {
@@ -118,7 +91,7 @@ fn normal_symbol_into(symbol: &[u8], out: &mut [u8], work: Work) -> Result<usize
     unsafe { call(patchname_normalize, symbol, out, work) }
 }
 
-/// Names symbols, one after another. It has all the memory that this takes, about 150 KB, allocated once.
+/// Names symbols, one after another. It has all the memory that this takes, 196,608 bytes, allocated once.
 pub struct Demangler {
     out: Box<[u8]>,
     text: Box<[u8]>,
