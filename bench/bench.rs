@@ -66,8 +66,38 @@ impl Symbol {
     }
 }
 
+/// The listing of many lines by one function, with the lines and an output beside the slices of `Lent`.
+struct Lines {
+    lent: Lent,
+    lines: Vec<u8>,
+    listing: Vec<u8>,
+}
+
+/// So many bytes of lines are handed over at once, about.
+const LINES: usize = 60_000;
+
+impl Lines {
+    fn new() -> Lines {
+        Lines { lent: Lent::new("names"), lines: Vec::with_capacity(LINES + 65536), listing: vec![0; 65536] }
+    }
+
+    /// How many bytes the listing of the lines has.
+    fn list(&mut self) -> usize {
+        let Lent { entry, out, text, store, ends } = &mut self.lent;
+        let (mut from, mut sum) = (0, 0);
+        while from < self.lines.len() {
+            let mut written = 0;
+            from += entry.list(&self.lines[from..], &mut self.listing, out, text, store, ends, &mut written);
+            sum += written;
+        }
+        self.lines.clear();
+        sum
+    }
+}
+
 struct Bench {
     names: Lent,
+    lines: Lines,
     normals: Lent,
     #[cfg(cxa)]
     buffer: (*mut u8, usize),
@@ -84,6 +114,19 @@ extern "C" fn between_passes() {
 
 fn pass_library(bench: &mut Bench, symbols: &[Symbol]) -> usize {
     symbols.iter().map(|symbol| bench.names.call(symbol.bytes()).1).sum()
+}
+
+/// The symbols as lines, which are put together here.
+fn pass_listing(bench: &mut Bench, symbols: &[Symbol]) -> usize {
+    let mut sum = 0;
+    for symbol in symbols {
+        bench.lines.lines.extend(symbol.bytes());
+        bench.lines.lines.push(b'\n');
+        if LINES < bench.lines.lines.len() {
+            sum += bench.lines.list();
+        }
+    }
+    sum + bench.lines.list()
 }
 
 /// As many calls that are refused before anything is read: what clearing costs.
@@ -110,6 +153,7 @@ type Pass = fn(&mut Bench, &[Symbol]) -> usize;
 fn passes() -> Vec<(&'static str, Pass)> {
     vec![
         ("library", pass_library),
+        ("listing", pass_listing),
         ("clearing", pass_clearing),
         ("rust", pass_rust),
         #[cfg(cxa)]
@@ -122,6 +166,7 @@ impl Bench {
     fn new() -> Bench {
         Bench {
             names: Lent::new("names"),
+            lines: Lines::new(),
             normals: Lent::new("normals"),
             #[cfg(cxa)]
             buffer: (unsafe { malloc(16384) }, 16384),

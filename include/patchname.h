@@ -21,7 +21,7 @@ extern "C" {
 
 /* The least lengths of the work slices: bytes, bytes, and numbers of 16 bits. A call clears all of what it is lent, so that longer ones only
  * cost time. */
-#define PATCHNAME_TEXT_LENGTH 65536
+#define PATCHNAME_TEXT_LENGTH 51200
 #define PATCHNAME_STORE_LENGTH 65536
 #define PATCHNAME_ENDS_LENGTH 2048
 
@@ -84,6 +84,41 @@ uint8_t patchname_normalize(
     uint8_t *store, size_t store_length,
     uint16_t *ends, size_t ends_length,
     size_t *bytes);
+
+/* An output of so many bytes has room for every line of a listing. */
+#define PATCHNAME_LINE_BYTES 16397
+
+/* The listing of many symbols, which is faster than a call for each: the work slices are cleared once for all of them.
+ *
+ * input, input_length     symbols, one a line, each line ended by a line feed. Bytes behind the last line feed are left alone.
+ * out, out_length         where the listing goes: for each line of `input`, in its order, the number, a comma, the length, a comma, the name and a
+ *                         line feed. The length is that of the name, and 0 with any other number than 0, where there is no name.
+ * name, name_length       a work slice more, of PATCHNAME_NAME_BYTES at least, for one name at a time.
+ * text, store, ends       as for `patchname_demangle`.
+ * written                 where the length of the listing goes.
+ *
+ * Returned is how many bytes of `input` were taken: the lines at its front whose listing fits into `out`. Call it again with the rest. With an
+ * output of PATCHNAME_LINE_BYTES and a complete line it is never 0; with a work slice below its least length it is always 0. The first *written
+ * bytes of `out` are the listing, and those behind them are as they were. All work slices, `name` too, end all zero. Lines of any bytes and any
+ * length get a line. What a caller owes is as for `patchname_demangle`. */
+size_t patchname_list_names(
+    const uint8_t *input, size_t input_length,
+    uint8_t *out, size_t out_length,
+    uint8_t *name, size_t name_length,
+    uint8_t *text, size_t text_length,
+    uint8_t *store, size_t store_length,
+    uint16_t *ends, size_t ends_length,
+    size_t *written);
+
+/* The same with the normal symbol in the name's place, and PATCHNAME_NORMALIZE_ENDS_LENGTH as the least length of `ends`. */
+size_t patchname_list_normal_symbols(
+    const uint8_t *input, size_t input_length,
+    uint8_t *out, size_t out_length,
+    uint8_t *name, size_t name_length,
+    uint8_t *text, size_t text_length,
+    uint8_t *store, size_t store_length,
+    uint16_t *ends, size_t ends_length,
+    size_t *written);
 
 #ifdef __cplusplus
 }

@@ -1,5 +1,5 @@
-//! Calls an entry by its C function, with slices of many lengths that are full of rubbish, and compares number, length and
-//! every byte with a listing of the same symbols.
+//! Calls an entry and its listing by their C functions, with slices of many lengths that are full of rubbish, and compares number, length
+//! and every byte with a listing of the same symbols.
 //!
 //! edges names|normals SYMBOLS LISTING
 
@@ -216,6 +216,81 @@ impl Tried<'_> {
     }
 }
 
+// ---------------------------------------------------------------- listings
+
+fn line_of(row: &Row) -> Vec<u8> {
+    [format!("{},{},", row.number, row.result.len()).as_bytes(), row.result, b"\n"].concat()
+}
+
+/// The lines whose listing fits, and that listing.
+fn fitting(lines: &[Vec<u8>], room: usize) -> (usize, Vec<u8>) {
+    let mut out = vec![];
+    for (i, line) in lines.iter().enumerate() {
+        if room < out.len() + line.len() {
+            return (i, out);
+        }
+        out.extend(line);
+    }
+    (lines.len(), out)
+}
+
+impl Tried<'_> {
+    /// A few lines, and an end without line feed, with an output and work slices of these lengths.
+    fn list(&mut self, rows: &[Row], out: usize, name: usize, work: Lengths) {
+        let lines: Vec<Vec<u8>> = rows.iter().map(line_of).collect();
+        let mut input: Vec<u8> = rows.iter().flat_map(|row| [row.symbol, b"\n"].concat()).collect();
+        input.extend(&b"_Z1fv"[..self.rubbish.random.below(6)]);
+        let short = name < library::NAME || (0..3).any(|i| work[i] < self.entry.least[i]);
+        let (count, listing) = if short { (0, vec![]) } else { fitting(&lines, out) };
+        let wanted: usize = rows[..count].iter().map(|row| row.symbol.len() + 1).sum();
+
+        let Rubbish { random, bytes, numbers } = &mut self.rubbish;
+        let mut out = Lent::new(random, bytes, out);
+        let mut name = Lent::new(random, bytes, name);
+        let mut text = Lent::new(random, bytes, work[0]);
+        let mut store = Lent::new(random, bytes, work[1]);
+        let mut ends = Lent::new(random, numbers, work[2]);
+        let mut written = random.next() as usize;
+        let taken = self.entry.list(&input, out.slice(), name.slice(), text.slice(), store.slice(), ends.slice(), &mut written);
+
+        let right = out.has(&listing);
+        let zero = name.is_all(0) && text.is_all(0) && store.is_all(0) && ends.is_all(0);
+        self.calls += 1;
+        if taken != wanted || written != listing.len() || !right || !zero {
+            self.failures += 1;
+            if self.failures <= 20 {
+                println!(
+                    "the listing of {}, {} lines from {:?}: {taken} bytes taken for {wanted}, {written} written for {}, output right: {right}, work slices zero: {zero}",
+                    self.entry.what, rows.len(), shown(rows[0].symbol), listing.len()
+                );
+            }
+        }
+    }
+
+    /// Stretches of the rows, with outputs around each length that decides how many lines fit.
+    fn listings(&mut self, rows: &[Row]) {
+        let least = self.entry.least;
+        let mut from = 0;
+        while from < rows.len() {
+            let end = rows.len().min(from + 1 + self.rubbish.random.below(6));
+            let stretch = &rows[from..end];
+            let all: usize = stretch.iter().map(|row| line_of(row).len()).sum();
+            let some = all - line_of(&stretch[stretch.len() - 1]).len();
+            for out in [all + 1, all, all - 1, some, some.saturating_sub(1), 0] {
+                self.list(stretch, out, library::NAME, least);
+            }
+            for (name, (_, work)) in [(library::NAME + 5, works(least)), (library::NAME - 1, works(least)), (0, works(least))]
+                .into_iter()
+                .flat_map(|(name, all)| all.into_iter().map(move |work| (name, work)))
+                .step_by(5)
+            {
+                self.list(stretch, all, name, work);
+            }
+            from = end;
+        }
+    }
+}
+
 fn main() {
     let words: Vec<String> = std::env::args().skip(1).collect();
     let [what, symbols, listing] = words.try_into().expect("names or normals, symbols, listing");
@@ -229,6 +304,7 @@ fn main() {
         }
     }
     tried.any_bytes();
+    tried.listings(&rows);
     println!("{what}: {} symbols, {} calls, {} differences", rows.len(), tried.calls, tried.failures);
     std::process::exit((tried.failures > 0) as i32);
 }

@@ -17,20 +17,48 @@ macro_rules! functions {
 }
 functions!(patchname_demangle, patchname_normalize);
 
+pub type Lister = unsafe extern "C" fn(
+    *const u8, usize, *mut u8, usize, *mut u8, usize, *mut u8, usize, *mut u8, usize, *mut u16, usize, *mut usize,
+) -> usize;
+
+macro_rules! listers {
+    ($($name:ident),*) => {
+        unsafe extern "C" {
+            $(fn $name(
+                input: *const u8, input_len: usize, out: *mut u8, out_len: usize, name: *mut u8, name_len: usize,
+                text: *mut u8, text_len: usize, store: *mut u8, store_len: usize, ends: *mut u16, ends_len: usize, written: *mut usize,
+            ) -> usize;)*
+        }
+    };
+}
+listers!(patchname_list_names, patchname_list_normal_symbols);
+
+/// The least length of the slice for one name, of either listing.
+#[allow(dead_code)]
+pub const NAME: usize = 16384;
+
 /// The lengths of text, store and ends.
 pub type Lengths = [usize; 3];
 
 pub struct Entry {
     pub what: &'static str,
     pub function: Function,
+    /// The listing of what the function answers.
+    pub lister: Lister,
     pub least: Lengths,
     /// No result has more bytes.
     pub longest: usize,
 }
 
 pub static ENTRIES: [Entry; 2] = [
-    Entry { what: "names", function: patchname_demangle, least: [65536, 65536, 2048], longest: 16384 },
-    Entry { what: "normals", function: patchname_normalize, least: [65536, 65536, 24576], longest: 4096 },
+    Entry { what: "names", function: patchname_demangle, lister: patchname_list_names, least: [51200, 65536, 2048], longest: 16384 },
+    Entry {
+        what: "normals",
+        function: patchname_normalize,
+        lister: patchname_list_normal_symbols,
+        least: [51200, 65536, 24576],
+        longest: 4096,
+    },
 ];
 
 pub fn entry(what: &str) -> Option<&'static Entry> {
@@ -44,6 +72,18 @@ impl Entry {
             (self.function)(
                 symbol.as_ptr(), symbol.len(), out.as_mut_ptr(), out.len(), text.as_mut_ptr(), text.len(),
                 store.as_mut_ptr(), store.len(), ends.as_mut_ptr(), ends.len(), bytes,
+            )
+        }
+    }
+    /// The bytes taken of the input; those written go to `written`.
+    #[allow(dead_code, clippy::too_many_arguments)]
+    pub fn list(
+        &self, input: &[u8], out: &mut [u8], name: &mut [u8], text: &mut [u8], store: &mut [u8], ends: &mut [u16], written: &mut usize,
+    ) -> usize {
+        unsafe {
+            (self.lister)(
+                input.as_ptr(), input.len(), out.as_mut_ptr(), out.len(), name.as_mut_ptr(), name.len(), text.as_mut_ptr(), text.len(),
+                store.as_mut_ptr(), store.len(), ends.as_mut_ptr(), ends.len(), written,
             )
         }
     }

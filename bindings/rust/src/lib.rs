@@ -24,8 +24,11 @@ pub const NAME_BYTES: usize = 16384;
 /// So many bytes are enough for every normal symbol.
 pub const NORMAL_SYMBOL_BYTES: usize = 4096;
 
+/// So many bytes are enough for every line of a listing.
+pub const LINE_BYTES: usize = 16397;
+
 // The least lengths of the work slices. The library clears all of what it is lent, so no more than that is lent.
-const TEXT_LENGTH: usize = 65536;
+const TEXT_LENGTH: usize = 51200;
 const STORE_LENGTH: usize = 65536;
 const ENDS_LENGTH: usize = 2048;
 const NORMALIZE_ENDS_LENGTH: usize = 24576;
@@ -48,6 +51,23 @@ macro_rules! functions {
     };
 }
 functions!(patchname_demangle, patchname_normalize);
+
+type Lister = unsafe extern "C" fn(
+    *const u8, usize, *mut u8, usize, *mut u8, usize, *mut u8, usize, *mut u8, usize, *mut u16, usize, *mut usize,
+) -> usize;
+
+macro_rules! listers {
+    ($($name:ident),*) => {
+        extern "C" {
+            $(fn $name(
+                input: *const u8, input_length: usize, out: *mut u8, out_length: usize, name: *mut u8, name_length: usize,
+                text: *mut u8, text_length: usize, store: *mut u8, store_length: usize, ends: *mut u16, ends_length: usize,
+                written: *mut usize,
+            ) -> usize;)*
+        }
+    };
+}
+listers!(patchname_list_names, patchname_list_normal_symbols);
 
 /// What a call is lent for work. The contents don't matter before it, and are zero after it.
 struct Work<'a> {
@@ -83,6 +103,39 @@ unsafe fn call(entry: Entry, symbol: &[u8], out: &mut [u8], work: Work) -> Resul
     }
 }
 
+/// How much was taken of the input, and how much was written to the output.
+#[derive(Clone, Copy, Debug, PartialEq, Eq)]
+pub struct Listed {
+    /// The bytes of the lines that were listed, with their line feeds.
+    pub taken: usize,
+    /// The bytes of their listing, which are in the front of the output.
+    pub written: usize,
+}
+
+/// # Safety
+///
+/// `lister` is a function of the library.
+unsafe fn list(lister: Lister, input: &[u8], out: &mut [u8], name: &mut [u8], work: Work) -> Listed {
+    let mut written = 0;
+    let Work { text, store, ends } = work;
+    let taken = lister(
+        input.as_ptr(),
+        input.len(),
+        out.as_mut_ptr(),
+        out.len(),
+        name.as_mut_ptr(),
+        name.len(),
+        text.as_mut_ptr(),
+        text.len(),
+        store.as_mut_ptr(),
+        store.len(),
+        ends.as_mut_ptr(),
+        ends.len(),
+        &mut written,
+    );
+    Listed { taken, written }
+}
+
 fn name_into(symbol: &[u8], out: &mut [u8], work: Work) -> Result<usize, Refusal> {
     unsafe { call(patchname_demangle, symbol, out, work) }
 }
@@ -91,7 +144,7 @@ fn normal_symbol_into(symbol: &[u8], out: &mut [u8], work: Work) -> Result<usize
     unsafe { call(patchname_normalize, symbol, out, work) }
 }
 
-/// Names symbols, one after another. It has all the memory that this takes, 196,608 bytes, allocated once.
+/// Names symbols, one after another. It has all the memory that this takes, 182,272 bytes, allocated once.
 pub struct Demangler {
     out: Box<[u8]>,
     text: Box<[u8]>,
@@ -123,6 +176,20 @@ impl Demangler {
         let (out, work) = self.lent(NORMALIZE_ENDS_LENGTH);
         let bytes = normal_symbol_into(symbol, out, work)?;
         Ok(&self.out[..bytes])
+    }
+
+    /// The listing of the complete lines at the front of `input`, one symbol a line, as many as fit into `out`: for each the number, the length
+    /// and the name, parted by commas, and a line feed. Call it again with the rest; where `out` has [`LINE_BYTES`] and `input` a line feed, a line
+    /// is always taken. For many symbols this is faster than [`Demangler::name`], which clears the work memory for each.
+    pub fn list_names(&mut self, input: &[u8], out: &mut [u8]) -> Listed {
+        let (name, work) = self.lent(ENDS_LENGTH);
+        unsafe { list(patchname_list_names, input, out, name, work) }
+    }
+
+    /// The same with normal symbols in the names' place.
+    pub fn list_normal_symbols(&mut self, input: &[u8], out: &mut [u8]) -> Listed {
+        let (name, work) = self.lent(NORMALIZE_ENDS_LENGTH);
+        unsafe { list(patchname_list_normal_symbols, input, out, name, work) }
     }
 
     fn lent(&mut self, ends_length: usize) -> (&mut [u8], Work<'_>) {

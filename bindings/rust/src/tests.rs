@@ -216,3 +216,35 @@ mod normal_symbols {
         assert_eq!(run(10, NORMALIZE_ENDS_LENGTH - 1), Err(Refusal::WorkTooShort));
     }
 }
+
+#[test]
+fn listings() {
+    let input = b"_Z1fv\n_Z0v\n\n_Z1fP1aPS_\n_Z1f";
+    let mut out = vec![7; LINE_BYTES];
+    let names = b"0,3,f()\n4,0,\n3,0,\n0,9,f(a*, a*)\n";
+    assert_eq!(Demangler::new().list_names(input, &mut out), Listed { taken: 23, written: names.len() });
+    assert_eq!(&out[..names.len()], names);
+    assert!(out[names.len()..].iter().all(|&x| x == 7));
+    let symbols = b"0,5,_Z1fv\n4,0,\n3,0,\n0,10,_Z1fP1aS0_\n";
+    assert_eq!(Demangler::new().list_normal_symbols(input, &mut out), Listed { taken: 23, written: symbols.len() });
+    assert_eq!(&out[..symbols.len()], symbols);
+}
+
+#[test]
+fn listing_with_little_output() {
+    let mut demangler = Demangler::new();
+    let mut out = [7; 12];
+    assert_eq!(demangler.list_names(b"_Z1fv\n_Z0v\n", &mut out), Listed { taken: 6, written: 8 });
+    assert_eq!(&out, b"0,3,f()\n\x07\x07\x07\x07");
+    assert_eq!(demangler.list_names(b"_Z1fv\n", &mut out[..7]), Listed { taken: 0, written: 0 });
+    assert_eq!(demangler.list_names(b"_Z1fv", &mut out), Listed { taken: 0, written: 0 });
+}
+
+#[test]
+fn listing_leaves_the_memory_zero() {
+    let mut demangler = Demangler::new();
+    let mut out = vec![0; 3 * LINE_BYTES];
+    demangler.list_normal_symbols(b"_Z1fP1aPS_\n_Z1f1aIiE1b\n_ZN1a1bEi\n", &mut out);
+    assert!(demangler.out.iter().chain(demangler.text.iter()).chain(demangler.store.iter()).all(|&x| x == 0));
+    assert!(demangler.ends.iter().all(|&x| x == 0));
+}

@@ -9,7 +9,7 @@ pub fn run(kind: Kind) {
     let mut lines = [0u8; 69634];
     let mut out = [0u8; 65536];
     let mut name = [0u8; 16384];
-    let mut text = [0u8; 65536];
+    let mut text = [0u8; 51200];
     let mut store = [0u8; 65536];
     let mut ends = [0u16; 24576];
     list_input(

@@ -29,8 +29,6 @@ module _ {k : ℕ} {s base : Text} {m : Memory} where
     tail = weaken l (w .tail);
     size = w .size;
     short = w .short;
-    subs = (_, w .holds .subs);
-    args = (_, w .holds .args);
   })
   encodes-refines l holds.refuses = refuses
 
@@ -74,10 +72,3 @@ pub record Answered (k : ℕ) (s base : Text) (m : Memory) (p : Parser) (n : ℕ
 
 pub answered : {k : ℕ} {s base : Text} {m : Memory} {p : Parser} {n : ℕ} {f : Result Text} → Encodes k s base m (read p n) f → Answered k s base m p n f
 answered (encodes {t = t} {σ = σ} w) = record { said = t; state = σ; prints = w; is = refl }
-
--- above nothing, the text is all that is on the stack
-pub whole-text : {k : ℕ} {s : Text} {m : Memory} {p : Parser} {n : ℕ} {t : Text} {σ : State} → Prints k s [] m p n t σ → 16384 ≤ k → (take (p .top) (m .text) ≡ t) × (p .top ≡ n)
-whole-text {t = t} w l =
-    let z : w .tail .lost ≡ 0 = omega (arith, w .tail .most, w .short) in
-    let e = w .tail .is ∙ ap (λ (i : ℕ). drop i t) z in
-    (e, omega (arith, top-size (w .text), ap length e, w .size))

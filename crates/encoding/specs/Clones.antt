@@ -7,14 +7,13 @@ use native.Mathlib.Omega.{arith}
 use borrow.Author.Tests.{eqb-true, eqb-false, leb-true, leb-false}
 use lib.Dec.{eqb, leb}
 use lib.ListN.{length, take, drop, length-append, length-drop}
-use lib.Seq.{drop-drop, take-at}
+use lib.Seq.{drop-drop, length-take-le}
 use Rattle.grammar.specs.Text.{Text, b, starts}
 use Rattle.grammar.specs.Reader.{Result, ok, refused, onto, give, start}
 use Rattle.grammar.specs.Grammar.{reading, ⟨encoding⟩}
-use Rattle.store.specs.Stack.{Clean, Tail, zeros}
+use Rattle.store.specs.Stack.{Stack, Tail}
 use Rattle.store.specs.Table.{Entries}
-use Rattle.store.specs.Lists.{length-zeros, zeros-zeros, drop-zeros}
-use Rattle.store.specs.Entries.{entries-as, fresh-table, fresh-stack}
+use Rattle.store.specs.Entries.{no-entries}
 use Rattle.parser.specs.declared.state.Parser.{Parser}
 use Rattle.parser.specs.declared.state.Read.{Read}
 use Rattle.parser.specs.declared.state.Read.the-variants.{Text as read, Refused}
@@ -23,27 +22,27 @@ use Rattle.grammar.specs.Places.{rest-none}
 use Rattle.parser.specs.Holds.{Memory, mem, low-bytes, high-bytes, low-ends, high-ends, Puts, keep, given-of}
 use Rattle.parser.specs.Halves.{give-short, give-long}
 use Rattle.parser.specs.Adds.{Adds, adds-none, adds-more}
-use Rattle.encoding.specs.Encodings.{Fresh, Encodes, refuses, Blank}
+use Rattle.encoding.specs.Encodings.{Fresh, Encodes, refuses, Least}
 use Rattle.encoding.specs.Answers.{encodes-by, refusal, Answered, answered}
 use Rattle.encoding.specs.Labels.{starts-is, after, clone, clone-read}
 use Rattle.encoding.specs.Specials.{prefixed}
 
--- ---------------------------------------------------------------- slices of zeros
+-- ---------------------------------------------------------------- slices with nothing in them
 
-low-zeros : (m : ℕ) → take m (zeros (m + m)) ≡ zeros m
-low-zeros m = ap (take m) (sym (zeros-zeros m m)) ∙ take-at (zeros m) (zeros m) m (length-zeros m)
+module _ {m : Memory} (h : Least m) where
+  pub least-text : Stack (m .text) 0
+  least-text = record { size = h .text; most = omega arith }
 
-module _ {m : Memory} (h : Blank m) where
-  pub blank-text : Clean (m .text) 0
-  blank-text = subst (λ (t : Text). Clean t 0) (sym (h .text)) fresh-stack
-
-  pub blank-subs : Entries [] (low-bytes (m .store)) (low-ends (m .ends)) 0 0
+  least-subs : Entries [] (low-bytes (m .store)) (low-ends (m .ends)) 0 0
   unfolding low-bytes low-ends
-  blank-subs = entries-as (ap (take 32768) (h .store) ∙ low-zeros 32768) (ap (take 1024) (h .ends) ∙ low-zeros 1024) fresh-table
+  least-subs = no-entries (record {
+    store-size = length-take-le 32768 (m .store) (omega (arith, h .store));
+    ends-size = length-take-le 1024 (m .ends) (omega (arith, h .ends));
+  })
 
-  pub blank-args : Entries [] (high-bytes (m .store)) (high-ends (m .ends)) 0 0
+  least-args : Entries [] (high-bytes (m .store)) (high-ends (m .ends)) 0 0
   unfolding high-bytes high-ends
-  blank-args = entries-as (ap (drop 32768) (h .store) ∙ drop-zeros 32768 65536) (ap (drop 1024) (h .ends) ∙ drop-zeros 1024 2048) fresh-table
+  least-args = no-entries (record { store-size = simp length-drop (omega (arith, h .store)); ends-size = simp length-drop (omega (arith, h .ends)) })
 
 -- ---------------------------------------------------------------- one text before another
 
@@ -73,7 +72,7 @@ pub record Clones (s text₀ text : Text) (p₀ p : Parser) (n at : ℕ) : Type 
   pub none : at ≡ 0 → words ≡ []
   pub is : (at ≡ 0 → ⊥) → reading ⟨encoding⟩ (start s) ≡ onto (after words) (reading ⟨encoding⟩ (start (drop at s)))
 
-pub clones-start : (s : Text) {text : Text} {p : Parser} → Clean text (p .top) → Clones s text text p p 0 0
+pub clones-start : (s : Text) {text : Text} {p : Parser} → Stack text (p .top) → Clones s text text p p 0 0
 clones-start s c = record { words = []; place = omega arith; size-is = refl; adds = adds-none c; none = λ _. refl; is = λ h. absurd (h refl) }
 
 clone-size : length clone ≡ 22
@@ -110,16 +109,16 @@ module _ {s text₀ text : Text} {p₀ p : Parser} {n at : ℕ} (c : Clones s te
     }
 
   module _ (z : p₀ ≡ fresh) where
-    pub clones-fresh : {store ends : Text} → Blank (mem text₀ store ends) → Fresh (mem text store ends) p
+    pub clones-fresh : {store ends : Text} → Least (mem text₀ store ends) → Fresh (mem text store ends) p
     clones-fresh h = record {
       same = c .adds .same ∙ ap (λ (q : Parser). raised-to q (p .top)) z;
-      text = c .adds .clean;
-      subs = blank-subs h;
-      args = blank-args h;
+      text = c .adds .stack;
+      subs = least-subs h;
+      args = least-args h;
     }
 
-    clones-tail : Tail 49152 (take (p .top) text) ([] ++ c .words)
-    clones-tail = subst (λ (q : Parser). Tail 49152 (take (p .top) text) (take (q .top) text₀ ++ c .words)) z (c .adds .tail)
+    clones-tail : Tail 34816 (take (p .top) text) ([] ++ c .words)
+    clones-tail = subst (λ (q : Parser). Tail 34816 (take (p .top) text) (take (q .top) text₀ ++ c .words)) z (c .adds .tail)
 
     no-clones : at ≡ 0 → take (p .top) text ≡ []
     no-clones e = clones-tail .is ∙ ap (drop (clones-tail .lost)) (c .none e) ∙ rest-none [] (clones-tail .lost) (omega arith)
@@ -156,4 +155,4 @@ module _ {s text₀ text : Text} {p₀ p : Parser} {n at : ℕ} (c : Clones s te
           let a = clones-got e in
           let w = a .prints in
           encodes-by (read-is h ∙ ap (onto (after (c .words))) (a .is))
-          (prefixed (c .words) (a .said) next (omega arith) (w .text) clones-tail (w .tail) y (omega (arith, c .size-is, w .size, length-append (c .words) (a .said))) g (w .subs) (w .args))
+          (prefixed (c .words) (a .said) next (omega arith) (w .text) clones-tail (w .tail) y (omega (arith, c .size-is, w .size, length-append (c .words) (a .said))) g)

@@ -12,7 +12,7 @@ use Rattle.grammar.specs.declared.codes.Word.{Word}
 use Rattle.grammar.specs.declared.codes.Picked.{Picked}
 use Rattle.grammar.specs.declared.codes.Picked.the-variants.{At}
 use Rattle.grammar.specs.Grammar.{reading, ⟨type⟩, qualifier, only-void, bare-function-type}
-use Rattle.store.specs.Stack.{Clean, Tail, zeros}
+use Rattle.store.specs.Stack.{Stack, Tail}
 use Rattle.store.specs.Table.{Entries}
 use Rattle.parser.specs.declared.state.Parser.{Parser}
 use Rattle.parser.specs.declared.state.Read.{Read}
@@ -63,36 +63,26 @@ pub record Labels (s : Text) (r : Picked) : Type 0 where
 -- the state is empty but for the stack of texts
 pub record Fresh (m : Memory) (p : Parser) : Type 0 where
   pub same : p ≡ raised-to fresh (p .top)
-  pub text : Clean (m .text) (p .top)
+  pub text : Stack (m .text) (p .top)
   pub subs : Entries [] (low-bytes (m .store)) (low-ends (m .ends)) 0 0
   pub args : Entries [] (high-bytes (m .store)) (high-ends (m .ends)) 0 0
 
--- the tables hold some texts
-abbrev pub Subs : Memory → Parser → Type 0
-Subs m p = (l : List Text) × Entries l (low-bytes (m .store)) (low-ends (m .ends)) (p .subs .count) (p .subs .bytes)
-
-abbrev pub Args : Memory → Parser → Type 0
-Args m p = (l : List Text) × Entries l (high-bytes (m .store)) (high-ends (m .ends)) (p .args .count) (p .args .bytes)
-
--- the text t, of n bytes, is the newest on the stack, above the base, and so many bytes are left unread as the grammar
--- leaves; the tables may hold more than the grammar's, since GTt and GV drop them
+-- the text t, of n bytes, is the newest on the stack, above the base, and so many bytes are left unread as the grammar leaves
 pub record Prints (k : ℕ) (s base : Text) (m : Memory) (p : Parser) (n : ℕ) (t : Text) (σ : State) : Type 0 where
   pub place : p .at ≤ length s
   pub rest : σ .rest ≡ drop (p .at) s
-  pub text : Clean (m .text) (p .top)
+  pub text : Stack (m .text) (p .top)
   pub tail : Tail k (window m p) (base ++ t)
   pub size : n ≡ length t
   pub short : length t ≤ 16384
-  pub subs : Subs m p
-  pub args : Args m p
 
 -- the code's answer is the grammar's
 pub data Encodes (k : ℕ) (s base : Text) (m : Memory) : Read → Result Text → Type 0 where
   encodes : {p : Parser} {n : ℕ} {t : Text} {σ : State} → Prints k s base m p n t σ → Encodes k s base m (read p n) (ok t σ)
   refuses : {r : ℕ} → Encodes k s base m (Refused r) (refused r)
 
--- the work slices are as long as they have to be, and zero
-pub record Blank (m : Memory) : Type 0 where
-  pub text : m .text ≡ zeros 65536
-  pub store : m .store ≡ zeros 65536
-  pub ends : m .ends ≡ zeros 2048
+-- the work slices have their least lengths
+pub record Least (m : Memory) : Type 0 where
+  pub text : length (m .text) ≡ 51200
+  pub store : length (m .store) ≡ 65536
+  pub ends : length (m .ends) ≡ 2048

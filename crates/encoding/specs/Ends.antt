@@ -17,7 +17,7 @@ use Rattle.grammar.specs.Words.{Picks, spelled}
 use Rattle.grammar.specs.declared.codes.Word.{Word}
 use Rattle.grammar.specs.declared.codes.Picked.{Picked}
 use Rattle.grammar.specs.declared.codes.Picked.the-variants.{At, Nothing}
-use Rattle.store.specs.Stack.{Clean, newest}
+use Rattle.store.specs.Stack.{Stack, newest}
 use Rattle.parser.specs.declared.state.Parser.{Parser}
 use Rattle.parser.specs.declared.state.Peeked.the-variants as peeked-as
 use Rattle.parser.specs.declared.state.Read.{Read}
@@ -111,7 +111,7 @@ pub record Qualifying (s text₀ text : Text) (p next : Parser) (n from to size 
   pub size-is : size ≡ min (n + length (qualified-by s from at)) 65536
   pub adds : Adds text₀ text p next (qualified-by s from at)
 
-pub qualifying-start : {text : Text} {p : Parser} (s : Text) {n from to : ℕ} → Clean text (p .top) → n ≤ 65536 → from ≤ to → Qualifying s text text p p n from to n from
+pub qualifying-start : {text : Text} {p : Parser} (s : Text) {n from to : ℕ} → Stack text (p .top) → n ≤ 65536 → from ≤ to → Qualifying s text text p p n from to n from
 qualifying-start {text} {p} s {n} {from} {to} c l h =
     let e = qualified-none s from in
     record { low = omega arith; high = h; size-is = omega (arith, ap length e); adds = rw e (adds-none c) }

@@ -13,7 +13,7 @@ use Rattle.grammar.specs.Words.{spelled, Inside}
 use Rattle.grammar.specs.declared.codes.Word.{Word}
 use Rattle.grammar.specs.declared.codes.Picked.{Picked}
 use Rattle.grammar.specs.declared.codes.Picked.the-variants.{At, Nothing}
-use Rattle.store.specs.Stack.{Clean, Tail}
+use Rattle.store.specs.Stack.{Stack, Tail}
 use Rattle.store.specs.Tails.{whole, weaken, both, put-tail}
 use Rattle.parser.specs.declared.state.Parser.{Parser}
 use Rattle.parser.specs.declared.state.Read.{Read}
@@ -23,7 +23,7 @@ use Rattle.grammar.specs.Places.{rest-none}
 use Rattle.parser.specs.Holds.{Memory, mem, window, Holds, Reads, Puts, keep, given-of}
 use Rattle.parser.specs.Laws.{by-state, holds-moved, holds-puts, Got, got}
 use Rattle.parser.specs.Adds.{puts-from}
-use Rattle.encoding.specs.Encodings.{Labels, Fresh, Subs, Args, Encodes}
+use Rattle.encoding.specs.Encodings.{Labels, Fresh, Encodes}
 use Rattle.encoding.specs.Answers.{encodes-by, encodes-refines, encodes-refused, encodes-given}
 use Rattle.encoding.specs.Labels.{after, guard, guard-read, labelled-is, unlabelled-is}
 
@@ -46,17 +46,17 @@ fresh-holds l h = by-state (h .same) (record {
 })
 
 pub fresh-puts : {text text' store ends : Text} {p p' : Parser} {t : Text} → Puts text text' p p' t → Fresh (mem text store ends) p → Fresh (mem text' store ends) p'
-fresh-puts {p' = p'} u h = record { same = u .same ∙ ap (λ (q : Parser). raised-to q (p' .top)) (h .same); text = u .put .clean; subs = h .subs; args = h .args }
+fresh-puts {p' = p'} u h = record { same = u .same ∙ ap (λ (q : Parser). raised-to q (p' .top)) (h .same); text = u .put .stack; subs = h .subs; args = h .args }
 
 -- ---------------------------------------------------------------- texts read anew
 
 -- a text that was read anew behind w, at the end of the symbol
 pub prefixed :
     {k : ℕ} {s base base' : Text} (w t : Text) {m : Memory} (next : Parser) {end : Parser} {n : ℕ} {v : Read} →
-    k ≤ 49152 → Clean (m .text) (next .top) → Tail 49152 base' (base ++ w) → Tail k (window m next) (base' ++ t) →
-    end ≡ moved-to next (length s) → n ≡ min (length (w ++ t)) 65536 → v ≡ given-of end n → Subs m next → Args m next → Encodes k s base m v (give (w ++ t) (start []))
+    k ≤ 34816 → Stack (m .text) (next .top) → Tail 34816 base' (base ++ w) → Tail k (window m next) (base' ++ t) →
+    end ≡ moved-to next (length s) → n ≡ min (length (w ++ t)) 65536 → v ≡ given-of end n → Encodes k s base m v (give (w ++ t) (start []))
 unfolding start
-prefixed {k} {s} {base} {base'} w t {m} next {end} {n} {v} l c h g z e f x y =
+prefixed {k} {s} {base} {base'} w t {m} next {end} {n} {v} l c h g z e f =
     encodes-given (f ∙ ap (λ (q : Parser). given-of q n) z) e (λ i. record {
       place = omega arith;
       rest = sym (rest-none s (length s) (omega arith));
@@ -64,8 +64,6 @@ prefixed {k} {s} {base} {base'} w t {m} next {end} {n} {v} l c h g z e f x y =
       tail = both base w t (weaken l h) g;
       size = omega arith;
       short = i;
-      subs = x;
-      args = y;
     })
 
 -- ---------------------------------------------------------------- GV
@@ -91,7 +89,7 @@ module _ (s : Text) {part text store ends text₁ : Text} {p o : Parser} (l : le
         let g = guard-got x in
         let w = g .wrote in
         encodes-by (guard-is ∙ ap (onto (after guard)) (g .is))
-        (prefixed guard (g .said) next (omega arith) (w .holds .text) (put-tail guard (h .text) (omega arith) (u .put) (whole 49152 (take (p .top) text))) (weaken (omega arith) (w .tail)) z (omega (arith, w .size, w .short, length-append guard (g .said))) y (_, w .holds .subs) (_, w .holds .args))
+        (prefixed guard (g .said) next (omega arith) (w .holds .text) (put-tail guard (h .text) (omega arith) (u .put) (whole 34816 (take (p .top) text))) (weaken (omega arith) (w .tail)) z (omega (arith, w .size, w .short, length-append guard (g .said))) y)
 
 -- ---------------------------------------------------------------- labels
 
@@ -117,11 +115,9 @@ module _ {s text store ends text₁ : Text} {p q o : Parser} {x : Picked} {w : W
           place = a .holds .place;
           rest = a .holds .rest;
           text = a .holds .text;
-          tail = both (take (p .top) text) (spelled w) (g .said) (weaken (omega arith) (put-tail (spelled w) (h .text) (omega arith) (puts-from z u .put) (whole 49152 (take (p .top) text)))) (weaken (omega arith) (a .tail));
+          tail = both (take (p .top) text) (spelled w) (g .said) (weaken (omega arith) (put-tail (spelled w) (h .text) (omega arith) (puts-from z u .put) (whole 34816 (take (p .top) text)))) (weaken (omega arith) (a .tail));
           size = omega (arith, a .size, length-append (spelled w) (g .said));
           short = d;
-          subs = (_, a .holds .subs);
-          args = (_, a .holds .args);
         }))
 
 -- ---------------------------------------------------------------- other names

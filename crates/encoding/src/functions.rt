@@ -17,7 +17,7 @@ ghost use lib.ListN.{length, drop};
 ghost use Rattle.grammar.specs.Text.{Text, b};
 ghost use Rattle.grammar.specs.Reader.{State};
 ghost use Rattle.grammar.specs.Grammar.{reading, ended, function-or-data};
-ghost use Rattle.store.specs.Stack.{Clean};
+ghost use Rattle.store.specs.Stack.{Stack};
 ghost use Rattle.parser.specs.Holds.{mem, Holds, Ready, Reads, Stands, keep};
 ghost use Rattle.encoding.specs.Encodings.{Qualifies, LoneVoid, GoesOn, with-parameters, with-returned};
 
@@ -85,7 +85,7 @@ fn template_function(
 
 // The newest m bytes are a type, the c below them a name: the type, a space and the name.
 fn turned(text: &mut [u8], p: Parser, c: usize, m: usize) -> Parser
-    requires { ⌜ (Clean (now text) (p .top)) × ((c ≤ 16384) × ((m ≤ 16384) × (c + m ≤ p .top))) ⌝ }
+    requires { ⌜ (Stack (now text) (p .top)) × ((c ≤ 16384) × ((m ≤ 16384) × (c + m ≤ p .top))) ⌝ }
     ensures { λ r. ⌜ ((s store ends : Text) (σ : State) → Holds s (mem (now (text .entry)) store ends) p σ → Holds s (mem (now (text .exit)) store ends) r σ)
         × ((k d : ℕ) (s base : Text) (from : ℕ) (store ends x y : Text) (σ : State) → length x ≡ c → length y ≡ m
         → Stands k d s base from (mem (now (text .entry)) store ends) p (c + m) (x ++ y) σ
@@ -132,7 +132,7 @@ fn function(
 
 // Whether the parameters, of n bytes, are a void alone at the end of the symbol.
 fn lone_void(s: &[u8], text: &[u8], p: Parser, n: usize, count: usize) -> bool
-    requires { ⌜ (Clean (now text) (p .top)) × ((p .at ≤ length (now s)) × (min n 32768 ≤ p .top)) ⌝ }
+    requires { ⌜ (Stack (now text) (p .top)) × ((p .at ≤ length (now s)) × (min n 32768 ≤ p .top)) ⌝ }
     ensures { λ r. ⌜ LoneVoid (now (s .entry)) (now (text .entry)) p n count r ⌝ }
 {
     if count != 1 {
@@ -150,7 +150,7 @@ fn lone_void(s: &[u8], text: &[u8], p: Parser, n: usize, count: usize) -> bool
 
 // A text of n bytes is returned with what the qualifiers print.
 fn qualified(s: &[u8], text: &mut [u8], p: Parser, n: usize, from: usize, to: usize) -> Read
-    requires { ⌜ (Clean (now text) (p .top)) × ((n ≤ 65536) × ((from ≤ to) × (to ≤ length (now s)))) ⌝ }
+    requires { ⌜ (Stack (now text) (p .top)) × ((n ≤ 65536) × ((from ≤ to) × (to ≤ length (now s)))) ⌝ }
     ensures { λ r. ⌜ Qualifies (now (s .entry)) (now (text .entry)) (now (text .exit)) p n from to r ⌝ }
 {
     let mut next = p;

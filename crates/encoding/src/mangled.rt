@@ -16,11 +16,11 @@ ghost use Rattle.grammar.specs.Text.{b, starts};
 ghost use Rattle.grammar.specs.Reader.{start};
 ghost use Rattle.grammar.specs.Grammar.{reading, ⟨encoding⟩};
 ghost use Rattle.parser.specs.Holds.{mem, window, keep};
-ghost use Rattle.encoding.specs.Encodings.{Labels, Fresh, Encodes, Blank};
+ghost use Rattle.encoding.specs.Encodings.{Labels, Fresh, Encodes, Least};
 
 // <encoding>; what GTt and GV leave unread is dropped
 pub fn mangled_name(s: &[u8], text: &mut [u8], store: &mut [u8], ends: &mut [u16]) -> Read
-    requires { ⌜ (length (now s) ≤ 16384) × Blank (mem (now text) (now store) (now ends)) ⌝ }
+    requires { ⌜ (length (now s) ≤ 16384) × Least (mem (now text) (now store) (now ends)) ⌝ }
     ensures { λ r. ⌜ Encodes (keep 0) (now (s .entry)) [] (mem (now (text .exit)) (now (store .exit)) (now (ends .exit))) r (reading ⟨encoding⟩ (start (now (s .entry)))) ⌝ }
 {
     let mut at: usize = 0;

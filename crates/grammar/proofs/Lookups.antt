@@ -1,27 +1,29 @@
 -- Laws of a match on a byte of a code, against a table: one for the arms, and one for `_`. Assumes nothing.
-use mathlib.Core.Path.{_≡_, refl, sym, ap, _∙_}
+use mathlib.Core.Path.{_≡_, refl, sym, ap, ap₂, _∙_}
 use mathlib.Core.Bool.{Bool, true, false, not, _&&_, _||_}
 use mathlib.Core.List.{[], _∷_, _++_}
 use mathlib.Core.Option.{Option, none, some}
-use Prim.Native.Nat.{ℕ, _-_}
+use Prim.Native.Nat.{ℕ, _+_, _-_, _≤_}
 use native.Mathlib.Omega.{arith}
 use Prim.Native.String.{String}
 use borrow.Author.Tests.{ne-eqb}
-use lib.ListN.{length, getD, length-take, length-drop}
+use lib.ListN.{length, take, drop, getD, length-take, length-drop}
+use lib.Seq.{drop-drop}
 use lib.Dec.{T, eqb, leb, leb→le, eqb→eq}
 use Rattle.grammar.specs.Text.{Text, b, if_then_else_, choose, same, holds}
 use Rattle.grammar.specs.Tables.{_⇒_, Table, letters, d-letters, operators, labels, abbreviations, qualifiers, wrappers}
 use Rattle.grammar.specs.Reader.{word-for}
-use Rattle.grammar.specs.Words.{halves, behind-type, at-slot, without, laid, words, spelled, word-of, words-end, Inside, Picks}
+use Rattle.grammar.specs.Words.{halves, behind-type, at-slot, without, laid, words, spelled, word-of, words-end, grouped, Inside, Picks}
 use Rattle.grammar.specs.declared.codes.Word.{Word}
 use Rattle.grammar.specs.declared.codes.Picked.{Picked}
 use Rattle.grammar.specs.declared.codes.Picked.the-variants.{At, Nothing}
 use Rattle.grammar.specs.Laws.{both, same→eq}
+use Rattle.grammar.proofs.Texts.{part-in-front}
 
 -- an arm: the table has the word w for the code, and w lies inside the words. Whoever unfolds this test can compute it.
 unfoldable pub right : Table → Text → Word → Bool
-unfolding if_then_else_ choose b same word-for letters d-letters operators labels abbreviations qualifiers wrappers halves behind-type at-slot without laid words spelled
-right rows code w = choose (word-for rows code) (same (spelled w)) false && (leb (w .from) (w .to) && leb (w .to) words-end)
+unfolding if_then_else_ choose b same word-for letters d-letters operators labels abbreviations qualifiers wrappers halves behind-type at-slot without laid words spelled grouped
+right rows code w = choose (word-for rows code) (same (spelled w)) false && (leb (w .from) (w .to) && (leb (w .to) words-end && grouped w))
 
 chosen : (s : Text) (o : Option Text) → T (choose o (same s) false) → some s ≡ o
 unfolding choose
@@ -31,9 +33,10 @@ chosen s none h = absurd h
 pub found : {rows : Table} {code : Text} {w : Word} → T (right rows code w) → Picks rows code (At w)
 unfolding word-of right
 found {rows} {code} {w} h =
-    let (p, q) = both (choose (word-for rows code) (same (spelled w)) false) (leb (w .from) (w .to) && leb (w .to) words-end) h in
-    let (l, m) = both (leb (w .from) (w .to)) (leb (w .to) words-end) q in
-    record { is = chosen (spelled w) (word-for rows code) p; inside = (leb→le _ _ l, leb→le _ _ m) }
+    let (p, q) = both (choose (word-for rows code) (same (spelled w)) false) (leb (w .from) (w .to) && (leb (w .to) words-end && grouped w)) h in
+    let (l, m) = both (leb (w .from) (w .to)) (leb (w .to) words-end && grouped w) q in
+    let (n, g) = both (leb (w .to) words-end) (grouped w) m in
+    record { is = chosen (spelled w) (word-for rows code) p; inside = (leb→le _ _ l, (leb→le _ _ n, g)) }
 
 -- what is known in `_`: the byte is none of the arms' bytes
 abbrev also-none : Type 0 → ℕ → Text → Type 0
@@ -120,3 +123,22 @@ words-length = refl
 pub length-spelled : (w : Word) → Inside w → length (spelled w) ≡ w .to - w .from
 unfolding spelled
 length-spelled w h = simp (length-take, length-drop, words-length) (omega arith)
+
+-- ---------------------------------------------------------------- words from a part of the text
+
+pub in-group : {A : Type 0} (w : Word) → T (grouped w) → (w .to ≤ 261 → A) → (261 ≤ w .from → w .to ≤ 744 → A) → (744 ≤ w .from → w .to ≤ 850 → A) → (850 ≤ w .from → A) → A
+unfolding grouped
+in-group w h f g k l =
+    let two = leb 261 (w .from) && leb (w .to) 744 in
+    let three = leb 744 (w .from) && leb (w .to) 850 in
+    either (leb (w .to) 261) (two || (three || leb 850 (w .from))) (λ t. f (leb→le _ _ t))
+    (λ t. either two (three || leb 850 (w .from)) (λ u. let (x, y) = both (leb 261 (w .from)) (leb (w .to) 744) u in g (leb→le _ _ x) (leb→le _ _ y))
+    (λ u. either three (leb 850 (w .from)) (λ v. let (x, y) = both (leb 744 (w .from)) (leb (w .to) 850) v in k (leb→le _ _ x) (leb→le _ _ y)) (λ v. l (leb→le _ _ v)) u) t) h
+
+pub some-part : (w : Word) (start : ℕ) (u : Text) → u ≡ take (length u) (drop start words) → start ≤ w .from → w .from ≤ w .to → w .to ≤ start + length u
+    → take (w .to - start - (w .from - start)) (drop (w .from - start) u) ≡ spelled w
+unfolding spelled
+some-part w start u e i j k =
+    part-in-front u (drop start words) (w .from - start) (w .to - start - (w .from - start)) e (omega arith)
+    ∙ ap (take (w .to - start - (w .from - start))) (drop-drop (w .from - start) start words)
+    ∙ ap₂ (λ (m n : ℕ). take m (drop n words)) {x = w .to - start - (w .from - start)} {y = w .to - w .from} {u = start + (w .from - start)} {v = w .from} (omega arith) (omega arith)

@@ -55,7 +55,7 @@ pub record Lent : Type 0 where
 
 -- the least lengths of the work slices, in their elements
 abbrev pub least-text : ℕ
-least-text = 65536
+least-text = 51200
 
 abbrev pub least-store : ℕ
 least-store = 65536

@@ -1,9 +1,11 @@
 -- The words of the tables in one text, and words as places in it.
+use mathlib.Core.Bool.{Bool, _&&_, _||_}
 use mathlib.Core.Path.{_≡_}
 use mathlib.Core.List.{List, [], _∷_, _++_}
 use mathlib.Core.Option.{Option, none, some}
 use Prim.Native.Nat.{ℕ, _-_, _≤_}
 use Prim.Native.String.{String}
+use lib.Dec.{T, leb}
 use lib.ListN.{take, drop, getD}
 use Rattle.grammar.specs.Text.{Text, b, if_then_else_, holds}
 use Rattle.grammar.specs.Tables.{Row, _⇒_, Table, letters, d-letters, operators, labels, abbreviations, qualifiers, wrappers}
@@ -47,8 +49,12 @@ unfoldable pub word-of : Picked → Option Text
 word-of (At w) = some (spelled w)
 word-of Nothing = none
 
+-- a word of types, of operators, of labels, qualifiers and wrappers, or of the abbreviations
+unfoldable pub grouped : Word → Bool
+grouped w = leb (w .to) 261 || (leb 261 (w .from) && leb (w .to) 744 || (leb 744 (w .from) && leb (w .to) 850 || leb 850 (w .from)))
+
 abbrev pub Inside : Word → Type 0
-Inside w = (w .from ≤ w .to) × (w .to ≤ words-end)
+Inside w = (w .from ≤ w .to) × ((w .to ≤ words-end) × T (grouped w))
 
 abbrev pub Picked-inside : Picked → Type 0
 Picked-inside (At w) = Inside w

@@ -1,4 +1,4 @@
-// The words that codes stand for. A word is a place in one fixed byte string, since no reference to a constant can be returned.
+// The words that codes stand for. A word is a place in one fixed text, since no reference to a constant can be returned.
 use crate::text;
 ghost use mathlib.Core.Path.{_≡_};
 ghost use mathlib.Core.List.{[], _∷_, _++_};
@@ -6,7 +6,7 @@ ghost use Prim.Native.Nat.{_+_, _-_, _≤_};
 ghost use lib.ListN.{length, take, drop};
 ghost use Rattle.grammar.specs.Text.{b};
 ghost use Rattle.grammar.specs.Tables.{letters, d-letters, operators, labels, abbreviations, qualifiers};
-ghost use Rattle.grammar.specs.Words.{Picks, Inside, spelled, without, behind-type, at-slot};
+ghost use Rattle.grammar.specs.Words.{Picks, Inside, words, words-end, spelled, without, behind-type, at-slot};
 
 pub struct Word {
     pub from: usize,
@@ -265,28 +265,80 @@ pub fn slot_wrapper(c: u8) -> Picked
     }
 }
 
-// Copies a word to `out`, from `at` on.
+// Copies a word to `out`, from `at` on; bytes behind it may change. Each group of words has a function of its own, since a byte
+// string is laid out on the machine stack where its function begins.
 pub fn write_word(out: &mut [u8], at: usize, w: Word)
     requires { ⌜ Inside w × (at + (w .to - w .from) ≤ length (now out)) ⌝ }
-    ensures { λ _. ⌜ now (out .exit) ≡ take at (now (out .entry)) ++ spelled w ++ drop (at + (w .to - w .from)) (now (out .entry)) ⌝ }
+    ensures { λ _. ⌜ take (at + (w .to - w .from)) (now (out .exit)) ≡ take at (now (out .entry)) ++ spelled w ⌝ }
 {
-    let words: &[u8] =
+    let to = w.to;
+    if to <= 261 {
+        write_type(out, at, w);
+        return;
+    }
+    if to <= 744 {
+        write_operator(out, at, w);
+        return;
+    }
+    if to <= 850 {
+        write_label(out, at, w);
+        return;
+    }
+    write_abbreviation(out, at, w);
+}
+
+fn write_type(out: &mut [u8], at: usize, w: Word)
+    requires { ⌜ (0 ≤ w .from) × ((w .from ≤ w .to) × ((w .to ≤ 261) × (at + (w .to - w .from) ≤ length (now out)))) ⌝ }
+    ensures { λ _. ⌜ take (at + (w .to - w .from)) (now (out .exit)) ≡ take at (now (out .entry)) ++ spelled w ⌝ }
+{
+    let some: &[u8] =
         b"voidwchar_tboolcharsigned charunsigned charshortunsigned shortintunsigned intlongunsigned long\
         long longunsigned long long__int128unsigned __int128floatdoublelong double__float128...\
-        decltype(nullptr)autodecltype(auto)char32_tchar16_tchar8_t__fp16_Float32_Float64\
-        operator newoperator new[]operator deleteoperator delete[]operator+operator-operator&operator*\
+        decltype(nullptr)autodecltype(auto)char32_tchar16_tchar8_t__fp16_Float32_Float64";
+    write_from(out, at, some, 0, w);
+}
+
+fn write_operator(out: &mut [u8], at: usize, w: Word)
+    requires { ⌜ (261 ≤ w .from) × ((w .from ≤ w .to) × ((w .to ≤ 744) × (at + (w .to - w .from) ≤ length (now out)))) ⌝ }
+    ensures { λ _. ⌜ take (at + (w .to - w .from)) (now (out .exit)) ≡ take at (now (out .entry)) ++ spelled w ⌝ }
+{
+    let some: &[u8] =
+        b"operator newoperator new[]operator deleteoperator delete[]operator+operator-operator&operator*\
         operator~operator+operator-operator*operator/operator%operator&operator|operator^operator=operator+=\
         operator-=operator*=operator/=operator%=operator&=operator|=operator^=operator<<operator>>\
         operator<<=operator>>=operator==operator!=operator<operator>operator<=operator>=operator<=>operator!\
-        operator&&operator||operator++operator--operator,operator->*operator->operator()operator[]operator?\
-        vtable for VTT for typeinfo for typeinfo name for  \
-        const volatile & &&\
-        *&&& const volatile complex restrict\
-        stdstd::allocatorstd::basic_string\
+        operator&&operator||operator++operator--operator,operator->*operator->operator()operator[]operator?";
+    write_from(out, at, some, 261, w);
+}
+
+// What special names, qualifiers and wrappers print.
+fn write_label(out: &mut [u8], at: usize, w: Word)
+    requires { ⌜ (744 ≤ w .from) × ((w .from ≤ w .to) × ((w .to ≤ 850) × (at + (w .to - w .from) ≤ length (now out)))) ⌝ }
+    ensures { λ _. ⌜ take (at + (w .to - w .from)) (now (out .exit)) ≡ take at (now (out .entry)) ++ spelled w ⌝ }
+{
+    let some: &[u8] =
+        b"vtable for VTT for typeinfo for typeinfo name for  const volatile & &&*&&& const volatile complex restrict";
+    write_from(out, at, some, 744, w);
+}
+
+fn write_abbreviation(out: &mut [u8], at: usize, w: Word)
+    requires { ⌜ (850 ≤ w .from) × ((w .from ≤ w .to) × ((w .to ≤ words-end) × (at + (w .to - w .from) ≤ length (now out)))) ⌝ }
+    ensures { λ _. ⌜ take (at + (w .to - w .from)) (now (out .exit)) ≡ take at (now (out .entry)) ++ spelled w ⌝ }
+{
+    let some: &[u8] = b"stdstd::allocatorstd::basic_string\
         std::basic_string<char, std::char_traits<char>, std::allocator<char> >\
         std::basic_istream<char, std::char_traits<char> >std::basic_ostream<char, std::char_traits<char> >\
         std::basic_iostream<char, std::char_traits<char> >";
-    let from = w.from;
-    let to = w.to;
-    text::copy(out, at, &words[from..to]);
+    write_from(out, at, some, 850, w);
+}
+
+// The word, from those that begin at `start`.
+fn write_from(out: &mut [u8], at: usize, some: &[u8], start: usize, w: Word)
+    requires { ⌜ (now some ≡ take (length (now some)) (drop start words)) × ((start ≤ w .from) × ((w .from ≤ w .to)
+        × ((w .to ≤ start + length (now some)) × (at + (w .to - w .from) ≤ length (now out))))) ⌝ }
+    ensures { λ _. ⌜ take (at + (w .to - w .from)) (now (out .exit)) ≡ take at (now (out .entry)) ++ spelled w ⌝ }
+{
+    let from = w.from - start;
+    let to = w.to - start;
+    text::copy_part(out, at, some, from, to);
 }

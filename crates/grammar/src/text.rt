@@ -1,7 +1,7 @@
 // Bytes copied, and bytes compared with a word.
 ghost use mathlib.Core.Path.{_≡_};
 ghost use mathlib.Core.List.{_++_};
-ghost use Prim.Native.Nat.{_+_, _≤_};
+ghost use Prim.Native.Nat.{_+_, _-_, _≤_};
 ghost use lib.ListN.{length, take, drop};
 ghost use Rattle.grammar.specs.Text.{starts};
 
@@ -14,6 +14,45 @@ pub fn copy(out: &mut [u8], at: usize, src: &[u8])
         out[at + i] = src[i];
         i += 1;
     }
+}
+
+// The 16 bytes of `src` from `from` on are copied to `at`. They pass through an array, so that all are copied at once.
+fn copy_block(out: &mut [u8], at: usize, src: &[u8], from: usize)
+    requires { ⌜ (at + 16 ≤ length (now out)) × (from + 16 ≤ length (now src)) ⌝ }
+    ensures { λ _. ⌜ now (out .exit) ≡ take at (now (out .entry)) ++ take 16 (drop from (now (src .entry))) ++ drop (at + 16) (now (out .entry)) ⌝ }
+{
+    let mut block = [0u8; 16];
+    let end = from + 16;
+    copy(&mut block, 0, &src[from..end]);
+    copy(out, at, &block);
+}
+
+// n bytes of `src`, and up to 15 behind them, are copied in blocks of 16.
+fn copy_blocks(out: &mut [u8], at: usize, src: &[u8], from: usize, n: usize)
+    requires { ⌜ (at + n + 16 ≤ length (now out)) × (from + n + 16 ≤ length (now src)) ⌝ }
+    ensures { λ _. ⌜ take (at + n) (now (out .exit)) ≡ take at (now (out .entry)) ++ take n (drop from (now (src .entry))) ⌝ }
+{
+    let mut i: usize = 0;
+    while i < n {
+        copy_block(out, at + i, src, from + i);
+        i += 16;
+    }
+}
+
+// src[from..to] is copied to `at`. Bytes behind it may change.
+pub fn copy_part(out: &mut [u8], at: usize, src: &[u8], from: usize, to: usize)
+    requires { ⌜ (from ≤ to) × ((to ≤ length (now src)) × (at + (to - from) ≤ length (now out))) ⌝ }
+    ensures { λ _. ⌜ take (at + (to - from)) (now (out .exit)) ≡ take at (now (out .entry)) ++ take (to - from) (drop from (now (src .entry))) ⌝ }
+{
+    let n = to - from;
+    let end = at + n;
+    if 16 <= out.len() - end {
+        if 16 <= src.len() - to {
+            copy_blocks(out, at, src, from, n);
+            return;
+        }
+    }
+    copy(out, at, &src[from..to]);
 }
 
 // Whether the word stands at `at`; past the end only the empty word does.

@@ -1,24 +1,24 @@
 -- What holds of an answer whatever is listed: its length, a symbol that is too long, and that an entry with work slices of its least lengths
--- gives it. Assumes nothing.
+-- tells it. Assumes nothing.
 use mathlib.Core.Bool.{Bool, true, false, _&&_}
 use mathlib.Core.Option.{Option, none, some}
 use mathlib.Core.Path.{_≡_, refl, sym, ap, _∙_, subst}
 use Prim.Native.Nat.{_≤_, _<_}
 use native.Mathlib.Omega.{arith}
-use borrow.Author.Tests.{lt-ltb, leb-true}
+use borrow.Author.Tests.{lt-ltb, le-leb, leb-true}
 use lib.Dec.{leb}
 use lib.ListN.{length}
 use Rattle.grammar.specs.Text.{Text, if_then_else_}
-use Rattle.grammar.specs.Names.{Answer, named, refusal, mangled-name, front, demangle, most-symbol-bytes, least-text, least-store, work-fits, within, length-of}
+use Rattle.grammar.specs.Names.{Answer, named, refusal, mangled-name, front, demangle, most-symbol-bytes, least-text, least-store, work-fits, within, answer, length-of}
 use Rattle.catalogue.specs.Recogniser.{classify}
 use Rattle.catalogue.specs.Answer.{normalIn, normal-told, normal-after, normal-symbol, normal-work-fits, normal-answer}
-use Rattle.store.specs.Stack.{zeros}
 use Rattle.names.specs.Lengths.{short-answer, within-is, answer-is}
-use Rattle.names.specs.Outcome.{Slices, Zero, Demangles, Leaves, lent, leaves, demangled}
+use Rattle.names.specs.Outcome.{Slices, lent}
+use Rattle.names.specs.Printed.{Tells}
+use Rattle.names.specs.Tells.{tells-as}
 use Rattle.names.specs.declared.entry.Answer.{Answer as Code}
-use Rattle.symbols.specs.Outcome.{Normalizes, normalized}
 use Rattle.symbols.specs.Runs.{normal-behind}
-use Rattle.listing.specs.Listing.{answer-of, least-ends-of}
+use Rattle.listing.specs.Listing.{answer-of, least-name, least-ends-of}
 use Rattle.listing.specs.declared.listing.Kind.{Kind}
 use Rattle.listing.specs.declared.listing.Kind.the-variants.{Names, Symbols}
 
@@ -62,23 +62,27 @@ unfolding answer-of normal-symbol normal-after
 too-long Names s h = too-long-for-name s h
 too-long Symbols s h = ap (normal-after s) (too-long-for-name s h)
 
--- the work slices are zero and have their least lengths
-pub record Idle (kind : Kind) (l : Slices) : Type 0 where
-  pub zero : Zero l
-  pub name : l .out ≡ zeros (length (l .out))
-  pub long : 16384 ≤ length (l .out)
-  pub fits : leb least-text (length (l .text)) && leb least-store (length (l .store)) && leb (least-ends-of kind) (length (l .ends)) ≡ true
+-- the work slices have their least lengths, or more
+pub record Sized (kind : Kind) (l : Slices) : Type 0 where
+  pub name : least-name ≤ length (l .out)
+  pub text : least-text ≤ length (l .text)
+  pub store : least-store ≤ length (l .store)
+  pub ends : least-ends-of kind ≤ length (l .ends)
 
--- either entry leaves the answer
-module _ {kind : Kind} {l l' : Slices} (s : Text) (r : Code) (i : Idle kind l) where
-  pub name-left : kind ≡ Names → Demangles s l l' r → Leaves (answer-of kind s) l l' r
-  unfolding demangled answer-of work-fits
-  name-left e d =
-      let j : Idle Names l = subst (λ (k : Kind). Idle k l) e i in
-      d ∙ ap (λ (a : Answer). leaves a l) (answer-is l s (j .long) (j .fits) ∙ ap (λ (k : Kind). answer-of k s) (sym e))
+sized-fits : {kind : Kind} {l : Slices} → Sized kind l → leb least-text (length (l .text)) && leb least-store (length (l .store)) && leb (least-ends-of kind) (length (l .ends)) ≡ true
+sized-fits {kind} {l} h =
+    rw (le-leb least-text (length (l .text)) (h .text), le-leb least-store (length (l .store)) (h .store), le-leb (least-ends-of kind) (length (l .ends)) (h .ends))
 
-  pub symbol-left : kind ≡ Symbols → Normalizes s l l' r → Leaves (answer-of kind s) l l' r
-  unfolding normalized answer-of normal-work-fits
-  symbol-left e d =
-      let j : Idle Symbols l = subst (λ (k : Kind). Idle k l) e i in
-      d ∙ ap (λ (a : Answer). leaves a l) (normal-is l s (j .long) (j .fits) ∙ ap (λ (k : Kind). answer-of k s) (sym e))
+-- either entry tells the answer
+module _ {kind : Kind} {l : Slices} {out : Text} {r : Code} (s : Text) (h : Sized kind l) where
+  pub name-told : kind ≡ Names → Tells (answer most-symbol-bytes (lent l) s) (l .out) out r → Tells (answer-of kind s) (l .out) out r
+  unfolding answer-of work-fits
+  name-told e d =
+      let i : Sized Names l = subst (λ (k : Kind). Sized k l) e h in
+      tells-as (answer-is l s (i .name) (sized-fits i) ∙ ap (λ (k : Kind). answer-of k s) (sym e)) d
+
+  pub symbol-told : kind ≡ Symbols → Tells (normal-answer (lent l) s) (l .out) out r → Tells (answer-of kind s) (l .out) out r
+  unfolding answer-of normal-work-fits
+  symbol-told e d =
+      let i : Sized Symbols l = subst (λ (k : Kind). Sized k l) e h in
+      tells-as (normal-is l s (i .name) (sized-fits i) ∙ ap (λ (k : Kind). answer-of k s) (sym e)) d

@@ -10,27 +10,10 @@ use lib.ListN.{length, take, drop, getD, length-append, length-drop, drop-of-len
 use lib.Seq.{paste, paste-zero, take-at, drop-append-add, drop-drop, take-length, length-paste}
 use Rattle.grammar.specs.Text.{Text, if_then_else_, run}
 use Rattle.parser.specs.Runs.{run-more, run-stops}
-use Rattle.names.specs.Outcome.{Slices}
 use Rattle.listing.specs.Listing.{line, line-for, listing-line, in-front, lines, bytes-taken, listing, fitting}
 use Rattle.listing.specs.Printed.{Printed, prints, prints-not}
 use Rattle.listing.specs.declared.listing.Kind.{Kind}
 use Rattle.listing.specs.declared.listing.Listed.{Listed}
-
--- the slices are as they were
-pub record Same (l l' : Slices) : Type 0 where
-  pub out : l' .out ≡ l .out
-  pub text : l' .text ≡ l .text
-  pub store : l' .store ≡ l .store
-  pub ends : l' .ends ≡ l .ends
-
-pub same : {l : Slices} → Same l l
-same = record { out = refl; text = refl; store = refl; ends = refl }
-
-pub same-on : {l l' l'' : Slices} → Same l l' → Same l' l'' → Same l l''
-same-on h k = record { out = k .out ∙ h .out; text = k .text ∙ h .text; store = k .store ∙ h .store; ends = k .ends ∙ h .ends }
-
-pub same-slices : {l l' : Slices} → Same l l' → l ≡ l'
-same-slices h = λ i. record { out = sym (h .out) i; text = sym (h .text) i; store = sym (h .store) i; ends = sym (h .ends) i }
 
 -- the lines ss were taken and listed
 pub record Goes (kind : Kind) (out out' : Text) (ss : List Text) (r : Listed) : Type 0 where

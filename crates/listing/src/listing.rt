@@ -1,17 +1,21 @@
 // The listing of lines: for each the number, the length and the name or the normal symbol that the symbol gets.
 use crate::feeds::line_end;
 use names::entry::Answer;
-use names::entry::demangle_zeroed;
+use names::entry::clear;
+use names::entry::demangle_uncleared;
+use names::symbol;
 use store::stack;
-use symbols::entry::normalize_zeroed;
+use symbols::entry::normalize_uncleared;
 ghost use mathlib.Core.Path.{_≡_};
-ghost use Prim.Native.Nat.{_+_, _≤_, _<_};
+ghost use Prim.Native.Nat.{_≤_, _<_};
 ghost use lib.ListN.{length};
-ghost use Rattle.names.specs.Outcome.{slices, number-in, bytes-in, Leaves};
+ghost use Rattle.names.specs.Outcome.{slices, number-in, bytes-in};
+ghost use Rattle.names.specs.Printed.{Tells};
 ghost use Rattle.listing.specs.Listing.{line, answer-of, listing-line, fitting, lines, least-ends-of, sized, Lists};
 ghost use Rattle.listing.specs.Printed.{Digits, Heads, Printed};
-ghost use Rattle.listing.specs.Lines.{Same, Goes};
-ghost use Rattle.listing.specs.Kinds.{Idle};
+ghost use Rattle.listing.specs.Lines.{Goes};
+ghost use Rattle.listing.specs.Kinds.{Sized};
+ghost use Rattle.listing.specs.Entry.{taken-lines};
 
 // What is listed of a symbol: its name, or its normal symbol.
 pub enum Kind {
@@ -90,7 +94,7 @@ fn bytes_in(answer: Answer) -> usize
     }
 }
 
-// The name or the normal symbol, into `name`. The slices are zero, and all but `name` again at the end.
+// The name or the normal symbol, into `name`. The work slices have their least lengths; only `list_lines` clears them.
 fn answer(
     kind: Kind,
     s: &[u8],
@@ -99,17 +103,16 @@ fn answer(
     store: &mut [u8],
     ends: &mut [u16],
 ) -> Answer
-    requires { ⌜ Idle kind (slices (now name) (now text) (now store) (now ends)) ⌝ }
-    ensures { λ r. ⌜ Leaves (answer-of kind (now (s .entry))) (slices (now (name .entry)) (now (text .entry)) (now (store .entry)) (now (ends .entry)))
-        (slices (now (name .exit)) (now (text .exit)) (now (store .exit)) (now (ends .exit))) r ⌝ }
+    requires { ⌜ Sized kind (slices (now name) (now text) (now store) (now ends)) ⌝ }
+    ensures { λ r. ⌜ Tells (answer-of kind (now (s .entry))) (now (name .entry)) (now (name .exit)) r ⌝ }
 {
     match kind {
-        Kind::Names => demangle_zeroed(s, name, text, store, ends),
-        Kind::Symbols => normalize_zeroed(s, name, text, store, ends),
+        Kind::Names => demangle_uncleared(s, name, text, store, ends),
+        Kind::Symbols => normalize_uncleared(s, name, text, store, ends),
     }
 }
 
-// The listing line of a symbol, as `print_line` writes a line. The work slices are zero, and again at the end.
+// The listing line of a symbol, as `print_line` writes a line.
 fn write_line(
     kind: Kind,
     s: &[u8],
@@ -120,17 +123,13 @@ fn write_line(
     store: &mut [u8],
     ends: &mut [u16],
 ) -> usize
-    requires { ⌜ (at ≤ length (now out)) × Idle kind (slices (now name) (now text) (now store) (now ends)) ⌝ }
-    ensures { λ r. ⌜ (Printed (listing-line kind (now (s .entry))) at (now (out .entry)) (now (out .exit)) r)
-        × Same (slices (now (name .entry)) (now (text .entry)) (now (store .entry)) (now (ends .entry)))
-        (slices (now (name .exit)) (now (text .exit)) (now (store .exit)) (now (ends .exit))) ⌝ }
+    requires { ⌜ (at ≤ length (now out)) × Sized kind (slices (now name) (now text) (now store) (now ends)) ⌝ }
+    ensures { λ r. ⌜ Printed (listing-line kind (now (s .entry))) at (now (out .entry)) (now (out .exit)) r ⌝ }
 {
     let answer = answer(kind, s, name, text, store, ends);
     let number = number_in(answer);
     let bytes = bytes_in(answer);
-    let written = print_line(out, at, number, &name[..bytes]);
-    stack::clear(&mut name[..bytes]);
-    written
+    print_line(out, at, number, &name[..bytes])
 }
 
 // The lines one after another, as long as their listing fits.
@@ -143,10 +142,8 @@ fn write_lines(
     store: &mut [u8],
     ends: &mut [u16],
 ) -> Listed
-    requires { ⌜ Idle kind (slices (now name) (now text) (now store) (now ends)) ⌝ }
-    ensures { λ r. ⌜ (Goes kind (now (out .entry)) (now (out .exit)) (fitting kind (length (now (out .entry))) (lines (now (input .entry)))) r)
-        × Same (slices (now (name .entry)) (now (text .entry)) (now (store .entry)) (now (ends .entry)))
-        (slices (now (name .exit)) (now (text .exit)) (now (store .exit)) (now (ends .exit))) ⌝ }
+    requires { ⌜ Sized kind (slices (now name) (now text) (now store) (now ends)) ⌝ }
+    ensures { λ r. ⌜ Goes kind (now (out .entry)) (now (out .exit)) (fitting kind (length (now (out .entry))) (lines (now (input .entry)))) r ⌝ }
 {
     let mut at: usize = 0;
     let mut end: usize = 0;
@@ -178,8 +175,8 @@ fn least_ends(kind: Kind) -> usize
     ensures { λ r. ⌜ r ≡ least-ends-of kind ⌝ }
 {
     match kind {
-        Kind::Names => 2048,
-        Kind::Symbols => 24576,
+        Kind::Names => symbol::ENDS,
+        Kind::Symbols => symbols::entry::ENDS,
     }
 }
 
@@ -189,13 +186,35 @@ fn long_enough(kind: Kind, name: usize, text: usize, store: usize, ends: usize) 
     if name < 16384 {
         return false;
     }
-    if text < 65536 {
+    if text < symbol::TEXT {
         return false;
     }
-    if store < 65536 {
+    if store < symbol::STORE {
         return false;
     }
     least_ends(kind) <= ends
+}
+
+// The listing, or no line where a work slice is too short.
+fn list_uncleared(
+    kind: Kind,
+    input: &[u8],
+    out: &mut [u8],
+    name: &mut [u8],
+    text: &mut [u8],
+    store: &mut [u8],
+    ends: &mut [u16],
+) -> Listed
+    ensures { λ r. ⌜ Goes kind (now (out .entry)) (now (out .exit)) (taken-lines kind (now (input .entry)) (now (out .entry))
+        (slices (now (name .entry)) (now (text .entry)) (now (store .entry)) (now (ends .entry)))) r ⌝ }
+{
+    if !long_enough(kind, name.len(), text.len(), store.len(), ends.len()) {
+        return Listed {
+            taken: 0,
+            written: 0,
+        };
+    }
+    write_lines(kind, input, out, name, text, store, ends)
 }
 
 // The listing of the complete lines at the front of `input`, as many as fit into `out`. Work slices of any lengths and
@@ -213,15 +232,8 @@ pub fn list_lines(
         (slices (now (name .entry)) (now (text .entry)) (now (store .entry)) (now (ends .entry)))
         (slices (now (name .exit)) (now (text .exit)) (now (store .exit)) (now (ends .exit))) r ⌝ }
 {
+    let listed = list_uncleared(kind, input, out, name, text, store, ends);
     stack::clear(name);
-    stack::clear(text);
-    stack::clear(store);
-    stack::clear_ends(ends);
-    if !long_enough(kind, name.len(), text.len(), store.len(), ends.len()) {
-        return Listed {
-            taken: 0,
-            written: 0,
-        };
-    }
-    write_lines(kind, input, out, name, text, store, ends)
+    clear(text, store, ends);
+    listed
 }

@@ -3,7 +3,6 @@ pub mod Symbols
 pub mod Fronts
 pub mod Slotless
 pub mod Printed
-pub mod Wiped
 pub mod Tells
 pub mod Told
 pub mod Lengths

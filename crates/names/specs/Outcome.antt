@@ -56,12 +56,6 @@ Leaves a l l' r = _≡_ {A = Outcome} (record { number = number-in r; bytes = by
 
 -- the work slices have their least lengths, or more
 pub record Long (l : Slices) : Type 0 where
-  pub text : 65536 ≤ length (l .text)
+  pub text : 51200 ≤ length (l .text)
   pub store : 65536 ≤ length (l .store)
   pub ends : 2048 ≤ length (l .ends)
-
--- the work slices are zero
-pub record Zero (l : Slices) : Type 0 where
-  pub text : l .text ≡ zeros (length (l .text))
-  pub store : l .store ≡ zeros (length (l .store))
-  pub ends : l .ends ≡ zeros (length (l .ends))

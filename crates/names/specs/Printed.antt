@@ -1,23 +1,22 @@
--- A text that was read becomes the output, and the work slices become zero again.
-use mathlib.Core.List.{List, []}
+-- A text that was read becomes the output, and the work slices become zero.
+use mathlib.Core.List.{[]}
 use mathlib.Core.Path.{_≡_}
 use Prim.Native.Nat.{ℕ}
 use lib.ListN.{length}
 use Rattle.grammar.specs.Text.{Text}
 use Rattle.grammar.specs.Reader.{State, ok}
-use Rattle.grammar.specs.Names.{number-of, length-of, written, within, finished, mangled-name}
+use Rattle.grammar.specs.Names.{number-of, length-of, written, within, finished}
 use Rattle.grammar.specs.Names as n
-use Rattle.store.specs.Stack.{Clean, zeros}
-use Rattle.store.specs.Table.{Entries}
+use Rattle.store.specs.Stack.{zeros}
 use Rattle.parser.specs.declared.state.Parser.{Parser}
-use Rattle.parser.specs.Holds.{Memory, mem, keep, low-bytes, high-bytes, low-ends, high-ends}
+use Rattle.parser.specs.Holds.{Memory, mem, keep}
 use Rattle.names.specs.declared.entry.Answer.{Answer}
 use Rattle.names.specs.declared.entry.Answer.the-variants.{Name, Refused}
 use Rattle.names.specs.declared.symbol.Front.{Front}
 use Rattle.names.specs.declared.symbol.Front.the-variants as front-as
 use Rattle.parser.specs.declared.state.Read.{Read}
 use Rattle.parser.specs.declared.state.Read.the-variants as read-as
-use Rattle.encoding.specs.Encodings.{Prints, Blank}
+use Rattle.encoding.specs.Encodings.{Prints}
 use Rattle.names.specs.Outcome.{number-in, bytes-in}
 
 -- the code's answer and the output are the definition's
@@ -36,17 +35,6 @@ pub record Cleared (m m' : Memory) : Type 0 where
   pub text : m' .text ≡ zeros (length (m .text))
   pub store : m' .store ≡ zeros (length (m .store))
   pub ends : m' .ends ≡ zeros (length (m .ends))
-
--- what a reading left on the stack and in the tables
-pub record Used (m : Memory) (p : Parser) : Type 0 where
-  pub text : Clean (m .text) (p .top)
-  pub subs : (l : List Text) × Entries l (low-bytes (m .store)) (low-ends (m .ends)) (p .subs .count) (p .subs .bytes)
-  pub args : (l : List Text) × Entries l (high-bytes (m .store)) (high-ends (m .ends)) (p .args .count) (p .args .bytes)
-
--- what is behind _Z, read and printed
-pub record ReadsName (s before after : Text) (m : Memory) (r : Answer) : Type 0 where
-  pub tells : Tells (within (length before) (mangled-name s)) before after r
-  pub blank : Blank m
 
 -- a refusal handed on
 abbrev pub refused-of : Front → Answer

@@ -21,7 +21,7 @@ use Rattle.parser.specs.Holds.{Memory, mem}
 use Rattle.names.specs.declared.entry.Answer as told
 use Rattle.names.specs.declared.entry.Answer.the-variants.{Name, Refused}
 use Rattle.encoding.specs.Encodings.{Prints, Encodes, encodes, refuses}
-use Rattle.names.specs.Printed.{Tells, Used, unread-of}
+use Rattle.names.specs.Printed.{Tells, unread-of}
 use Rattle.names.specs.Slotless.{slotless-length}
 
 module _ {a : Answer} {out : Text} where
@@ -61,7 +61,7 @@ newest-part text top n = take (top - (top - n)) (drop (top - n) text)
 pub newest-length : (text : Text) (top n : ℕ) {k : ℕ} → n ≤ top → top ≤ length text → k ≡ slots-in (newest-part text top n) → n - k ≡ length (without-slots (newest-part text top n))
 newest-length text top n a b e = omega (arith, e, slotless-length (newest-part text top n), length-take-le (top - (top - n)) (drop (top - n) text) (simp length-drop (omega arith)))
 
-module _ {s text store ends : Text} {p : Parser} {n : ℕ} {t : Text} {σ : State} (h : Prints 47400 s [] (mem text store ends) p n t σ) where
+module _ {s text store ends : Text} {p : Parser} {n : ℕ} {t : Text} {σ : State} (h : Prints 33064 s [] (mem text store ends) p n t σ) where
   newest : (length t ≤ length (take (p .top) text)) × (drop (length (take (p .top) text) - length t) (take (p .top) text) ≡ t)
   newest = newest-is [] t (h .tail) (omega (arith, h .short))
 
@@ -76,9 +76,6 @@ module _ {s text store ends : Text} {p : Parser} {n : ℕ} {t : Text} {σ : Stat
       sym (drop-take (p .top - n) (p .top) text)
       ∙ ap₂ (λ (i j : ℕ). drop (i - j) (take (p .top) text)) {x = p .top} {y = length (take (p .top) text)} (sym (top-size (h .text))) (h .size)
       ∙ newest .1
-
-  pub printed-used : Used (mem text store ends) p
-  printed-used = record { text = h .text; subs = h .subs; args = h .args }
 
   pub printed-length : {k : ℕ} → k ≡ slots-in (newest-part text (p .top) n) → n - k ≡ length (without-slots t)
   printed-length e = newest-length text (p .top) n printed-fits printed-top e ∙ ap (λ (z : Text). length (without-slots z)) printed-text

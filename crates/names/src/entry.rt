@@ -6,19 +6,14 @@ use encoding::mangled;
 use parser::state::Parser;
 use parser::state::Read;
 use store::stack;
-use store::table;
 ghost use mathlib.Core.Path.{_≡_};
-ghost use mathlib.Core.List.{List, _++_};
 ghost use Prim.Native.Nat.{_≤_};
 ghost use lib.ListN.{length, drop};
-ghost use Rattle.grammar.specs.Text.{Text};
-ghost use Rattle.grammar.specs.Names.{mangled-name, within};
-ghost use Rattle.store.specs.Stack.{zeros};
-ghost use Rattle.store.specs.Table.{Entries};
-ghost use Rattle.parser.specs.Holds.{mem, low-bytes, high-bytes, low-ends, high-ends};
-ghost use Rattle.encoding.specs.Encodings.{Blank};
-ghost use Rattle.names.specs.Outcome.{slices, Demangles, Leaves, Zero, Long};
-ghost use Rattle.names.specs.Printed.{Cleared, Used, PrintsName, ReadsName, refused-of, unread-of};
+ghost use Rattle.grammar.specs.Names.{answer, most-symbol-bytes, mangled-name, within};
+ghost use Rattle.parser.specs.Holds.{mem};
+ghost use Rattle.encoding.specs.Encodings.{Least};
+ghost use Rattle.names.specs.Outcome.{slices, lent, Demangles, Long};
+ghost use Rattle.names.specs.Printed.{Tells, Cleared, PrintsName, refused-of, unread-of};
 
 // The name of a symbol and its length, or the number of the first refusal.
 pub enum Answer {
@@ -37,21 +32,21 @@ pub fn demangle(
     ensures { λ r. ⌜ Demangles (now (s .entry)) (slices (now (out .entry)) (now (text .entry)) (now (store .entry)) (now (ends .entry)))
         (slices (now (out .exit)) (now (text .exit)) (now (store .exit)) (now (ends .exit))) r ⌝ }
 {
+    let answer = demangle_uncleared(s, out, text, store, ends);
     clear(text, store, ends);
-    demangle_zeroed(s, out, text, store, ends)
+    answer
 }
 
-// The same, where the work slices are zero.
-pub fn demangle_zeroed(
+// The same, but what the work slices hold at the end is left free: for callers that clear them once for many symbols.
+pub fn demangle_uncleared(
     s: &[u8],
     out: &mut [u8],
     text: &mut [u8],
     store: &mut [u8],
     ends: &mut [u16],
 ) -> Answer
-    requires { ⌜ Zero (slices (now out) (now text) (now store) (now ends)) ⌝ }
-    ensures { λ r. ⌜ Demangles (now (s .entry)) (slices (now (out .entry)) (now (text .entry)) (now (store .entry)) (now (ends .entry)))
-        (slices (now (out .exit)) (now (text .exit)) (now (store .exit)) (now (ends .exit))) r ⌝ }
+    ensures { λ r. ⌜ Tells (answer most-symbol-bytes (lent (slices (now (out .entry)) (now (text .entry)) (now (store .entry)) (now (ends .entry)))) (now (s .entry)))
+        (now (out .entry)) (now (out .exit)) r ⌝ }
 {
     let front = symbol::behind_front(s);
     let Front::Behind(at) = front else {
@@ -72,11 +67,8 @@ fn read_behind(
     store: &mut [u8],
     ends: &mut [u16],
 ) -> Answer
-    requires { ⌜ ((at ≤ length (now s)) × (length (now s) ≤ 4096))
-        × ((Long (slices (now out) (now text) (now store) (now ends))) × Zero (slices (now out) (now text) (now store) (now ends))) ⌝ }
-    ensures { λ r. ⌜ Leaves (within (length (now (out .entry))) (mangled-name (drop at (now (s .entry)))))
-        (slices (now (out .entry)) (now (text .entry)) (now (store .entry)) (now (ends .entry)))
-        (slices (now (out .exit)) (now (text .exit)) (now (store .exit)) (now (ends .exit))) r ⌝ }
+    requires { ⌜ ((at ≤ length (now s)) × (length (now s) ≤ 4096)) × Long (slices (now out) (now text) (now store) (now ends)) ⌝ }
+    ensures { λ r. ⌜ Tells (within (length (now (out .entry))) (mangled-name (drop at (now (s .entry))))) (now (out .entry)) (now (out .exit)) r ⌝ }
 {
     read(
         &s[at..],
@@ -89,17 +81,14 @@ fn read_behind(
 
 // What is behind _Z, read and printed. The work slices have their least lengths.
 fn read(s: &[u8], out: &mut [u8], text: &mut [u8], store: &mut [u8], ends: &mut [u16]) -> Answer
-    requires { ⌜ (length (now s) ≤ 16384) × Blank (mem (now text) (now store) (now ends)) ⌝ }
-    ensures { λ r. ⌜ ReadsName (now (s .entry)) (now (out .entry)) (now (out .exit)) (mem (now (text .exit)) (now (store .exit)) (now (ends .exit))) r ⌝ }
+    requires { ⌜ (length (now s) ≤ 16384) × Least (mem (now text) (now store) (now ends)) ⌝ }
+    ensures { λ r. ⌜ Tells (within (length (now (out .entry))) (mangled-name (now (s .entry)))) (now (out .entry)) (now (out .exit)) r ⌝ }
 {
     let got = mangled::mangled_name(s, text, store, ends);
     let Read::Text(p, n) = got else {
-        clear(text, store, ends);
         return unread(got);
     };
-    let answer = print(s, out, text, p, n);
-    wipe(text, store, ends, p);
-    answer
+    print(s, out, text, p, n)
 }
 
 // The newest n bytes as a name: 5 where the symbol has bytes left, 12 where `out` is too short.
@@ -122,39 +111,12 @@ fn print(s: &[u8], out: &mut [u8], text: &[u8], p: Parser, n: usize) -> Answer
 }
 
 // All of the work slices become zero.
-fn clear(text: &mut [u8], store: &mut [u8], ends: &mut [u16])
+pub fn clear(text: &mut [u8], store: &mut [u8], ends: &mut [u16])
     ensures { λ _. ⌜ Cleared (mem (now (text .entry)) (now (store .entry)) (now (ends .entry))) (mem (now (text .exit)) (now (store .exit)) (now (ends .exit))) ⌝ }
 {
     stack::clear(text);
     stack::clear(store);
     stack::clear_ends(ends);
-}
-
-// What a reading left on the stack and in the tables goes.
-fn wipe(text: &mut [u8], store: &mut [u8], ends: &mut [u16], p: Parser)
-    requires { ⌜ Used (mem (now text) (now store) (now ends)) p ⌝ }
-    ensures { λ _. ⌜ Blank (mem (now (text .exit)) (now (store .exit)) (now (ends .exit))) ⌝ }
-{
-    let top = p.top;
-    stack::clear(&mut text[..top]);
-    let subs = p.subs;
-    wipe_subs(store, ends, subs.count, subs.bytes);
-    let args = p.args;
-    wipe_args(store, ends, args.count, args.bytes);
-}
-
-fn wipe_subs(store: &mut [u8], ends: &mut [u16], count: usize, bytes: usize)
-    requires { ⌜ ((l : List Text) × Entries l (low-bytes (now store)) (low-ends (now ends)) count bytes) ⌝ }
-    ensures { λ _. ⌜ (now (store .exit) ≡ zeros 32768 ++ high-bytes (now (store .entry))) × (now (ends .exit) ≡ zeros 1024 ++ high-ends (now (ends .entry))) ⌝ }
-{
-    table::wipe(&mut store[..32768], &mut ends[..1024], count, bytes);
-}
-
-fn wipe_args(store: &mut [u8], ends: &mut [u16], count: usize, bytes: usize)
-    requires { ⌜ ((l : List Text) × Entries l (high-bytes (now store)) (high-ends (now ends)) count bytes) ⌝ }
-    ensures { λ _. ⌜ (now (store .exit) ≡ low-bytes (now (store .entry)) ++ zeros 32768) × (now (ends .exit) ≡ low-ends (now (ends .entry)) ++ zeros 1024) ⌝ }
-{
-    table::wipe(&mut store[32768..], &mut ends[1024..], count, bytes);
 }
 
 pub fn refused(front: Front) -> Answer

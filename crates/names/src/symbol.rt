@@ -12,7 +12,7 @@ ghost use Rattle.store.specs.Stack.{slots-in};
 ghost use Rattle.names.specs.Symbols.{Fronts};
 
 // The least lengths of the work slices.
-pub const TEXT: usize = 65536;
+pub const TEXT: usize = 51200;
 
 pub const STORE: usize = 65536;
 
@@ -59,7 +59,7 @@ pub fn behind_front(s: &[u8]) -> Front
 
 // Whether the work slices are as long as they have to be.
 pub fn work_fits(text: usize, store: usize, ends: usize) -> bool
-    ensures { λ r. ⌜ r ≡ (leb 65536 text && leb 65536 store && leb 2048 ends) ⌝ }
+    ensures { λ r. ⌜ r ≡ (leb 51200 text && leb 65536 store && leb 2048 ends) ⌝ }
 {
     if text < TEXT {
         return false;

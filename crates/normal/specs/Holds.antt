@@ -1,5 +1,6 @@
 -- What the state and the work slices of the writing mean in the walk with numbers. `out` has 65,536 bytes: what is written. `notes` has
--- 24,576 numbers: 16,384 for the nodes, four for each; 4,096 for the table; 4,096 for the table without later doubles. The rest is zero.
+-- 24,576 numbers: 16,384 for the nodes, four for each; 4,096 for the table; 4,096 for the table without later doubles. What is behind them
+-- may be anything.
 use mathlib.Core.Bool.{Bool, true}
 use mathlib.Core.List.{List, [], _∷_}
 use mathlib.Core.Path.{_≡_}
@@ -8,7 +9,7 @@ use Prim.Native.Char.{code}
 use lib.Dec.{ltb}
 use lib.ListN.{length, drop}
 use Rattle.grammar.specs.Text.{Text}
-use Rattle.store.specs.Table.{pad}
+use Rattle.store.specs.Table.{Front}
 use Rattle.catalogue.specs.Bytes.{all}
 use Rattle.catalogue.specs.Spelling.{nameBytes}
 use Rattle.walk.specs.Walk.{name, literal, litBytes}
@@ -37,7 +38,7 @@ use Rattle.nodes.specs.Nodes.{
   enter,
 }
 use Rattle.normal.specs.Parts.{part}
-use Rattle.normal.specs.Regions.{regions}
+use Rattle.normal.specs.Regions.{Regions}
 use Rattle.normal.specs.States.{written-to}
 use Rattle.normal.specs.declared.state.Writer.{Writer}
 use Rattle.normal.specs.declared.state.Told.{Told}
@@ -71,8 +72,8 @@ unfoldable pub Inside : Text → List Row → Type 0
 Inside s [] = Unit {0}
 Inside s (x ∷ xs) = ((x .from ≤ x .to) × (x .to ≤ length s)) × Inside s xs
 
-abbrev pub noting : List Row → List ℕ → List ℕ
-noting rows ds = regions (flat rows) ds (firsts ds)
+abbrev pub Noting : List Row → List ℕ → Text → Type 0
+Noting rows ds n = Regions (flat rows) ds (firsts ds) n
 
 -- ---------------------------------------------------------------- the state
 
@@ -91,12 +92,12 @@ pub record Holds (s out notes : Text) (p : Writer) (σ : Notes) : Type 0 where
   pub rows : List Row
   pub inside : Inside s rows
   pub nodes-are : σ .nodes ≡ nodes-in s rows
-  pub notes-are : notes ≡ noting rows (σ .table)
+  pub notes-are : Noting rows (σ .table) notes
   pub nodes-count : p .nodes ≡ length rows
   pub table-count : p .table ≡ length (σ .table)
   pub firsts-count : p .firsts ≡ length (firsts (σ .table))
   pub numbers : all small (σ .table) ≡ true
-  pub out-is : out ≡ pad 65536 (σ .out)
+  pub out-is : Front 65536 (σ .out) out
   pub out-count : p .out ≡ length (σ .out)
   pub args-count : p .args ≡ σ .args
   pub few-nodes : p .nodes ≤ p .at

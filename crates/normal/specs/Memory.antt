@@ -5,12 +5,11 @@ use mathlib.Core.Path.{_≡_, refl, sym, ap, ap₂, subst, _∙_}
 use Prim.Native.Nat.{ℕ, _+_, _-_, _*_, _≤_, _<_}
 use native.Mathlib.Omega.{arith}
 use lib.Dec.{eqb}
-use lib.ListN.{length, take, drop, set, length-append, length-drop}
-use lib.Seq.{drop-drop, length-take-le}
+use lib.ListN.{length, take, drop, set, length-append}
+use lib.Seq.{length-take-le}
 use Rattle.grammar.specs.Text.{Text}
-use Rattle.store.specs.Stack.{zeros}
-use Rattle.store.specs.Table.{pad}
-use Rattle.store.specs.Lists.{length-pad, second-lent}
+use Rattle.store.specs.Fronts.{front-less}
+use Rattle.store.specs.Lists.{second-lent}
 use Rattle.catalogue.specs.Spelling.{refBytes}
 use Rattle.walk.specs.Sizes.{ref-length}
 use Rattle.nodes.specs.Nodes.{
@@ -36,12 +35,12 @@ use Rattle.normal.specs.declared.state.Writer.{Writer}
 use Rattle.normal.specs.declared.state.Told.the-variants.{Number}
 use Rattle.normal.specs.States.{written-to, noted-to, entered-to}
 use Rattle.normal.specs.Written.{Wrote, wrote-four}
-use Rattle.normal.specs.Holds.{Row, node-in, nodes-in, flat, Inside, noting, most-number, Holds, Room, Took, Went, Refines, tells, notes-node}
+use Rattle.normal.specs.Holds.{Row, node-in, nodes-in, flat, Inside, Noting, most-number, Holds, Room, Took, Went, Refines, tells, notes-node}
 use Rattle.normal.specs.Seeks.{Sought}
 use Rattle.normal.specs.Rows.{rows-of, rows-flat, flat-more, length-nodes}
-use Rattle.normal.specs.Regions.{regions, pad-wrote, pad-cut, first-front, first-wrote, second-set, third-set}
+use Rattle.normal.specs.Regions.{Regions, front-wrote, first-front, first-wrote, second-set, third-set}
 use Rattle.normal.specs.Entries.{firsts-known, firsts-new, firsts-length}
-use Rattle.normal.specs.Slices.{flat-size, flat-most, firsts-most, out-most, notes-size, firsts-here, with-out, with-entry, with-row}
+use Rattle.normal.specs.Slices.{flat-size, firsts-most, notes-size, firsts-here, with-out, with-entry, with-row}
 
 module _ {s o n : Text} {p : Writer} {σ : Notes} (h : Holds s o n p σ) where
   -- ---------------------------------------------------------------- the searches
@@ -52,9 +51,7 @@ module _ {s o n : Text} {p : Writer} {σ : Notes} (h : Holds s o n p σ) where
   sought-firsts d r q = subst (λ (xs : List ℕ). Sought (eqb d) xs (p .firsts) r) (ap (take (p .firsts)) (second-lent 20480 n) ∙ firsts-here h) q
 
   rows-here : rows-of (p .nodes) n ≡ h .rows
-  rows-here =
-      ap₂ rows-of (h .nodes-count) (h .notes-are ∙ first-front (flat (h .rows)) (σ .table) (firsts (σ .table)))
-      ∙ rows-flat (h .rows) (zeros (16384 - length (flat (h .rows))) ++ (pad 4096 (σ .table) ++ pad 4096 (firsts (σ .table))))
+  rows-here = let f = first-front (h .notes-are) in ap₂ rows-of (h .nodes-count) (f .is) ∙ rows-flat (h .rows) (f .rest)
 
   pub inside-here : Inside s (rows-of (p .nodes) n)
   inside-here = subst (Inside s) (sym rows-here) (h .inside)
@@ -76,43 +73,24 @@ module _ {s o n : Text} {p : Writer} {σ : Notes} (h : Holds s o n p σ) where
         limits = record { at = refl; nodes = omega arith; table = omega arith; out = omega arith; args = omega arith; stands = l };
       })
 
-  module _ (from : ℕ) (l : from ≤ p .out) (o₁ ys : Text) (y : ys ≡ zeros (length (take (p .out - from) (drop from o))))
-      (e : o₁ ≡ take from o ++ (ys ++ drop (p .out - from) (drop from o))) where
-    cleared : o₁ ≡ pad 65536 (take from (σ .out))
-    cleared =
-        let w : length (pad 65536 (σ .out)) ≡ 65536 = length-pad 65536 (σ .out) (out-most h) in
-        let b : length o ≡ 65536 = ap length (h .out-is) ∙ w in
-        let m : length (take (p .out - from) (drop from o)) ≡ length (σ .out) - from =
-        length-take-le (p .out - from) (drop from o) (simp length-drop (omega (arith, h .out-count, out-most h))) ∙ omega (arith, h .out-count) in
-        let k : drop (p .out - from) (drop from o) ≡ drop (length (σ .out)) (pad 65536 (σ .out)) =
-        drop-drop (p .out - from) from o ∙ ap₂ (λ (j : ℕ) (t : Text). drop j t) {x = from + (p .out - from)} {y = length (σ .out)} (omega (arith, h .out-count)) (h .out-is) in
-        e
-        ∙ ap₂ (λ (t u : Text). take from t ++ (u ++ drop (p .out - from) (drop from o))) (h .out-is) (y ∙ ap zeros m)
-        ∙ ap (λ (t : Text). take from (pad 65536 (σ .out)) ++ (zeros (length (σ .out) - from) ++ t)) k
-        ∙ pad-cut 65536 (σ .out) from (omega (arith, h .out-count)) (out-most h)
+  module _ (i : ℕ) (b : i < p .firsts) where
+    pub index-most : i ≤ 4096
+    index-most = omega (arith, h .firsts-count, firsts-most h)
 
-    front : length (take from (σ .out)) ≡ from
-    front = length-take-le from (σ .out) (omega (arith, h .out-count))
-
-    pub cleared-size : length o₁ ≡ 65536
-    cleared-size = ap length cleared ∙ length-pad 65536 (take from (σ .out)) (omega (arith, front, out-most h, h .out-count))
-
-    module _ (i : ℕ) (r : Room 0 0 5 p) (b : i < p .firsts) where
-      pub index-most : i ≤ 4096
-      index-most = omega (arith, h .firsts-count, firsts-most h)
-
+    module _ (from : ℕ) (l : from ≤ p .out) (r : Room 0 0 5 p) where
       pub reference-room : from + length (refBytes i) ≤ 65536
       reference-room = omega (arith, ref-length i index-most, r .out, h .place, h .source)
 
-      pub settle-here : (d k : ℕ) (o' : Text) (q : Writer) → seek-by (eqb d) (firsts (σ .table)) ≡ some i → Wrote o₁ o' from k (refBytes i)
+      pub settle-here : (d k : ℕ) (o' : Text) (q : Writer) → seek-by (eqb d) (firsts (σ .table)) ≡ some i → Wrote o o' from k (refBytes i)
           → q ≡ written-to p k → Went s o' n (Took 0 0 5 from p) q (settled d from σ)
       settle-here d k o' q f w g =
+          let e : length (take from (σ .out)) ≡ from = length-take-le from (σ .out) (omega (arith, h .out-count)) in
           subst (λ (x : Writer). Went s o' n (Took 0 0 5 from p) x (settled d from σ)) (sym g)
           (subst (λ (τ : Notes). Went s o' n (Took 0 0 5 from p) (written-to p k) τ) (sym (settled-by d from (some i) f))
           (record {
             holds = with-out h (take from (σ .out) ++ refBytes i) o' k
-                (pad-wrote 65536 (take from (σ .out)) cleared (sym front) (omega (arith, front, reference-room)) w)
-                (omega (arith, front, w .end, length-append (take from (σ .out)) (refBytes i)))
+                (front-wrote (front-less (h .out-is) from) (sym e) (omega (arith, e, reference-room)) w)
+                (omega (arith, e, w .end, length-append (take from (σ .out)) (refBytes i)))
                 (omega (arith, w .end, ref-length i index-most, r .out));
             limits = record {
               at = refl;
@@ -130,13 +108,11 @@ module _ {s o n : Text} {p : Writer} {σ : Notes} (h : Holds s o n p σ) where
     table-room : length (σ .table) < 4096
     table-room = omega (arith, r .table, h .table-count, h .place, h .source)
 
-    entered-table : set n (16384 + p .table) d ≡ regions (flat (h .rows)) (σ .table ++ (d ∷ [])) (firsts (σ .table))
-    entered-table =
-        ap₂ (λ (l : Text) (k : ℕ). set l (16384 + k) d) (h .notes-are) (h .table-count)
-        ∙ second-set (flat (h .rows)) (σ .table) (firsts (σ .table)) (flat-most h) d table-room
+    entered-table : Regions (flat (h .rows)) (σ .table ++ (d ∷ [])) (firsts (σ .table)) (set n (16384 + p .table) d)
+    entered-table = rw (h .table-count) (second-set (h .notes-are) d table-room)
 
     went : (m : ℕ) (n' : Text) (q : Writer) → q ≡ entered-to p (p .table + 1) m → m ≡ length (firsts (σ .table ++ (d ∷ [])))
-        → n' ≡ noting (h .rows) (σ .table ++ (d ∷ [])) → Went s o n' (Took 0 1 0 (p .out) p) q (pushed d σ)
+        → Noting (h .rows) (σ .table ++ (d ∷ [])) n' → Went s o n' (Took 0 1 0 (p .out) p) q (pushed d σ)
     went m n' q g f e = subst (λ (x : Writer). Went s o n' (Took 0 1 0 (p .out) p) x (pushed d σ)) (sym g)
         (record {
           holds = with-entry h d (p .table + 1) m n' b refl (r .table) f e;
@@ -149,7 +125,7 @@ module _ {s o n : Text} {p : Writer} {σ : Notes} (h : Holds s o n p σ) where
     push-known i q g f =
         let e : firsts (σ .table ++ (d ∷ [])) ≡ firsts (σ .table) = firsts-known (σ .table) d i f in
         went (p .firsts) (set n (16384 + p .table) d) q g (h .firsts-count ∙ ap length (sym e))
-        (entered-table ∙ ap (regions (flat (h .rows)) (σ .table ++ (d ∷ []))) (sym e))
+        (rw e entered-table)
 
     pub firsts-room : p .firsts < 4096
     firsts-room = omega (arith, h .firsts-count, firsts-length (σ .table), table-room)
@@ -162,9 +138,7 @@ module _ {s o n : Text} {p : Writer} {σ : Notes} (h : Holds s o n p σ) where
         let m : length (firsts (σ .table) ++ (d ∷ [])) ≡ length (firsts (σ .table)) + 1 = length-append (firsts (σ .table)) (d ∷ []) in
         let t : length (σ .table ++ (d ∷ [])) ≡ length (σ .table) + 1 = length-append (σ .table) (d ∷ []) in
         went (p .firsts + 1) (set (set n (16384 + p .table) d) (20480 + p .firsts) d) q g (omega (arith, h .firsts-count, ap length e))
-        (ap₂ (λ (l : Text) (k : ℕ). set l (20480 + k) d) entered-table (h .firsts-count)
-        ∙ third-set (flat (h .rows)) (σ .table ++ (d ∷ [])) (firsts (σ .table)) (flat-most h) (omega (arith, table-room)) d (omega (arith, h .firsts-count, firsts-room))
-        ∙ ap (regions (flat (h .rows)) (σ .table ++ (d ∷ []))) (sym e))
+        (rw (e, h .firsts-count) (third-set entered-table d (omega (arith, h .firsts-count, firsts-room))))
 
   -- ---------------------------------------------------------------- a node
 
@@ -186,11 +160,11 @@ module _ {s o n : Text} {p : Writer} {σ : Notes} (h : Holds s o n p σ) where
     row-room : 4 * p .nodes + 4 ≤ 16384
     row-room = omega (arith, r .nodes, h .place, h .source)
 
-    noted-rows : sets-row n (4 * p .nodes) ≡ noting (h .rows ++ (x ∷ [])) (σ .table)
+    noted-rows : Noting (h .rows ++ (x ∷ [])) (σ .table) (sets-row n (4 * p .nodes))
     noted-rows =
-        first-wrote (flat (h .rows)) (σ .table) (firsts (σ .table)) (h .notes-are) (sym (flat-size h)) (omega (arith, flat-size h, row-room))
-        (wrote-four n (4 * p .nodes) (x .tag) (x .of) (x .from) (x .to) (omega (arith, notes-size h, row-room)))
-        ∙ ap (λ (l : List ℕ). regions l (σ .table) (firsts (σ .table))) (sym (flat-more (h .rows) x))
+        rw (flat-more (h .rows) x)
+        (first-wrote (h .notes-are) (sym (flat-size h)) (omega (arith, flat-size h, row-room))
+        (wrote-four n (4 * p .nodes) (x .tag) (x .of) (x .from) (x .to) (omega (arith, notes-size h, row-room))))
 
     pub note-new : (q : Writer) → q ≡ noted-to p (p .nodes + 1) → seek-by (same-node (node-in s x)) (σ .nodes) ≡ none
         → Refines s (Took 1 0 0 (p .out) p) o (sets-row n (4 * p .nodes)) (Number q (256 + p .nodes)) (notes-node (node-in s x) σ)

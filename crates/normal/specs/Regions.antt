@@ -1,100 +1,106 @@
--- Laws of the three regions of `notes`: 16,384 numbers, 4,096 and 4,096, each with zeros behind what is used. Assumes nothing.
-use mathlib.Core.List.{List, [], _∷_, _++_, append-assoc}
-use mathlib.Core.Path.{_≡_, refl, sym, ap, ap₂, _∙_}
-use Prim.Native.Nat.{ℕ, suc, _+_, _-_, _≤_, _<_}
+-- Laws of what stands in front in `out`, and in the three regions of `notes`: 16,384 numbers, 4,096 and 4,096. Assumes nothing.
+use mathlib.Core.List.{List, [], _∷_, _++_, append-nil, append-assoc}
+use mathlib.Core.Path.{_≡_, sym, ap, ap₂, subst, _∙_}
+use Prim.Native.Nat.{ℕ, suc, _+_, _≤_, _<_}
 use native.Mathlib.Omega.{arith}
-use lib.ListN.{length, take, drop, getD, set, length-append, List·getD-append}
-use lib.Seq.{take-at, take-length, length-take-le, take-append-le, drop-append-le, drop-append-add, getD-append-add, set-append-left}
-use Rattle.store.specs.Stack.{zeros}
-use Rattle.store.specs.Table.{pad}
-use Rattle.store.specs.Lists.{length-pad, zeros-zeros, drop-pad, pad-paste, pad-set}
+use lib.ListN.{length, take, drop, getD, set, length-append, length-drop, take-append-drop}
+use lib.Seq.{
+  sets,
+  sets-eq,
+  take-length,
+  length-take-le,
+  append-snoc,
+  getD-take,
+  getD-drop,
+  take-set-le,
+  take-set-lt,
+  drop-set-lt,
+  drop-set-add,
+}
+use Rattle.store.specs.Table.{Front}
+use Rattle.store.specs.Fronts.{front-none, front-as, front-most, front-at, front-paste, front-set}
 use Rattle.normal.specs.Written.{Wrote}
 
-set-append-add : (xs ys : List ℕ) (n a : ℕ) → set (xs ++ ys) (length xs + n) a ≡ xs ++ set ys n a
-set-append-add [] ys n a = ap (λ (k : ℕ). set ys k a) {x = 0 + n} {y = n} (omega arith)
-set-append-add (x ∷ xs) ys n a =
-    ap (λ (k : ℕ). set (x ∷ (xs ++ ys)) k a) {x = suc (length xs) + n} {y = suc (length xs + n)} (omega arith) ∙ ap (λ (t : List ℕ). x ∷ t) (set-append-add xs ys n a)
-
--- what is used stands in front
-pad-at : (n : ℕ) (w t : List ℕ) (j : ℕ) → j < length w → getD (pad n w ++ t) j 0 ≡ getD w j 0
-unfolding pad
-pad-at n w t j h =
-    ap (λ (l : List ℕ). getD l j 0) (append-assoc w (zeros (n - length w)) t) ∙ List·getD-append w (zeros (n - length w) ++ t) 0 j h
-
 -- a text is written behind what is used
-written : (n : ℕ) (w t : List ℕ) → length w + length t ≤ n → take (length w) (pad n w) ++ t ++ drop (length w + length t) (pad n w) ≡ pad n (w ++ t)
-written n w t h = ap (λ (x : List ℕ). take (length w) (pad n w) ++ x ++ drop (length w + length t) (pad n w)) (sym (take-length t)) ∙ pad-paste n w t h
+pub front-wrote : {n : ℕ} {w t o o' : List ℕ} {at r : ℕ} → Front n w o → at ≡ length w → length w + length t ≤ n → Wrote o o' at r t → Front n (w ++ t) o'
+front-wrote {t = t} {o = o} h f l q =
+    front-paste h t l (q .is ∙ ap₂ (λ (k : ℕ) (u : List ℕ). take k o ++ u ++ drop (k + length t) o) f (sym (take-length t)))
 
-pub pad-wrote : (n : ℕ) (w : List ℕ) {t o o' : List ℕ} {at r : ℕ} → o ≡ pad n w → at ≡ length w → length w + length t ≤ n → Wrote o o' at r t → o' ≡ pad n (w ++ t)
-pad-wrote n w {t} {o} {o'} {at} {r} e f l h =
-    h .is ∙ ap₂ (λ (x : List ℕ) (k : ℕ). take k x ++ t ++ drop (k + length t) x) e f ∙ written n w t l
+-- of the 24,576 numbers of a slice, x stands in front in the first region, y in the second and z in the third; what is behind each may be
+-- anything
+pub record Regions (x y z l : List ℕ) : Type 0 where
+  pub first : Front 16384 x (take 16384 l)
+  pub second : Front 4096 y (take 4096 (drop 16384 l))
+  pub third : Front 4096 z (drop 20480 l)
 
--- what was used from a place on is zero again
-pub pad-cut : (n : ℕ) (w : List ℕ) (k : ℕ) → k ≤ length w → length w ≤ n
-    → take k (pad n w) ++ (zeros (length w - k) ++ drop (length w) (pad n w)) ≡ pad n (take k w)
-unfolding pad
-pad-cut n w k h l =
-    ap₂ (λ (x y : List ℕ). x ++ (zeros (length w - k) ++ y)) (take-append-le k w (zeros (n - length w)) h) (drop-pad n w)
-    ∙ ap (λ (x : List ℕ). take k w ++ x) (zeros-zeros (length w - k) (n - length w) ∙ ap zeros (omega (arith, length-take-le k w h)))
+-- nothing stands in front of every slice
+pub regions-none : {l : List ℕ} → length l ≡ 24576 → Regions [] [] [] l
+regions-none {l} e = record {
+  first = front-none (length-take-le 16384 l (omega arith));
+  second = front-none (length-take-le 4096 (drop 16384 l) (omega (arith, length-drop 16384 l)));
+  third = front-none (omega (arith, length-drop 20480 l));
+}
 
-abbrev pub regions : List ℕ → List ℕ → List ℕ → List ℕ
-regions x y z = pad 16384 x ++ (pad 4096 y ++ pad 4096 z)
+module _ {x y z l : List ℕ} (h : Regions x y z l) where
+  pub regions-size : length l ≡ 24576
+  regions-size = omega (arith, h .third .size, length-drop 20480 l)
 
--- the first region, and what is behind it
-pub first-front : (x y z : List ℕ) → regions x y z ≡ x ++ (zeros (16384 - length x) ++ (pad 4096 y ++ pad 4096 z))
-unfolding pad
-first-front x y z = append-assoc x (zeros (16384 - length x)) (pad 4096 y ++ pad 4096 z)
+  -- what is in the first region stands in front in the slice, too
+  pub first-front : Front 24576 x l
+  first-front = record {
+    rest = h .first .rest ++ drop 16384 l;
+    is =
+        sym (take-append-drop 16384 l)
+        ∙ ap (λ (u : List ℕ). u ++ drop 16384 l) (h .first .is)
+        ∙ append-assoc x (h .first .rest) (drop 16384 l);
+    size = regions-size;
+  }
 
-pub first-wrote : (x y z : List ℕ) {t l l' : List ℕ} {at r : ℕ} → l ≡ regions x y z → at ≡ length x → length x + length t ≤ 16384 → Wrote l l' at r t
-    → l' ≡ regions (x ++ t) y z
-first-wrote x y z {t} {l} {l'} {at} {r} e f m h =
-    let b : List ℕ = pad 4096 y ++ pad 4096 z in
-    let s : length (pad 16384 x) ≡ 16384 = length-pad 16384 x (omega arith) in
-    h .is
-    ∙ ap₂ (λ (u : List ℕ) (k : ℕ). take k u ++ t ++ drop (k + length t) u) e f
-    ∙ ap₂ (λ (u v : List ℕ). u ++ t ++ v) (take-append-le (length x) (pad 16384 x) b (omega arith)) (drop-append-le (length x + length t) (pad 16384 x) b (omega arith))
-    ∙ sym (append-assoc (take (length x) (pad 16384 x) ++ t) (drop (length x + length t) (pad 16384 x)) b)
-    ∙ ap (λ (u : List ℕ). u ++ b) (written 16384 x t m)
+  pub second-at : (j : ℕ) → j < length y → getD l (16384 + j) 0 ≡ getD y j 0
+  second-at j m = sym (getD-drop 16384 l j 0) ∙ sym (getD-take 4096 (drop 16384 l) j 0 (omega (arith, front-most (h .second)))) ∙ front-at (h .second) j m
 
-module _ (x y z : List ℕ) (hx : length x ≤ 16384) where
-  second-as : (j k : ℕ) → k ≡ 16384 + j → k ≡ length (pad 16384 x) + j
-  second-as j k e = omega (arith, length-pad 16384 x hx)
+  -- a number is written behind what is used in a region
 
-  pub second-at : (j : ℕ) → j < length y → getD (regions x y z) (16384 + j) 0 ≡ getD y j 0
-  second-at j h =
-      ap (λ (k : ℕ). getD (regions x y z) k 0) (second-as j (16384 + j) refl)
-      ∙ getD-append-add (pad 16384 x) (pad 4096 y ++ pad 4096 z) j 0
-      ∙ pad-at 4096 y (pad 4096 z) j h
+  first-set : (a : ℕ) → length x < 16384 → Regions (x ++ (a ∷ [])) y z (set l (length x) a)
+  first-set a m = record {
+    first = front-as (take-set-lt 16384 l (length x) a m) (front-set (h .first) a m);
+    second = front-as (ap (take 4096) (drop-set-lt 16384 l (length x) a m)) (h .second);
+    third = front-as (drop-set-lt 20480 l (length x) a (omega arith)) (h .third);
+  }
 
-  pub second-set : (a : ℕ) → length y < 4096 → set (regions x y z) (16384 + length y) a ≡ regions x (y ++ (a ∷ [])) z
-  second-set a h =
-      ap (λ (k : ℕ). set (regions x y z) k a) (second-as (length y) (16384 + length y) refl)
-      ∙ set-append-add (pad 16384 x) (pad 4096 y ++ pad 4096 z) (length y) a
-      ∙ ap (λ (t : List ℕ). pad 16384 x ++ t)
-      (set-append-left (pad 4096 y) (pad 4096 z) (length y) a (omega (arith, length-pad 4096 y (omega arith)))
-      ∙ ap (λ (t : List ℕ). t ++ pad 4096 z) (pad-set 4096 y a h))
+  pub second-set : (a : ℕ) → length y < 4096 → Regions x (y ++ (a ∷ [])) z (set l (16384 + length y) a)
+  second-set a m = record {
+    first = front-as (take-set-le 16384 l (16384 + length y) a (omega arith)) (h .first);
+    second =
+        front-as (ap (take 4096) (drop-set-add 16384 l (length y) a) ∙ take-set-lt 4096 (drop 16384 l) (length y) a m) (front-set (h .second) a m);
+    third = front-as (drop-set-lt 20480 l (16384 + length y) a (omega arith)) (h .third);
+  }
 
-  module _ (hy : length y ≤ 4096) where
-    third-as : (j : ℕ) → 20480 + j ≡ length (pad 16384 x) + (length (pad 4096 y) + j)
-    third-as j = omega (arith, length-pad 16384 x hx, length-pad 4096 y hy)
+  pub third-set : (a : ℕ) → length z < 4096 → Regions x y (z ++ (a ∷ [])) (set l (20480 + length z) a)
+  third-set a m =
+      let e : 20480 + length z ≡ 16384 + (4096 + length z) = omega arith in
+      record {
+        first = front-as (take-set-le 16384 l (20480 + length z) a (omega arith)) (h .first);
+        second = front-as
+            (ap (λ (k : ℕ). take 4096 (drop 16384 (set l k a))) e
+            ∙ ap (take 4096) (drop-set-add 16384 l (4096 + length z) a)
+            ∙ take-set-le 4096 (drop 16384 l) (4096 + length z) a (omega arith))
+            (h .second);
+        third = front-as (drop-set-add 20480 l (length z) a) (front-set (h .third) a m);
+      }
 
-    pub third-set : (a : ℕ) → length z < 4096 → set (regions x y z) (20480 + length z) a ≡ regions x y (z ++ (a ∷ []))
-    third-set a h =
-        ap (λ (k : ℕ). set (regions x y z) k a) (third-as (length z))
-        ∙ set-append-add (pad 16384 x) (pad 4096 y ++ pad 4096 z) (length (pad 4096 y) + length z) a
-        ∙ ap (λ (t : List ℕ). pad 16384 x ++ t)
-        (set-append-add (pad 4096 y) (pad 4096 z) (length z) a ∙ ap (λ (t : List ℕ). pad 4096 y ++ t) (pad-set 4096 z a h))
+-- a text is written behind what is used in the first region
+first-sets : (t : List ℕ) {x y z l : List ℕ} → Regions x y z l → length x + length t ≤ 16384 → Regions (x ++ t) y z (sets l (length x) t)
+first-sets [] {x} {y} {z} {l} h m = subst (λ (u : List ℕ). Regions u y z l) (sym (append-nil x)) h
+first-sets (a ∷ t) {x} {y} {z} {l} h m =
+    let e : length (x ++ (a ∷ [])) ≡ suc (length x) = length-append x (a ∷ []) ∙ omega arith in
+    let r = first-sets t (first-set h a (omega arith)) (omega (arith, e)) in
+    subst (λ (u : List ℕ). Regions u y z (sets (set l (length x) a) (suc (length x)) t)) (append-snoc x a t)
+    (subst (λ (k : ℕ). Regions (x ++ (a ∷ []) ++ t) y z (sets (set l (length x) a) k t)) e r)
 
-    third-drop : drop 20480 (regions x y z) ≡ pad 4096 z
-    third-drop =
-        ap (λ (k : ℕ). drop k (regions x y z)) {x = 20480} {y = length (pad 16384 x) + (length (pad 4096 y) + 0)} (third-as 0)
-        ∙ drop-append-add (pad 16384 x) (pad 4096 y ++ pad 4096 z) (length (pad 4096 y) + 0)
-        ∙ drop-append-add (pad 4096 y) (pad 4096 z) 0
-
-    pub third-take : take (length z) (drop 20480 (regions x y z)) ≡ z
-    unfolding pad
-    third-take = ap (take (length z)) third-drop ∙ take-at z (zeros (4096 - length z)) (length z) refl
-
-    pub regions-size : length z ≤ 4096 → length (regions x y z) ≡ 24576
-    regions-size hz =
-        omega (arith, length-append (pad 16384 x) (pad 4096 y ++ pad 4096 z), length-append (pad 4096 y) (pad 4096 z), length-pad 16384 x hx, length-pad 4096 y hy, length-pad 4096 z hz)
+pub first-wrote : {x y z t l l' : List ℕ} {at r : ℕ} → Regions x y z l → at ≡ length x → length x + length t ≤ 16384 → Wrote l l' at r t
+    → Regions (x ++ t) y z l'
+first-wrote {x} {y} {z} {t} {l} {l'} h f m q =
+    let e : l' ≡ sets l (length x) t =
+    q .is ∙ ap (λ (k : ℕ). take k l ++ t ++ drop (k + length t) l) f ∙ sym (sets-eq t l (length x) (omega (arith, regions-size h))) in
+    subst (Regions (x ++ t) y z) (sym e) (first-sets t h m)

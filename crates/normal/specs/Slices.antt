@@ -2,7 +2,7 @@
 use mathlib.Core.Bool.{false}
 use mathlib.Core.List.{List, [], _∷_, _++_}
 use mathlib.Core.Option.{some}
-use mathlib.Core.Path.{_≡_, refl, sym, ap, ap₂, subst, _∙_}
+use mathlib.Core.Path.{_≡_, refl, sym, ap, subst, _∙_}
 use Prim.Native.Nat.{ℕ, _+_, _-_, _*_, _≤_, _<_}
 use native.Mathlib.Omega.{arith}
 use borrow.Author.Tests.{lt-ltb, le-ltb}
@@ -10,17 +10,16 @@ use lib.Dec.{eqb}
 use lib.ListN.{length, take, drop, getD, getElem?, length-append}
 use lib.Seq.{paste, take-length}
 use Rattle.grammar.specs.Text.{Text, if_then_else_, choose}
-use Rattle.store.specs.Stack.{zeros}
-use Rattle.store.specs.Table.{pad}
-use Rattle.store.specs.Lists.{length-pad}
+use Rattle.store.specs.Table.{Front}
+use Rattle.store.specs.Fronts.{front-most, front-take}
 use Rattle.nodes.specs.Nodes.{Node, Notes, notes, put, pushed, firsts, tag-of, last-is}
 use Rattle.normal.specs.declared.state.Writer.{Writer}
 use Rattle.normal.specs.States.{written-to, noted-to, entered-to}
 use Rattle.normal.specs.Written.{Wrote}
-use Rattle.normal.specs.Holds.{Row, node-in, nodes-in, flat, noting, most-number, Holds, Puts}
+use Rattle.normal.specs.Holds.{Row, node-in, nodes-in, flat, Noting, most-number, Holds, Puts}
 use Rattle.normal.specs.Rows.{length-flat, nodes-more, inside-more, tag-at, no-tag}
-use Rattle.normal.specs.Regions.{pad-wrote, first-front, second-at, third-take, regions-size}
-use Rattle.normal.specs.Entries.{firsts-length, some-at, small-at, small-more, last-none, last-at}
+use Rattle.normal.specs.Regions.{front-wrote, first-front, second-at, regions-size}
+use Rattle.normal.specs.Entries.{some-at, small-at, small-more, last-none, last-at}
 
 module _ {s o n : Text} {p : Writer} {σ : Notes} (h : Holds s o n p σ) where
   -- ---------------------------------------------------------------- sizes
@@ -28,23 +27,14 @@ module _ {s o n : Text} {p : Writer} {σ : Notes} (h : Holds s o n p σ) where
   pub flat-size : length (flat (h .rows)) ≡ 4 * p .nodes
   flat-size = omega (arith, length-flat (h .rows), h .nodes-count)
 
-  pub flat-most : length (flat (h .rows)) ≤ 16384
-  flat-most = omega (arith, flat-size, h .few-nodes, h .place, h .source)
-
-  pub table-most : length (σ .table) ≤ 4096
-  table-most = omega (arith, h .table-count, h .few-entries, h .place, h .source)
-
   pub firsts-most : length (firsts (σ .table)) ≤ 4096
-  firsts-most = omega (arith, table-most, firsts-length (σ .table))
-
-  pub out-most : length (σ .out) ≤ 65536
-  out-most = omega (arith, h .out-count, h .short, h .place, h .source)
+  firsts-most = front-most (h .notes-are .third)
 
   pub out-size : length o ≡ 65536
-  out-size = ap length (h .out-is) ∙ length-pad 65536 (σ .out) out-most
+  out-size = h .out-is .size
 
   pub notes-size : length n ≡ 24576
-  notes-size = ap length (h .notes-are) ∙ regions-size (flat (h .rows)) (σ .table) (firsts (σ .table)) flat-most table-most firsts-most
+  notes-size = regions-size (h .notes-are)
 
   -- ---------------------------------------------------------------- what is read
 
@@ -61,14 +51,12 @@ module _ {s o n : Text} {p : Writer} {σ : Notes} (h : Holds s o n p σ) where
 
   pub tag-here : (d : ℕ) → 256 ≤ d → d - 256 < p .nodes → getD n (4 * (d - 256)) 0 ≡ tag-of (σ .nodes) d
   tag-here d l m =
-      ap (λ (t : Text). getD t (4 * (d - 256)) 0) (h .notes-are ∙ first-front (flat (h .rows)) (σ .table) (firsts (σ .table)))
-      ∙ tag-at s (h .rows) (zeros (16384 - length (flat (h .rows))) ++ (pad 4096 (σ .table) ++ pad 4096 (firsts (σ .table)))) (d - 256) (omega (arith, h .nodes-count))
+      ap (λ (t : Text). getD t (4 * (d - 256)) 0) (first-front (h .notes-are) .is)
+      ∙ tag-at s (h .rows) (first-front (h .notes-are) .rest) (d - 256) (omega (arith, h .nodes-count))
       ∙ sym (tag-by d l)
 
   in-table : (i : ℕ) → i < p .table → getD n (16384 + i) 0 ≡ getD (σ .table) i 0
-  in-table i l =
-      ap (λ (t : Text). getD t (16384 + i) 0) (h .notes-are)
-      ∙ second-at (flat (h .rows)) (σ .table) (firsts (σ .table)) flat-most i (omega (arith, h .table-count))
+  in-table i l = second-at (h .notes-are) i (omega (arith, h .table-count))
 
   pub entry-is : (i : ℕ) → i < p .table → (getElem? (σ .table) i ≡ some (getD n (16384 + i) 0)) × (getD n (16384 + i) 0 < most-number)
   entry-is i l =
@@ -85,13 +73,11 @@ module _ {s o n : Text} {p : Writer} {σ : Notes} (h : Holds s o n p σ) where
       ∙ last-at d (σ .table) (omega (arith, h .table-count))
 
   pub firsts-here : take (p .firsts) (drop 20480 n) ≡ firsts (σ .table)
-  firsts-here =
-      ap₂ (λ (k : ℕ) (t : Text). take k (drop 20480 t)) (h .firsts-count) (h .notes-are)
-      ∙ third-take (flat (h .rows)) (σ .table) (firsts (σ .table)) flat-most table-most
+  firsts-here = ap (λ (k : ℕ). take k (drop 20480 n)) (h .firsts-count) ∙ front-take (h .notes-are .third)
 
   -- ---------------------------------------------------------------- what is kept when something changes
 
-  pub with-out : (w o' : Text) (k : ℕ) → o' ≡ pad 65536 w → k ≡ length w → k ≤ 16 * p .at
+  pub with-out : (w o' : Text) (k : ℕ) → Front 65536 w o' → k ≡ length w → k ≤ 16 * p .at
       → Holds s o' n (written-to p k) (notes w (σ .nodes) (σ .table) (σ .args) (σ .rest))
   with-out w o' k e f l = record {
     source = h .source;
@@ -115,7 +101,7 @@ module _ {s o n : Text} {p : Writer} {σ : Notes} (h : Holds s o n p σ) where
   }
 
   pub with-entry : (d k m : ℕ) (n' : Text) → d < most-number → k ≡ p .table + 1 → k ≤ p .at → m ≡ length (firsts (σ .table ++ (d ∷ [])))
-      → n' ≡ noting (h .rows) (σ .table ++ (d ∷ [])) → Holds s o n' (entered-to p k m) (pushed d σ)
+      → Noting (h .rows) (σ .table ++ (d ∷ [])) n' → Holds s o n' (entered-to p k m) (pushed d σ)
   with-entry d k m n' b c l f e = record {
     source = h .source;
     place = h .place;
@@ -138,7 +124,7 @@ module _ {s o n : Text} {p : Writer} {σ : Notes} (h : Holds s o n p σ) where
   }
 
   pub with-row : (x : Row) (k : ℕ) (n' : Text) → (x .from ≤ x .to) × (x .to ≤ length s) → k ≡ p .nodes + 1 → k ≤ p .at
-      → n' ≡ noting (h .rows ++ (x ∷ [])) (σ .table)
+      → Noting (h .rows ++ (x ∷ [])) (σ .table) n'
       → Holds s o n' (noted-to p k) (notes (σ .out) (σ .nodes ++ (node-in s x ∷ [])) (σ .table) (σ .args) (σ .rest))
   with-row x k n' b c l e = record {
     source = h .source;
@@ -170,6 +156,6 @@ pub puts-by : {w o o' : Text} {p r : Writer} {k : ℕ} → r ≡ written-to p k 
 puts-by {w} {o} {o'} {p} {r} {k} e q = (
   e ∙ ap (written-to p) (q .end),
   λ s n σ h l. subst (λ (x : Writer). Holds s o' n x (put w σ)) (sym e)
-      (with-out h (σ .out ++ w) o' k (pad-wrote 65536 (σ .out) (h .out-is) (h .out-count) (omega (arith, h .out-count, h .place, h .source)) q)
+      (with-out h (σ .out ++ w) o' k (front-wrote (h .out-is) (h .out-count) (omega (arith, h .out-count, h .place, h .source)) q)
       (omega (arith, q .end, h .out-count, length-append (σ .out) w)) (omega (arith, q .end))),
 )

@@ -109,8 +109,6 @@ pub fn settle(out: &mut [u8], notes: &[u16], p: Writer, d: usize, from: usize) -
     if n <= i {
         return p;
     }
-    let end = p.out;
-    stack::clear(&mut out[from..end]);
     let next = write::write_reference(out, from, i);
     p.written(next)
 }

@@ -7,7 +7,7 @@ use lib.ListN.{length, take, drop}
 use Rattle.grammar.specs.Text.{Text}
 use Rattle.grammar.specs.Reader.{State, Reader}
 use Rattle.grammar.specs.Agree.{moved}
-use Rattle.store.specs.Stack.{Clean, Tail}
+use Rattle.store.specs.Stack.{Stack, Tail}
 use Rattle.store.specs.Tails.{put-tail, chain, whole, weaken}
 use Rattle.parser.specs.declared.state.Parser.{Parser}
 use Rattle.parser.specs.declared.state.Read.{Read}
@@ -18,31 +18,31 @@ use Rattle.parser.specs.Laws.{by-state, holds-text, holds-moved, sooner}
 -- the text t was put on the stack in parts, and the state has the new top; the newest 49,152 bytes, at least, are there
 pub record Adds (text text' : Text) (p p' : Parser) (t : Text) : Type 0 where
   pub same : p' ≡ raised-to p (p' .top)
-  pub clean : Clean text' (p' .top)
-  pub tail : Tail 49152 (take (p' .top) text') (take (p .top) text ++ t)
+  pub stack : Stack text' (p' .top)
+  pub tail : Tail 34816 (take (p' .top) text') (take (p .top) text ++ t)
 
-pub adds-none : {text : Text} {p : Parser} → Clean text (p .top) → Adds text text p p []
-adds-none {text} {p} c = record { same = refl; clean = c; tail = rw append-nil (whole 49152 (take (p .top) text)) }
+pub adds-none : {text : Text} {p : Parser} → Stack text (p .top) → Adds text text p p []
+adds-none {text} {p} c = record { same = refl; stack = c; tail = rw append-nil (whole 34816 (take (p .top) text)) }
 
 pub adds-more : {text text' text'' : Text} {p p' p'' : Parser} {t u : Text} → Adds text text' p p' t → Puts text' text'' p' p'' u → Adds text text'' p p'' (t ++ u)
 adds-more {p'' = p''} {t = t} {u = u} a h = record {
   same = h .same ∙ ap (λ (q : Parser). raised-to q (p'' .top)) (a .same);
-  clean = h .put .clean;
-  tail = rw (← append-assoc) (put-tail u (a .clean) (omega arith) (h .put) (a .tail));
+  stack = h .put .stack;
+  tail = rw (← append-assoc) (put-tail u (a .stack) (omega arith) (h .put) (a .tail));
 }
 
 pub adds-adds : {text text' text'' : Text} {p p' p'' : Parser} {t u : Text} → Adds text text' p p' t → Adds text' text'' p' p'' u → Adds text text'' p p'' (t ++ u)
 adds-adds {p'' = p''} {t = t} {u = u} a b = record {
   same = b .same ∙ ap (λ (q : Parser). raised-to q (p'' .top)) (a .same);
-  clean = b .clean;
+  stack = b .stack;
   tail = rw (← append-assoc) (chain u (a .tail) (b .tail));
 }
 
-pub adds-one : {text text' : Text} {p p' : Parser} {t : Text} → Clean text (p .top) → Puts text text' p p' t → Adds text text' p p' t
+pub adds-one : {text text' : Text} {p p' : Parser} {t : Text} → Stack text (p .top) → Puts text text' p p' t → Adds text text' p p' t
 adds-one {text} {p = p} {t = t} c h = record {
   same = h .same;
-  clean = h .put .clean;
-  tail = put-tail t c (omega arith) (h .put) (whole 49152 (take (p .top) text));
+  stack = h .put .stack;
+  tail = put-tail t c (omega arith) (h .put) (whole 34816 (take (p .top) text));
 }
 
 -- by an equation of the text
@@ -51,23 +51,23 @@ adds-by e a = rw e a
 
 -- the same from another place
 pub adds-moved : {text text' : Text} {p p' : Parser} {t : Text} (at : ℕ) → Adds text text' p p' t → Adds text text' (moved-to p at) (moved-to p' at) t
-adds-moved at a = record { same = ap (λ (q : Parser). moved-to q at) (a .same); clean = a .clean; tail = a .tail }
+adds-moved at a = record { same = ap (λ (q : Parser). moved-to q at) (a .same); stack = a .stack; tail = a .tail }
 
 -- a text put by a state that a method handed back
 pub puts-from : {text text' : Text} {p q r : Parser} {t : Text} → q ≡ p → Puts text text' q r t → Puts text text' p r t
 puts-from {text} {text'} {p} {q} {r} {t} e h = subst (λ (x : Parser). Puts text text' x r t) e h
 
-pub clean-by : {text : Text} {p q : Parser} → q ≡ p → Clean text (p .top) → Clean text (q .top)
-clean-by {text} {p} {q} e c = subst (λ (x : Parser). Clean text (x .top)) (sym e) c
+pub stack-by : {text : Text} {p q : Parser} → q ≡ p → Stack text (p .top) → Stack text (q .top)
+stack-by {text} {p} {q} e c = subst (λ (x : Parser). Stack text (x .top)) (sym e) c
 
 pub puts-at : {text text' : Text} {p q r : Parser} {t : Text} → q ≡ p → Puts text text' q r t → r .at ≡ p .at
 puts-at e h = ap (λ (x : Parser). x .at) (h .same) ∙ ap (λ (x : Parser). x .at) e
 
 module _ {s text text' store ends : Text} {p p' : Parser} {t : Text} {σ : State} (a : Adds text text' p p' t) (h : Holds s (mem text store ends) p σ) where
   pub holds-adds : Holds s (mem text' store ends) p' σ
-  holds-adds = by-state (a .same) (holds-text h (p' .top) (a .clean))
+  holds-adds = by-state (a .same) (holds-text h (p' .top) (a .stack))
 
-  pub stands-adds : {n from : ℕ} → n ≡ min (length t) 65536 → from ≤ p .at → Stands 49152 (p .depth) s (take (p .top) text) from (mem text' store ends) p' n t σ
+  pub stands-adds : {n from : ℕ} → n ≡ min (length t) 65536 → from ≤ p .at → Stands 34816 (p .depth) s (take (p .top) text) from (mem text' store ends) p' n t σ
   stands-adds e l = record {
     holds = holds-adds;
     tail = a .tail;
@@ -84,7 +84,7 @@ pub stands-more :
     Adds text text' p p' u → Stands k d s base from (mem text store ends) p n t σ →
     Stands k d s base from (mem text' store ends) p' (min (length (t ++ u)) 65536) (t ++ u) σ
 stands-more {t = t} {u = u} a h = record {
-  holds = by-state (a .same) (holds-text (h .holds) _ (a .clean));
+  holds = by-state (a .same) (holds-text (h .holds) _ (a .stack));
   tail = rw (← append-assoc) (chain u (h .tail) (weaken (h .most) (a .tail)));
   size = refl;
   level = ap (λ (q : Parser). q .depth) (a .same) ∙ h .level;

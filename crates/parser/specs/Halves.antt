@@ -12,11 +12,11 @@ use lib.Seq.{take-take, drop-drop, length-take-le}
 use Rattle.grammar.specs.Text.{Text, if_then_else_, choose, same}
 use Rattle.grammar.specs.Reader.{State, Result, ok, refused, Reader, onto, refuse, set-subs, set-args, bytes-of, fits, push-sub, push-arg, give, recorded}
 use Rattle.grammar.specs.Grammar.{last}
-use Rattle.store.specs.Stack.{Clean}
+use Rattle.store.specs.Stack.{Stack}
 use Rattle.store.specs.Table.{Entries}
 use Rattle.store.specs.Lists.{drop-take, part-of, first-back, first-other, second-lent, second-back, second-other}
 use Rattle.store.specs.Tails.{newest-is, top-size, put-tail, whole}
-use Rattle.store.specs.Entries.{entries-as, entries-sized, entry-in, entry-within, next-start, some-entry, no-entry, bytes-append, bytes-one}
+use Rattle.store.specs.Entries.{entries-as, entries-sized, no-entries, entry-in, entry-within, next-start, some-entry, no-entry, bytes-append, bytes-one}
 use Rattle.parser.specs.declared.state.Parser.{Parser}
 use Rattle.parser.specs.declared.state.Read.{Read}
 use Rattle.parser.specs.declared.state.Read.the-variants.{Text as read, Refused}
@@ -94,6 +94,22 @@ module _ {s text store ends : Text} {p : Parser} {σ : State} (h : Holds s (mem 
         templated = h .templated;
       }
 
+-- no arguments are left, whatever their halves hold
+pub holds-no-args : {s : Text} {m : Memory} {p : Parser} {σ : State} → Holds s m p σ → Holds s m (args-to p 0 0) (with-args [] σ)
+holds-no-args h = record {
+  source = h .source;
+  place = h .place;
+  rest = h .rest;
+  depth = h .depth;
+  deep = h .deep;
+  text = h .text;
+  subs = h .subs;
+  args = no-entries (entries-sized (h .args));
+  cv = h .cv;
+  cv-within = h .cv-within;
+  templated = h .templated;
+}
+
 -- ---------------------------------------------------------------- whether one entry more fits
 
 module _ {l : List Text} {store ends : List ℕ} {c b : ℕ} (e : Entries l store ends c b) (t : Text) where
@@ -147,9 +163,6 @@ module _ {s : Text} {m : Memory} {n : ℕ} {q : Parser} where
 abbrev pub lent : Text → ℕ → ℕ → Text
 lent text top n = take (top - (top - n)) (drop (top - n) text)
 
-pub lent-size : {text : Text} {top : ℕ} (n : ℕ) → Clean text top → n ≤ top → length (lent text top n) ≡ n
-lent-size {text} {top} n h l = length-take-le (top - (top - n)) (drop (top - n) text) (simp length-drop (omega (arith, h .size, h .most))) ∙ omega arith
-
 pub newest-part : {k d : ℕ} {s base : Text} {from : ℕ} {m : Memory} {p : Parser} {n : ℕ} {t : Text} {σ : State} → Stands k d s base from m p n t σ → length t ≤ 32768 → (n ≤ p .top) × (lent (m .text) (p .top) n ≡ t)
 newest-part {k} {d} {s} {base} {from} {m} {p} {n} {t} h l =
     let w : Text = take (p .top) (m .text) in
@@ -158,25 +171,28 @@ newest-part {k} {d} {s} {base} {from} {m} {p} {n} {t} h l =
     let e : n ≡ length t = omega (arith, h .size) in
     (omega (arith, i .0), sym (drop-take (p .top - n) (p .top) (m .text)) ∙ ap (λ (j : ℕ). drop j w) {x = p .top - n} {y = length w - length t} (omega arith) ∙ i .1)
 
+newest-count : {k d : ℕ} {s base : Text} {from : ℕ} {m : Memory} {p : Parser} {n : ℕ} {t : Text} {σ : State} → Stands k d s base from m p n t σ → n ≤ 32768 → p .top - (p .top - n) ≡ n
+newest-count h l = omega (arith, newest-part h (omega (arith, h .size)) .0)
+
 module _ {k d : ℕ} {s base : Text} {from : ℕ} {text store ends : Text} {p : Parser} {n : ℕ} {t : Text} {σ : State} (h : Stands k d s base from (mem text store ends) p n t σ) {ys zs : List ℕ} {r : Parser} where
   pub pushes-sub : n ≤ 32768 → p .subs .count < 1024 → p .subs .bytes + n ≤ 32768 → r ≡ subs-to p (p .subs .count + 1) (p .subs .bytes + n)
-      → Entries (σ .subs ++ (lent text (p .top) n ∷ [])) ys zs (p .subs .count + 1) (p .subs .bytes + length (lent text (p .top) n))
+      → Entries (σ .subs ++ (lent text (p .top) n ∷ [])) ys zs (p .subs .count + 1) (p .subs .bytes + (p .top - (p .top - n)))
       → Pushes s (mem text (ys ++ drop 32768 store) (zs ++ drop 1024 ends)) n (subs-to p (p .subs .count + 1) (p .subs .bytes + n)) (read r n) (push-sub t σ)
   pushes-sub l i j e g =
       let z : n ≡ length t = omega (arith, h .size) in
       let a : lent text (p .top) n ≡ t = newest-part h (omega arith) .1 in
-      let g' : Entries (σ .subs ++ (t ∷ [])) ys zs (p .subs .count + 1) (p .subs .bytes + n) = rw (a, ← z) at g in
+      let g' : Entries (σ .subs ++ (t ∷ [])) ys zs (p .subs .count + 1) (p .subs .bytes + n) = rw (a, newest-count h l) at g in
       pushes-by (push-sub-yes t σ (fits-more (h .holds .subs) t i (omega arith))) (pushed-as e (holds-subs (h .holds) g'))
 
   pub pushes-arg : n ≤ 32768 → p .args .count < 1024 → p .args .bytes + n ≤ 32768 → r ≡ args-to p (p .args .count + 1) (p .args .bytes + n)
-      → Entries (σ .args ++ (lent text (p .top) n ∷ [])) ys zs (p .args .count + 1) (p .args .bytes + length (lent text (p .top) n))
+      → Entries (σ .args ++ (lent text (p .top) n ∷ [])) ys zs (p .args .count + 1) (p .args .bytes + (p .top - (p .top - n)))
       → Pushes s
       (mem text (take 32768 store ++ (ys ++ drop (length store - 32768) (drop 32768 store))) (take 1024 ends ++ (zs ++ drop (length ends - 1024) (drop 1024 ends))))
       n (args-to p (p .args .count + 1) (p .args .bytes + n)) (read r n) (push-arg t σ)
   pushes-arg l i j e g =
       let z : n ≡ length t = omega (arith, h .size) in
       let a : lent text (p .top) n ≡ t = newest-part h (omega arith) .1 in
-      let g' : Entries (σ .args ++ (t ∷ [])) ys zs (p .args .count + 1) (p .args .bytes + n) = rw (a, ← z) at g in
+      let g' : Entries (σ .args ++ (t ∷ [])) ys zs (p .args .count + 1) (p .args .bytes + n) = rw (a, newest-count h l) at g in
       pushes-by (push-arg-yes t σ (fits-more (h .holds .args) t i (omega arith))) (pushed-as e (holds-args (h .holds) g'))
 
 -- ---------------------------------------------------------------- texts that become entries and are returned
@@ -301,10 +317,10 @@ give-long t σ l = ap (λ (q : Bool). (if q then (λ u. ok t u) else refuse 11) 
 
 pub wrote-one : {s text text' store ends : Text} {from : ℕ} {p p' : Parser} {n : ℕ} {t : Text} {σ : State}
     → Holds s (mem text store ends) p σ → Puts text text' p p' t → length t ≡ n → length t ≤ 16384 → from ≤ p .at
-    → Refines 49152 (p .depth) s (window (mem text store ends) p) from (mem text' store ends) (read p' n) (give t σ)
+    → Refines 34816 (p .depth) s (window (mem text store ends) p) from (mem text' store ends) (read p' n) (give t σ)
 wrote-one {s} {text} {text'} {store} {ends} {from} {p} {p'} {n} {t} {σ} h u e l m = answers (give-short t σ l) (record {
   holds = holds-puts u h;
-  tail = put-tail t (h .text) (omega arith) (u .put) (whole 49152 (take (p .top) text));
+  tail = put-tail t (h .text) (omega arith) (u .put) (whole 34816 (take (p .top) text));
   size = sym e;
   short = l;
   level = ap (λ (q : Parser). q .depth) (u .same);

@@ -8,7 +8,7 @@ use lib.ListN.{length, take, drop}
 use Rattle.grammar.specs.Text.{Text, if_then_else_, each}
 use Rattle.grammar.specs.Reader.{State, Result, ok, refused, Reader}
 use Rattle.grammar.specs.Grammar.{qualifier}
-use Rattle.store.specs.Stack.{Clean, Tail, Put, Cut}
+use Rattle.store.specs.Stack.{Stack, Tail, Put, Cut}
 use Rattle.store.specs.Table.{Entries}
 use Rattle.parser.specs.declared.state.Parser.{Parser}
 use Rattle.parser.specs.declared.state.Read.{Read}
@@ -51,7 +51,7 @@ pub record Holds (s : Text) (m : Memory) (p : Parser) (σ : State) : Type 0 wher
   pub rest : σ .rest ≡ drop (p .at) s
   pub depth : σ .depth ≡ p .depth
   pub deep : p .depth ≤ 96
-  pub text : Clean (m .text) (p .top)
+  pub text : Stack (m .text) (p .top)
   pub subs : Entries (σ .subs) (low-bytes (m .store)) (low-ends (m .ends)) (p .subs .count) (p .subs .bytes)
   pub args : Entries (σ .args) (high-bytes (m .store)) (high-ends (m .ends)) (p .args .count) (p .args .bytes)
   pub cv : σ .cv ≡ each qualifier (part s (p .cv .from) (p .cv .to))
@@ -64,7 +64,7 @@ Ready s m p = (σ : State) × Holds s m p σ
 
 -- how many of the newest bytes below a text a reading at a depth leaves: a literal inside may drop 18 bytes at each depth
 abbrev pub keep : ℕ → ℕ
-keep d = 47400 + 18 * d
+keep d = 33064 + 18 * d
 
 -- the text t, of n bytes, was read at depth d and is the newest on the stack, above the base; the place is now at least `from`
 pub record Wrote (k d : ℕ) (s base : Text) (from : ℕ) (m : Memory) (p : Parser) (n : ℕ) (t : Text) (σ : State) : Type 0 where
@@ -83,7 +83,7 @@ pub record Stands (k d : ℕ) (s base : Text) (from : ℕ) (m : Memory) (p : Par
   pub level : p .depth ≡ d
   pub more : from ≤ p .at
   pub least : 32768 ≤ k
-  pub most : k ≤ 49152
+  pub most : k ≤ 34816
 
 -- the code's answer is the grammar's
 pub data Refines (k d : ℕ) (s base : Text) (from : ℕ) (m : Memory) : Read → Result Text → Type 0 where

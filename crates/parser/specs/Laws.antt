@@ -11,7 +11,7 @@ use Rattle.grammar.specs.Text.{Text, if_then_else_, each}
 use Rattle.grammar.specs.Reader.{State, Result, ok, refused, Reader, onto, give}
 use Rattle.grammar.specs.Grammar.{qualifier}
 use Rattle.grammar.specs.Agree.{moved}
-use Rattle.store.specs.Stack.{Clean, Tail, Put, Cut}
+use Rattle.store.specs.Stack.{Stack, Tail, Put, Cut}
 use Rattle.store.specs.Tails.{chain, both, put-tail, weaken}
 use Rattle.parser.specs.declared.state.Parser.{Parser}
 use Rattle.parser.specs.declared.state.Read.{Read}
@@ -129,7 +129,7 @@ module _ {s : Text} {m : Memory} {p : Parser} {σ : State} (h : Holds s m p σ) 
   }
 
 -- another text on the stack
-pub holds-text : {s text text' store ends : Text} {p : Parser} {σ : State} → Holds s (mem text store ends) p σ → (top : ℕ) → Clean text' top → Holds s (mem text' store ends) (raised-to p top) σ
+pub holds-text : {s text text' store ends : Text} {p : Parser} {σ : State} → Holds s (mem text store ends) p σ → (top : ℕ) → Stack text' top → Holds s (mem text' store ends) (raised-to p top) σ
 holds-text h top c = record {
   source = h .source;
   place = h .place;
@@ -153,9 +153,9 @@ cuts-by {text} {text'} {p} {r} {top} {k} {n} e h = subst (λ (q : Parser). Cuts 
 
 module _ {s text text' store ends : Text} {p p' : Parser} {t : Text} (u : Puts text text' p p' t) where
   pub holds-puts : {σ : State} → Holds s (mem text store ends) p σ → Holds s (mem text' store ends) p' σ
-  holds-puts h = by-state (u .same) (holds-text h (p' .top) (u .put .clean))
+  holds-puts h = by-state (u .same) (holds-text h (p' .top) (u .put .stack))
 
-  pub tail-puts : {k : ℕ} {σ : State} (base a : Text) → Holds s (mem text store ends) p σ → k ≤ 49152 → Tail k (take (p .top) text) (base ++ a) → Tail k (take (p' .top) text') (base ++ (a ++ t))
+  pub tail-puts : {k : ℕ} {σ : State} (base a : Text) → Holds s (mem text store ends) p σ → k ≤ 34816 → Tail k (take (p .top) text) (base ++ a) → Tail k (take (p' .top) text') (base ++ (a ++ t))
   tail-puts base a h l w = rw (← append-assoc) (put-tail t (h .text) l (u .put) w)
 
 -- ---------------------------------------------------------------- answers
@@ -193,7 +193,7 @@ refused-on {k} {d} {k'} {d'} {s} {base} {s'} {base'} {from} {from'} {m} {m'} {r}
 -- ---------------------------------------------------------------- texts returned
 
 module _ {k d : ℕ} {s base : Text} {from : ℕ} {m : Memory} {p : Parser} {n : ℕ} {t : Text} {σ : State} where
-  pub stands : Wrote k d s base from m p n t σ → 32768 ≤ k → k ≤ 49152 → Stands k d s base from m p n t σ
+  pub stands : Wrote k d s base from m p n t σ → 32768 ≤ k → k ≤ 34816 → Stands k d s base from m p n t σ
   stands w l u = record {
     holds = w .holds;
     tail = w .tail;

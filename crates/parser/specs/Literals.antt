@@ -14,7 +14,7 @@ use Rattle.grammar.specs.Tables.{suffixes}
 use Rattle.grammar.specs.Reader.{State, give, word-for}
 use Rattle.grammar.specs.Grammar.{literal}
 use Rattle.grammar.specs.Laws.{same→eq}
-use Rattle.store.specs.Stack.{Clean, Tail, Cut, newest}
+use Rattle.store.specs.Stack.{Stack, Tail, Cut, newest}
 use Rattle.store.specs.Tails.{newest-is, top-size, dropped, replaced}
 use Rattle.store.specs.Lists.{drop-take}
 use Rattle.parser.specs.declared.state.Parser.{Parser}
@@ -47,7 +47,7 @@ truth-of v = if same (signed v) (b "1") then b "true" else b "false"
 
 -- the newest text was put in parentheses
 pub record Encloses (text text' : Text) (p p' : Parser) (n : ℕ) : Type 0 where
-  pub clean : Clean text' (p' .top)
+  pub stack : Stack text' (p' .top)
   pub stands :
       {k d : ℕ} {s base : Text} {from : ℕ} {store ends : List ℕ} {t : Text} {σ : State} →
       length t ≤ 16384 → Stands k d s base from (mem text store ends) p n t σ →
@@ -104,7 +104,7 @@ stands-turned {k} {d} {s} {base} {from} {text} {text₁} {text₂} {text₃} {st
     let q : Cut text₂ text₃ (p₂ .top) (p₃ .top) (length t) (length (x ++ t)) = rw (y', ← e) (w .cut) in
     let z = holds-puts c (f .holds) in
     record {
-      holds = by-state (w .same) (holds-text z (p₃ .top) (w .cut .clean));
+      holds = by-state (w .same) (holds-text z (p₃ .top) (w .cut .stack));
       tail = replaced base t x t (f .tail) (f .holds .text) (c .put) q (h .most) (omega (arith, h .least)) (omega arith);
       size = refl;
       level = ap (λ (q : Parser). q .depth) (w .same) ∙ ap (λ (q : Parser). q .depth) (c .same) ∙ f .level;
@@ -122,7 +122,7 @@ stands-bare {k} {d} {s} {base} {from} {text} {text'} {store} {ends} {p} {p'} {n}
     let e : n ≡ length t = omega (arith, h .size) in
     let w : Tail (k + 18) (take (p .top) text) (base ++ (t ++ [])) = rw (append-nil t) (h .tail) in
     record {
-      holds = by-state (u .same) (holds-text (h .holds) (p' .top) (u .cut .clean));
+      holds = by-state (u .same) (holds-text (h .holds) (p' .top) (u .cut .stack));
       tail = dropped base t [] w (h .holds .text) (omega arith) (omega arith) (rw e at (u .cut));
       size = omega arith;
       level = ap (λ (q : Parser). q .depth) (u .same) ∙ h .level;

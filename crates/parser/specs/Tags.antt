@@ -9,7 +9,7 @@ use Rattle.grammar.specs.Text.{Text, starts}
 use Rattle.grammar.specs.Reader.{State, onto}
 use Rattle.grammar.specs.Grammar.{⟨source-name⟩, reading}
 use Rattle.grammar.specs.Agree.{moved}
-use Rattle.store.specs.Stack.{Clean}
+use Rattle.store.specs.Stack.{Stack}
 use Rattle.parser.specs.declared.state.Parser.{Parser}
 use Rattle.parser.specs.declared.names.Found.the-variants.{Part, Nothing}
 use Rattle.parser.specs.declared.state.Read.{Read}
@@ -31,7 +31,7 @@ pub record Tagging (s text₀ text : Text) (p next : Parser) (n tags : ℕ) : Ty
   pub is : (σ : State) → σ .rest ≡ drop (p .at) s
       → reading ⟨source-name⟩ σ ≡ onto (tagged pre tags) (reading ⟨source-name⟩ (moved (drop (next .at) s) σ))
 
-pub tagging-start : {s text : Text} {p : Parser} → p .at ≤ length s → Clean text (p .top) → Tagging s text text p p 0 0
+pub tagging-start : {s text : Text} {p : Parser} → p .at ≤ length s → Stack text (p .top) → Tagging s text text p p 0 0
 tagging-start {s} {text} {p} l c = record {
   pre = [];
   size = refl;
@@ -43,7 +43,7 @@ tagging-start {s} {text} {p} l c = record {
 
 module _ {s text₀ text : Text} {p next : Parser} {n tags : ℕ} (g : Tagging s text₀ text p next n tags) where
   pub tagging-refuses : {store ends : List ℕ} {m : Memory} → identified s (next .at) ≡ Nothing
-      → Reads (reading ⟨source-name⟩) 49152 (p .at + 1) s (mem text₀ store ends) m p (Refused 4)
+      → Reads (reading ⟨source-name⟩) 34816 (p .at + 1) s (mem text₀ store ends) m p (Refused 4)
   tagging-refuses e σ h = by (g .is σ (h .rest) ∙ tags-refused (g .pre) tags s (next .at) (moved (drop (next .at) s) σ) refl e) refuses
 
   module _ {from to : ℕ} (e : identified s (next .at) ≡ Part from to) where
@@ -62,7 +62,7 @@ module _ {s text₀ text : Text} {p next : Parser} {n tags : ℕ} (g : Tagging s
         {text' text'' : Text} {q r u : Parser} {n' n'' : ℕ} {v : Read} {store ends : List ℕ} →
         starts (drop to s) (66 ∷ []) ≡ false → q ≡ moved-to next to → Puts text text' q r (part s from to) → n' ≡ min (n + (to - from)) 65536 →
         Adds text' text'' r u (closers tags) → n'' ≡ min (n' + tags) 65536 → v ≡ given-of u n'' →
-        Reads (reading ⟨source-name⟩) 49152 (p .at + 1) s (mem text₀ store ends) (mem text'' store ends) p v
+        Reads (reading ⟨source-name⟩) 34816 (p .at + 1) s (mem text₀ store ends) (mem text'' store ends) p v
     tagging-ends {n'' = n''} {v = v} t f h i a j o σ k =
         let l = located in
         let w : Text = (g .pre ++ part s from to) ++ closers tags in

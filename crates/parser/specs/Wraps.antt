@@ -19,7 +19,7 @@ use Rattle.grammar.specs.Words.{spelled, word-of, Picks, Picked-inside, Inside}
 use Rattle.grammar.specs.declared.codes.Word.{Word}
 use Rattle.grammar.specs.declared.codes.Picked.{Picked}
 use Rattle.grammar.specs.declared.codes.Picked.the-variants.{At, Nothing}
-use Rattle.store.specs.Stack.{Clean, Tail, Put, Cut, slots-in, newest, below-newest}
+use Rattle.store.specs.Stack.{Stack, Tail, Put, Cut, slots-in, newest, below-newest}
 use Rattle.store.specs.Lists.{part-of}
 use Rattle.store.specs.Slots.{length-at-slots}
 use Rattle.store.specs.Tails.{size, top-size, newest-is, replaced, weaken}
@@ -36,21 +36,21 @@ Wrapper = String × String
 -- ---------------------------------------------------------------- states
 
 pub holds-cuts : {s text text' store ends : Text} {p p' : Parser} {k n : ℕ} {σ : State} → Cuts text text' p p' k n → Holds s (mem text store ends) p σ → Holds s (mem text' store ends) p' σ
-holds-cuts {p' = p'} u h = by-state (u .same) (holds-text h (p' .top) (u .cut .clean))
+holds-cuts {p' = p'} u h = by-state (u .same) (holds-text h (p' .top) (u .cut .stack))
 
 -- a reading from the state that a method hands back
 pub reads-at : {f : Reader Text} {k : ℕ} {s : Text} {m m' : Memory} {p q : Parser} {r : Read} → q ≡ p → Reads f k (q .at) s m m' q r → Reads f k (p .at) s m m' p r
 reads-at {f} {k} {s} {m} {m'} {p} {q} {r} e h = subst (λ (x : Parser). Reads f k (x .at) s m m' x r) e h
 
 -- so many bytes are there after a text was put
-pub puts-least : {text text' : Text} {p p' : Parser} {t : Text} → Clean text (p .top) → Puts text text' p p' t → min (p .top) 49152 + length t ≤ p' .top
+pub puts-least : {text text' : Text} {p p' : Parser} {t : Text} → Stack text (p .top) → Puts text text' p p' t → min (p .top) 34816 + length t ≤ p' .top
 puts-least {text} {text'} {p} {p'} {t} c u =
     let e = ap length (u .put .is) in
     let x = length-append (drop (u .put .lost) (take (p .top) text)) t in
     let y = length-drop (u .put .lost) (take (p .top) text) in
-    omega (arith, top-size c, top-size (u .put .clean), u .put .most)
+    omega (arith, top-size c, top-size (u .put .stack), u .put .most)
 
-pub puts-top : {text text' : Text} {p p' : Parser} {t : Text} (n : ℕ) → Clean text (p .top) → Puts text text' p p' t → n ≤ p .top → n ≤ 49152 → n + length t ≤ p' .top
+pub puts-top : {text text' : Text} {p p' : Parser} {t : Text} (n : ℕ) → Stack text (p .top) → Puts text text' p p' t → n ≤ p .top → n ≤ 34816 → n + length t ≤ p' .top
 puts-top n c u l m = omega (arith, puts-least c u)
 
 -- ---------------------------------------------------------------- a text more on the stack, and one in place of another
@@ -90,7 +90,7 @@ newest-text {base = base} {m = m} {p = p} {n = n} {t = t} h l =
     let z : length (take (p .top) (m .text)) ≡ p .top = top-size (h .holds .text) in
     ap (λ (j : ℕ). drop j (take (p .top) (m .text))) {x = p .top - n} {y = length (take (p .top) (m .text)) - length t} (omega (arith, h .size)) ∙ newest-is base t (h .tail) (omega (arith, h .least)) .1
 
-pub newest-size : {text : Text} {top : ℕ} (n : ℕ) → Clean text top → n ≤ top → length (newest text top n) ≡ n
+pub newest-size : {text : Text} {top : ℕ} (n : ℕ) → Stack text top → n ≤ top → length (newest text top n) ≡ n
 newest-size {text} {top} n h l = omega (arith, length-drop (top - n) (take top text), top-size h)
 
 -- the newest text's front and end
@@ -119,7 +119,7 @@ end-text {m = m} {p = p} {n = n} x y h l =
 
 -- a text that is put on the stack is kept besides what was kept
 put-tail-more :
-    {k : ℕ} {text text' full : Text} {top top' : ℕ} (t : Text) → Clean text top → k ≤ 49152 → Put text text' top top' t
+    {k : ℕ} {text text' full : Text} {top top' : ℕ} (t : Text) → Stack text top → k ≤ 34816 → Put text text' top top' t
     → Tail k (take top text) full → Tail (k + length t) (take top' text') (full ++ t)
 put-tail-more {k} {text} {text'} {full} {top} t c l p h =
     let s = size h in
@@ -146,7 +146,7 @@ module _ {k d : ℕ} {s base : Text} {from : ℕ} {text text₁ store ends : Tex
 
   front : take c (drop (p₁ .top - (c + m + 1)) text₁) ≡ x
   front =
-      let z : length (take (p₁ .top) text₁) ≡ p₁ .top = top-size (u .put .clean) in
+      let z : length (take (p₁ .top) text₁) ≡ p₁ .top = top-size (u .put .stack) in
       let q = newest-is base (x ++ (y ++ w)) spaced (omega (arith, long, h .least)) in
       part-of (p₁ .top - (c + m + 1)) c (p₁ .top) text₁ (take (p₁ .top) text₁) (omega (arith, q .0, long)) (sym (take-take (p₁ .top) (p₁ .top) text₁ (omega arith)))
       ∙ ap (λ (j : ℕ). take c (drop j (take (p₁ .top) text₁))) {x = p₁ .top - (c + m + 1)} {y = length (take (p₁ .top) text₁) - length (x ++ (y ++ w))} (omega (arith, long))
@@ -158,12 +158,12 @@ module _ {k d : ℕ} {s base : Text} {from : ℕ} {text text₁ store ends : Tex
       let a : Puts text₁ text₂ p₁ p₂ x = rw front at v in
       let z : length (y ++ w ++ x) ≡ m + 1 + c = simp length-append (omega arith) in
       let r : Cut text₂ text₃ (p₂ .top) (p₃ .top) (length x) (length (y ++ w ++ x)) = rw (e, z) (o .cut) in
-      let j : ℕ = min (k + 1) 49152 in
+      let j : ℕ = min (k + 1) 34816 in
       record {
         holds = holds-cuts o (holds-puts a (holds-puts u (h .holds)));
         tail =
             weaken {j = k} {k = j} (omega (arith, h .most))
-            (replaced base x (y ++ w) x (weaken {j = j} {k = k + 1} (omega arith) spaced) (u .put .clean) (a .put) r (omega arith) (simp length-append (omega (arith, h .least))) (omega arith));
+            (replaced base x (y ++ w) x (weaken {j = j} {k = k + 1} (omega arith) spaced) (u .put .stack) (a .put) r (omega arith) (simp length-append (omega (arith, h .least))) (omega arith));
         size = omega arith;
         level = ap (λ (q : Parser). q .depth) (o .same) ∙ ap (λ (q : Parser). q .depth) (a .same) ∙ ap (λ (q : Parser). q .depth) (u .same) ∙ h .level;
         more = omega (arith, ap (λ (q : Parser). q .at) (o .same), ap (λ (q : Parser). q .at) (a .same), ap (λ (q : Parser). q .at) (u .same), h .more);

@@ -5,7 +5,7 @@ ghost use Prim.Native.Nat.{_+_, _-_, _≤_};
 ghost use lib.Dec.{eqb};
 ghost use lib.ListN.{length, drop};
 ghost use Rattle.grammar.specs.Text.{b, if_then_else_, holds, run, digit};
-ghost use Rattle.grammar.specs.Grammar.{structor-ahead, std-ahead, open-after};
+ghost use Rattle.grammar.specs.Grammar.{digit-ahead, structor-ahead, std-ahead, open-after};
 ghost use Rattle.store.specs.Stack.{newest};
 ghost use Rattle.parser.specs.Leaves.{qualifies, Skips, Classed};
 use grammar::numbers;
@@ -78,6 +78,16 @@ fn digit_or_c(c: u8) -> bool
         return true;
     }
     c == b'C'
+}
+
+// A digit.
+pub fn digit_ahead(s: &[u8], at: usize) -> bool
+    ensures { λ r. ⌜ r ≡ digit-ahead (drop at (now (s .entry))) ⌝ }
+{
+    if s.len() <= at {
+        return false;
+    }
+    numbers::digit_value(s[at]) < 10
 }
 
 // C or D, and a digit or C.

@@ -8,7 +8,7 @@ ghost use Rattle.grammar.specs.Text.{Text, choose, same};
 ghost use Rattle.grammar.specs.Reader.{State, Reader, push-sub, push-arg, recorded, give, refuse};
 ghost use Rattle.grammar.specs.Grammar.{last};
 ghost use Rattle.grammar.specs.Words.{Inside, spelled};
-ghost use Rattle.store.specs.Stack.{Clean};
+ghost use Rattle.store.specs.Stack.{Stack};
 ghost use Rattle.parser.specs.Holds.{Memory, mem, part, Holds, Ready, Reads, Stands, Refines, Puts, Cuts, Pushes, given-of};
 ghost use Rattle.parser.specs.Halves.{with-args};
 ghost use Rattle.parser.specs.States.{subs-to, args-to};
@@ -29,7 +29,7 @@ pub fn sum(a: usize, b: usize) -> usize
 }
 
 pub fn put(text: &mut [u8], p: Parser, word: &[u8]) -> Parser
-    requires { ⌜ (Clean (now text) (p .top)) × (length (now word) ≤ 16384) ⌝ }
+    requires { ⌜ (Stack (now text) (p .top)) × (length (now word) ≤ 16384) ⌝ }
     ensures { λ r. ⌜ Puts (now (text .entry)) (now (text .exit)) p r (now (word .entry)) ⌝ }
 {
     let top = p.top;
@@ -37,15 +37,15 @@ pub fn put(text: &mut [u8], p: Parser, word: &[u8]) -> Parser
 }
 
 pub fn put_part(s: &[u8], text: &mut [u8], p: Parser, from: usize, to: usize) -> Parser
-    requires { ⌜ (Clean (now text) (p .top)) × ((from ≤ to) × ((to ≤ length (now s)) × (to ≤ from + 16384))) ⌝ }
+    requires { ⌜ (Stack (now text) (p .top)) × ((from ≤ to) × ((to ≤ length (now s)) × (to ≤ from + 16384))) ⌝ }
     ensures { λ r. ⌜ Puts (now (text .entry)) (now (text .exit)) p r (part (now (s .entry)) from to) ⌝ }
 {
     let top = p.top;
-    p.raised(stack::put(text, top, &s[from..to]))
+    p.raised(stack::put_part(text, top, s, from, to))
 }
 
 pub fn put_word(text: &mut [u8], p: Parser, w: Word) -> Parser
-    requires { ⌜ (Clean (now text) (p .top)) × Inside w ⌝ }
+    requires { ⌜ (Stack (now text) (p .top)) × Inside w ⌝ }
     ensures { λ r. ⌜ Puts (now (text .entry)) (now (text .exit)) p r (spelled w) ⌝ }
 {
     let top = p.top;
@@ -57,7 +57,7 @@ pub fn put_word(text: &mut [u8], p: Parser, w: Word) -> Parser
 
 // The n bytes that stand d bytes below the top, once more.
 pub fn again(text: &mut [u8], p: Parser, d: usize, n: usize) -> Parser
-    requires { ⌜ (Clean (now text) (p .top)) × ((n ≤ d) × ((d ≤ p .top) × ((d ≤ 49152) × (n ≤ 16384)))) ⌝ }
+    requires { ⌜ (Stack (now text) (p .top)) × ((n ≤ d) × ((d ≤ p .top) × ((d ≤ 34816) × (n ≤ 16384)))) ⌝ }
     ensures { λ r. ⌜ Puts (now (text .entry)) (now (text .exit)) p r (take n (drop (p .top - d) (now (text .entry)))) ⌝ }
 {
     let top = p.top;
@@ -67,7 +67,7 @@ pub fn again(text: &mut [u8], p: Parser, d: usize, n: usize) -> Parser
 
 // The k bytes below the newest n go.
 pub fn cut(text: &mut [u8], p: Parser, k: usize, n: usize) -> Parser
-    requires { ⌜ (Clean (now text) (p .top)) × (k + n ≤ p .top) ⌝ }
+    requires { ⌜ (Stack (now text) (p .top)) × (k + n ≤ p .top) ⌝ }
     ensures { λ r. ⌜ Cuts (now (text .entry)) (now (text .exit)) p r k n ⌝ }
 {
     let top = p.top;
@@ -107,7 +107,9 @@ pub fn push_sub(text: &[u8], store: &mut [u8], ends: &mut [u16], p: Parser, n: u
         &mut ends[..1024],
         count,
         bytes,
-        &text[from..top],
+        text,
+        from,
+        top,
     );
     Read::Text(p.with_subs(count + 1, bytes + n), n)
 }
@@ -135,7 +137,9 @@ pub fn push_arg(text: &[u8], store: &mut [u8], ends: &mut [u16], p: Parser, n: u
         &mut ends[1024..],
         count,
         bytes,
-        &text[from..top],
+        text,
+        from,
+        top,
     );
     Read::Text(p.with_args(count + 1, bytes + n), n)
 }
@@ -171,36 +175,29 @@ pub fn too_long(p: Parser, n: usize) -> Read
 }
 
 // No template arguments are left.
-pub fn clear_args(store: &mut [u8], ends: &mut [u16], p: Parser) -> Parser
-    requires { ⌜ ((s : Text) × ((text : Text) × Ready s (mem text (now store) (now ends)) p)) ⌝ }
-    ensures { λ r. ⌜ (r ≡ args-to p 0 0) × ((s text : Text) (σ : State)
-        → Holds s (mem text (now (store .entry)) (now (ends .entry))) p σ
-        → Holds s (mem text (now (store .exit)) (now (ends .exit))) r (with-args [] σ)) ⌝ }
+pub fn clear_args(p: Parser) -> Parser
+    ensures { λ r. ⌜ (r ≡ args-to p 0 0) × ((s : Text) (m : Memory) (σ : State) → Holds s m p σ → Holds s m r (with-args [] σ)) ⌝ }
 {
-    let args = p.args;
-    let count = args.count;
-    let bytes = args.bytes;
-    table::wipe(&mut store[32768..], &mut ends[1024..], count, bytes);
     p.with_args(0, 0)
 }
 
 // A part of the tables onto the stack: 11 where it is too long.
 pub fn entry(text: &mut [u8], store: &[u8], p: Parser, from: usize, end: usize) -> Read
-    requires { ⌜ (Clean (now text) (p .top)) × ((from ≤ end) × (end ≤ length (now store))) ⌝ }
-    ensures { λ r. ⌜ ((s ends : Text) → Reads (give (part (now (store .entry)) from end)) 49152 (p .at) s
+    requires { ⌜ (Stack (now text) (p .top)) × ((from ≤ end) × (end ≤ length (now store))) ⌝ }
+    ensures { λ r. ⌜ ((s ends : Text) → Reads (give (part (now (store .entry)) from end)) 34816 (p .at) s
         (mem (now (text .entry)) (now (store .entry)) ends) (mem (now (text .exit)) (now (store .entry)) ends) p r) ⌝ }
 {
     let n = end - from;
     if Parser::TEXT < n {
         return Read::Refused(11);
     }
-    Read::Text(put_part(store, text, p, from, end), n)
+    Read::Text(put(text, p, &store[from..end]), n)
 }
 
 // Entry k of the substitutions onto the stack: 7 where there is none.
 pub fn recall(text: &mut [u8], store: &[u8], ends: &[u16], p: Parser, k: usize) -> Read
     requires { ⌜ ((s : Text) × Ready s (mem (now text) (now store) (now ends)) p) ⌝ }
-    ensures { λ r. ⌜ ((s : Text) → Reads (λ σ. choose (getElem? (σ .subs) k) give (refuse 7) σ) 49152 (p .at) s
+    ensures { λ r. ⌜ ((s : Text) → Reads (λ σ. choose (getElem? (σ .subs) k) give (refuse 7) σ) 34816 (p .at) s
         (mem (now (text .entry)) (now (store .entry)) (now (ends .entry)))
         (mem (now (text .exit)) (now (store .entry)) (now (ends .entry))) p r) ⌝ }
 {
@@ -216,7 +213,7 @@ pub fn recall(text: &mut [u8], store: &[u8], ends: &[u16], p: Parser, k: usize) 
 // Template argument k, which there is, onto the stack.
 pub fn recall_arg(text: &mut [u8], store: &[u8], ends: &[u16], p: Parser, k: usize) -> Read
     requires { ⌜ ((s : Text) × Ready s (mem (now text) (now store) (now ends)) p) × (k < p .args .count) ⌝ }
-    ensures { λ r. ⌜ ((s : Text) (f : Reader Text) → Reads (λ σ. choose (getElem? (σ .args) k) give f σ) 49152 (p .at) s
+    ensures { λ r. ⌜ ((s : Text) (f : Reader Text) → Reads (λ σ. choose (getElem? (σ .args) k) give f σ) 34816 (p .at) s
         (mem (now (text .entry)) (now (store .entry)) (now (ends .entry)))
         (mem (now (text .exit)) (now (store .entry)) (now (ends .entry))) p r) ⌝ }
 {
@@ -247,5 +244,5 @@ pub fn newest_entry(text: &[u8], store: &[u8], ends: &[u16], p: Parser, n: usize
     }
     let top = p.top;
     let low = top - n;
-    stack::same_part(text, low, store, from, n)
+    stack::same_long_part(text, low, store, from, n)
 }

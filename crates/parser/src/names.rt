@@ -9,7 +9,7 @@ ghost use Rattle.grammar.specs.Text.{Text, choose, starts, run, decimal};
 ghost use Rattle.grammar.specs.Reader.{give};
 ghost use Rattle.grammar.specs.Words.{Inside, spelled};
 ghost use Rattle.grammar.specs.Grammar.{⟨source-name⟩, ⟨template-param⟩, ⟨substitution⟩, unnamed-type-name, reading};
-ghost use Rattle.store.specs.Stack.{Clean};
+ghost use Rattle.store.specs.Stack.{Stack};
 ghost use Rattle.parser.specs.Holds.{mem, Ready, Reads};
 ghost use Rattle.parser.specs.Adds.{Adds};
 ghost use Rattle.parser.specs.Source.{identified, closers, behind-number};
@@ -57,7 +57,7 @@ pub fn identifier(s: &[u8], at: usize) -> Found
 
 // A closing bracket for each tag.
 fn close_tags(text: &mut [u8], p: Parser, tags: usize) -> Parser
-    requires { ⌜ Clean (now text) (p .top) ⌝ }
+    requires { ⌜ Stack (now text) (p .top) ⌝ }
     ensures { λ r. ⌜ Adds (now (text .entry)) (now (text .exit)) p r (closers tags) ⌝ }
 {
     let mut next = p;
@@ -72,8 +72,8 @@ fn close_tags(text: &mut [u8], p: Parser, tags: usize) -> Parser
 // <source-name> ::= <positive length number> <identifier>
 // <abi-tags> ::= B <source-name>
 pub fn source_name(s: &[u8], text: &mut [u8], p: Parser) -> Read
-    requires { ⌜ (p .at ≤ length (now s)) × ((length (now s) ≤ 16384) × Clean (now text) (p .top)) ⌝ }
-    ensures { λ r. ⌜ ((store ends : List ℕ) → Reads (reading ⟨source-name⟩) 49152 (p .at + 1) (now (s .entry))
+    requires { ⌜ (p .at ≤ length (now s)) × ((length (now s) ≤ 16384) × Stack (now text) (p .top)) ⌝ }
+    ensures { λ r. ⌜ ((store ends : List ℕ) → Reads (reading ⟨source-name⟩) 34816 (p .at + 1) (now (s .entry))
         (mem (now (text .entry)) store ends) (mem (now (text .exit)) store ends) p r) ⌝ }
 {
     let mut next = p;
@@ -100,7 +100,7 @@ pub fn source_name(s: &[u8], text: &mut [u8], p: Parser) -> Read
 // <substitution> ::= St | Sa | .. | S_ | S <seq-id> _
 pub fn substitution(s: &[u8], text: &mut [u8], store: &[u8], ends: &[u16], p: Parser) -> Read
     requires { ⌜ Ready (now s) (mem (now text) (now store) (now ends)) p ⌝ }
-    ensures { λ r. ⌜ Reads (reading ⟨substitution⟩) 49152 (p .at + 1) (now (s .entry))
+    ensures { λ r. ⌜ Reads (reading ⟨substitution⟩) 34816 (p .at + 1) (now (s .entry))
         (mem (now (text .entry)) (now (store .entry)) (now (ends .entry)))
         (mem (now (text .exit)) (now (store .entry)) (now (ends .entry))) p r ⌝ }
 {
@@ -122,7 +122,7 @@ pub fn substitution(s: &[u8], text: &mut [u8], store: &[u8], ends: &[u16], p: Pa
 // S_ | S <seq-id> _, behind S
 fn old_entry(s: &[u8], text: &mut [u8], store: &[u8], ends: &[u16], p: Parser) -> Read
     requires { ⌜ Ready (now s) (mem (now text) (now store) (now ends)) p ⌝ }
-    ensures { λ r. ⌜ Reads entry-at 49152 (p .at) (now (s .entry))
+    ensures { λ r. ⌜ Reads entry-at 34816 (p .at) (now (s .entry))
         (mem (now (text .entry)) (now (store .entry)) (now (ends .entry)))
         (mem (now (text .exit)) (now (store .entry)) (now (ends .entry))) p r ⌝ }
 {
@@ -145,8 +145,8 @@ fn old_entry(s: &[u8], text: &mut [u8], store: &[u8], ends: &[u16], p: Parser) -
 
 // A word of a table.
 pub fn word(text: &mut [u8], p: Parser, w: codes::Word) -> Read
-    requires { ⌜ (Clean (now text) (p .top)) × Inside w ⌝ }
-    ensures { λ r. ⌜ ((s store ends : List ℕ) → Reads (give (spelled w)) 49152 (p .at) s
+    requires { ⌜ (Stack (now text) (p .top)) × Inside w ⌝ }
+    ensures { λ r. ⌜ ((s store ends : List ℕ) → Reads (give (spelled w)) 34816 (p .at) s
         (mem (now (text .entry)) store ends) (mem (now (text .exit)) store ends) p r) ⌝ }
 {
     let n = w.to - w.from;
@@ -156,7 +156,7 @@ pub fn word(text: &mut [u8], p: Parser, w: codes::Word) -> Read
 // <template-param> ::= T_ | T <number> _
 pub fn template_param(s: &[u8], text: &mut [u8], store: &[u8], ends: &[u16], p: Parser) -> Read
     requires { ⌜ Ready (now s) (mem (now text) (now store) (now ends)) p ⌝ }
-    ensures { λ r. ⌜ Reads (reading ⟨template-param⟩) 49152 (p .at + 1) (now (s .entry))
+    ensures { λ r. ⌜ Reads (reading ⟨template-param⟩) 34816 (p .at + 1) (now (s .entry))
         (mem (now (text .entry)) (now (store .entry)) (now (ends .entry)))
         (mem (now (text .exit)) (now (store .entry)) (now (ends .entry))) p r ⌝ }
 {
@@ -184,7 +184,7 @@ pub fn template_param(s: &[u8], text: &mut [u8], store: &[u8], ends: &[u16], p: 
 // Template argument i, or T and i.
 pub fn argument(text: &mut [u8], store: &[u8], ends: &[u16], p: Parser, i: u64) -> Read
     requires { ⌜ ((s : Text) × Ready s (mem (now text) (now store) (now ends)) p) ⌝ }
-    ensures { λ r. ⌜ ((s : Text) → Reads (λ σ. choose (getElem? (σ .args) i) give (give (84 ∷ decimal 20 i)) σ) 49152 (p .at) s
+    ensures { λ r. ⌜ ((s : Text) → Reads (λ σ. choose (getElem? (σ .args) i) give (give (84 ∷ decimal 20 i)) σ) 34816 (p .at) s
         (mem (now (text .entry)) (now (store .entry)) (now (ends .entry)))
         (mem (now (text .exit)) (now (store .entry)) (now (ends .entry))) p r) ⌝ }
 {
@@ -197,8 +197,8 @@ pub fn argument(text: &mut [u8], store: &[u8], ends: &[u16], p: Parser, i: u64) 
 
 // T and the number in decimal.
 pub fn number(text: &mut [u8], p: Parser, i: u64) -> Read
-    requires { ⌜ Clean (now text) (p .top) ⌝ }
-    ensures { λ r. ⌜ ((s store ends : List ℕ) → Reads (give (84 ∷ decimal 20 i)) 49152 (p .at) s
+    requires { ⌜ Stack (now text) (p .top) ⌝ }
+    ensures { λ r. ⌜ ((s store ends : List ℕ) → Reads (give (84 ∷ decimal 20 i)) 34816 (p .at) s
         (mem (now (text .entry)) store ends) (mem (now (text .exit)) store ends) p r) ⌝ }
 {
     let mut digits = [0u8; 21];
@@ -220,8 +220,8 @@ pub fn number(text: &mut [u8], p: Parser, i: u64) -> Read
 // <unnamed-type-name> ::= Ut [<number>] _
 // <closure-type-name> ::= Ul <lambda-sig> E [<number>] _, behind U
 pub fn unnamed_type_name(s: &[u8], text: &mut [u8], p: Parser) -> Read
-    requires { ⌜ Clean (now text) (p .top) ⌝ }
-    ensures { λ r. ⌜ ((store ends : List ℕ) → Reads unnamed-type-name 49152 (p .at) (now (s .entry))
+    requires { ⌜ Stack (now text) (p .top) ⌝ }
+    ensures { λ r. ⌜ ((store ends : List ℕ) → Reads unnamed-type-name 34816 (p .at) (now (s .entry))
         (mem (now (text .entry)) store ends) (mem (now (text .exit)) store ends) p r) ⌝ }
 {
     let at = p.at;

@@ -9,7 +9,7 @@ ghost use Rattle.grammar.specs.Tables.{d-letters, wrappers};
 ghost use Rattle.grammar.specs.Reader.{State, by-code, find, word-for, give, recorded, refuse};
 ghost use Rattle.grammar.specs.Grammar.{slot, at-slots};
 ghost use Rattle.grammar.specs.Words.{Inside, spelled, at-slot};
-ghost use Rattle.store.specs.Stack.{Clean, slots-in, newest};
+ghost use Rattle.store.specs.Stack.{Stack, slots-in, newest};
 ghost use Rattle.parser.specs.Holds.{mem, window, Holds, Ready, Stands, Refines, Puts};
 ghost use Rattle.parser.specs.Wraps.{Wrapper};
 use crate::memory;
@@ -26,7 +26,7 @@ pub fn builtin_d(s: &[u8], text: &mut [u8], p: Parser) -> Read
     requires { ⌜ ((store : Text) × ((ends : Text) × Ready (now s) (mem (now text) store ends) p)) ⌝ }
     ensures { λ r. ⌜ ((store ends rest : Text) (σ : State) → σ .rest ≡ 68 ∷ rest
         → Holds (now (s .entry)) (mem (now (text .entry)) store ends) p σ
-        → Refines 49152 (p .depth) (now (s .entry)) (window (mem (now (text .entry)) store ends) p) (p .at + 2)
+        → Refines 34816 (p .depth) (now (s .entry)) (window (mem (now (text .entry)) store ends) p) (p .at + 2)
         (mem (now (text .exit)) store ends) r (by-code d-letters (λ w. give (b w)) (refuse 4) σ)) ⌝ }
 {
     let at = p.at + 1;
@@ -78,7 +78,7 @@ pub fn wrap(text: &mut [u8], store: &mut [u8], ends: &mut [u16], p: Parser, n: u
 
 // Puts the newest n bytes on the top once more, with the word in front of each slot.
 fn weave_word(text: &mut [u8], p: Parser, n: usize, w: Word) -> Parser
-    requires { ⌜ (Clean (now text) (p .top)) × ((Inside w) × ((w .to - w .from ≤ 9) × ((n ≤ p .top)
+    requires { ⌜ (Stack (now text) (p .top)) × ((Inside w) × ((w .to - w .from ≤ 9) × ((n ≤ p .top)
         × (n + slots-in (newest (now text) (p .top) n) * (w .to - w .from) ≤ 16384)))) ⌝ }
     ensures { λ r. ⌜ Puts (now (text .entry)) (now (text .exit)) p r (at-slots (spelled w) (newest (now (text .entry)) (p .top) n)) ⌝ }
 {
@@ -123,7 +123,7 @@ pub fn wrap_slots(
 
 // The newest m bytes are a member, the c below them its class: the member, and the class behind it.
 fn class_behind(text: &mut [u8], p: Parser, c: usize, m: usize) -> Parser
-    requires { ⌜ (Clean (now text) (p .top)) × ((c ≤ 16384) × ((m ≤ 16384) × (c + m ≤ p .top))) ⌝ }
+    requires { ⌜ (Stack (now text) (p .top)) × ((c ≤ 16384) × ((m ≤ 16384) × (c + m ≤ p .top))) ⌝ }
     ensures { λ r. ⌜ (m + c + 4 ≤ r .top) × (((s store ends : Text) (σ : State)
         → Holds s (mem (now (text .entry)) store ends) p σ → Holds s (mem (now (text .exit)) store ends) r σ)
         × ((k d : ℕ) (s base : Text) (from : ℕ) (store ends x y : Text) (σ : State) → length x ≡ c → length y ≡ m

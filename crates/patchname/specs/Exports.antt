@@ -1,8 +1,11 @@
--- What the C functions promise: the same equation as the entries.
+-- What the C functions promise: the same equations as the entries and the listing.
 use mathlib.Core.Path.{_≡_, ap₂, _∙_}
 use Prim.Native.Nat.{ℕ}
+use Rattle.grammar.specs.Text.{Text}
 use Rattle.names.specs.declared.entry.Answer.{Answer}
 use Rattle.names.specs.Outcome.{Slices, Outcome, number-in, bytes-in}
+use Rattle.listing.specs.Listing.{Outcome as Listing}
+use Rattle.listing.specs.declared.listing.Listed.{Listed}
 
 abbrev pub Tells : Outcome → Slices → ℕ → ℕ → Type 0
 Tells o l' number bytes = _≡_ {A = Outcome} (record { number = number; bytes = bytes; slices = l' }) o
@@ -11,3 +14,11 @@ Tells o l' number bytes = _≡_ {A = Outcome} (record { number = number; bytes =
 pub told : {o : Outcome} {l' : Slices} {number bytes : ℕ} (r : Answer) → (number ≡ number-in r) × (bytes ≡ bytes-in r)
     → Tells o l' (number-in r) (bytes-in r) → Tells o l' number bytes
 told {o} {l'} r (e, f) h = ap₂ (λ (n b : ℕ). record { number = n; bytes = b; slices = l' }) e f ∙ h
+
+abbrev pub Tells-listing : Listing → Text → Slices → ℕ → ℕ → Type 0
+Tells-listing o out work taken written = _≡_ {A = Listing} (record { taken = taken; written = written; out = out; work = work }) o
+
+-- what was listed, taken apart
+pub told-listing : {o : Listing} {out : Text} {work : Slices} {taken written : ℕ} (r : Listed) → (taken ≡ r .taken) × (written ≡ r .written)
+    → Tells-listing o out work (r .taken) (r .written) → Tells-listing o out work taken written
+told-listing {o} {out} {work} r (e, f) h = ap₂ (λ (t w : ℕ). record { taken = t; written = w; out = out; work = work }) e f ∙ h

@@ -1,11 +1,16 @@
-// The entries as C functions. A slice is a pointer and a length.
+// The entries and the listing as C functions. A slice is a pointer and a length.
+use listing::listing::Kind;
+use listing::listing::Listed;
+use listing::listing::list_lines;
 use names::entry;
 use names::entry::Answer;
 use symbols::entry as symbol;
 ghost use mathlib.Core.Path.{_≡_};
 ghost use Rattle.names.specs.Outcome.{slices, demangled, number-in, bytes-in};
 ghost use Rattle.symbols.specs.Outcome.{normalized};
-ghost use Rattle.patchname.specs.Exports.{Tells};
+ghost use Rattle.listing.specs.Listing.{listed};
+ghost use Rattle.listing.specs.declared.listing.Kind.the-variants.{Names, Symbols};
+ghost use Rattle.patchname.specs.Exports.{Tells, Tells-listing};
 
 // The number of an answer; its length goes to `bytes`.
 fn tell(answer: Answer, bytes: &mut usize) -> u8
@@ -55,4 +60,48 @@ pub extern "C" fn patchname_normalize(
 {
     let answer = symbol::normalize(s, out, text, store, ends);
     tell(answer, bytes)
+}
+
+// The bytes taken; those written go to `written`.
+fn tell_listing(listed: Listed, written: &mut usize) -> usize
+    ensures { λ r. ⌜ (r ≡ listed .taken) × (now (written .exit) ≡ listed .written) ⌝ }
+{
+    *written = listed.written;
+    listed.taken
+}
+
+// The listing of the complete lines at the front of `input`: the bytes taken are returned, and those written go to `written`.
+#[no_mangle]
+pub extern "C" fn patchname_list_names(
+    input: &[u8],
+    out: &mut [u8],
+    name: &mut [u8],
+    text: &mut [u8],
+    store: &mut [u8],
+    ends: &mut [u16],
+    written: &mut usize,
+) -> usize
+    ensures { λ r. ⌜ Tells-listing (listed Names (now (input .entry)) (now (out .entry)) (slices (now (name .entry)) (now (text .entry)) (now (store .entry)) (now (ends .entry))))
+        (now (out .exit)) (slices (now (name .exit)) (now (text .exit)) (now (store .exit)) (now (ends .exit))) r (now (written .exit)) ⌝ }
+{
+    let listed = list_lines(Kind::Names, input, out, name, text, store, ends);
+    tell_listing(listed, written)
+}
+
+// The same with normal symbols in the names' place.
+#[no_mangle]
+pub extern "C" fn patchname_list_normal_symbols(
+    input: &[u8],
+    out: &mut [u8],
+    name: &mut [u8],
+    text: &mut [u8],
+    store: &mut [u8],
+    ends: &mut [u16],
+    written: &mut usize,
+) -> usize
+    ensures { λ r. ⌜ Tells-listing (listed Symbols (now (input .entry)) (now (out .entry)) (slices (now (name .entry)) (now (text .entry)) (now (store .entry)) (now (ends .entry))))
+        (now (out .exit)) (slices (now (name .exit)) (now (text .exit)) (now (store .exit)) (now (ends .exit))) r (now (written .exit)) ⌝ }
+{
+    let listed = list_lines(Kind::Symbols, input, out, name, text, store, ends);
+    tell_listing(listed, written)
 }

@@ -33,7 +33,7 @@ bracket-stands {s} {text} {text'} {store} {ends} {m''} p {q} {r} {o} {last} {mv}
     let x : r ≡ deeper (moved-to p at) = e ∙ ap deeper f in
     let y : o .depth ≡ p .depth + 1 = ap (λ (z : Parser). z .depth) (u .same) ∙ ap (λ (z : Parser). z .depth) x in
     let a : Tail (keep (o .depth)) (take (o .top) text') (take (r .top) text ++ (60 ∷ [])) =
-    weaken (omega (arith, y)) (put-tail (60 ∷ []) (h .text) (omega arith) (u .put) (whole 49152 (take (r .top) text))) in
+    weaken (omega (arith, y)) (put-tail (60 ∷ []) (h .text) (omega arith) (u .put) (whole 34816 (take (r .top) text))) in
     let v : Tail (keep (o .depth)) (take (last .top) (m'' .text)) (take (r .top) text ++ (60 ∷ t)) = both (take (r .top) text) (60 ∷ []) t a (w .tail) in
     let v' : Tail (keep (p .depth + 1)) (take (last .top) (m'' .text)) (take (r .top) text ++ (60 ∷ t)) =
     subst (λ (z : ℕ). Tail (keep z) (take (last .top) (m'' .text)) (take (r .top) text ++ (60 ∷ t))) y v in

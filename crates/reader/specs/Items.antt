@@ -12,7 +12,7 @@ use Rattle.grammar.specs.Reader.{State, Result, ok, refused, Reader, onto, retu
 use Rattle.grammar.specs.Grammar.{reading, ⟨type⟩, ⟨template-arg⟩, ended}
 use Rattle.grammar.specs.Laws.{starts-nothing}
 use Rattle.grammar.specs.Loops.{Stepped, before-E, items-loop, args-loop}
-use Rattle.store.specs.Stack.{Clean}
+use Rattle.store.specs.Stack.{Stack}
 use Rattle.parser.specs.Holds.{Memory, mem, Holds, Wrote, Stands, Reads, Refines, reads, refuses, Puts, Pushes, pushed, full, window, keep}
 use Rattle.parser.specs.Laws.{by, holds-puts, refused-on, Got, got}
 use Rattle.parser.specs.States.{peeked, args-to}
@@ -100,7 +100,7 @@ on-byte Arguments c {t} {u} e f = rw e (ap not (one-byte c 69 u ∙ f))
 
 -- ---------------------------------------------------------------- the list so far
 
-pub kept-bounds : (kind : Kind) (d : ℕ) → d ≤ 96 → (32768 ≤ kept-by kind d) × (kept-by kind d ≤ 49152)
+pub kept-bounds : (kind : Kind) (d : ℕ) → d ≤ 96 → (32768 ≤ kept-by kind d) × (kept-by kind d ≤ 34816)
 kept-bounds Parameters d h = (omega arith, omega arith)
 kept-bounds Types d h = (omega arith, omega arith)
 kept-bounds Arguments d h = (omega arith, omega arith)
@@ -188,7 +188,7 @@ unfolding b
 spaced-some {count = count} l u e f g h = rw (f, g, h) (record { puts = puts-some (b ", ") count l u; size = omega arith })
 
 pub spaced-none :
-    {text text'' : Text} {p p'' : Parser} {n n'' count : ℕ} → count ≤ 0 → Clean text (p .top) → n ≤ 65536 →
+    {text text'' : Text} {p p'' : Parser} {n n'' count : ℕ} → count ≤ 0 → Stack text (p .top) → n ≤ 65536 →
     text'' ≡ text → p'' ≡ p → n'' ≡ n → Spaced text text'' p p'' n n'' count
 spaced-none {text} {p = p} {count = count} l c e f g h =
     rw (f, g, h) (record {

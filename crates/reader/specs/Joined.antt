@@ -7,15 +7,17 @@ use Prim.Native.Nat.{ℕ, _+_, _*_, _≤_, _<_, min}
 use native.Mathlib.Omega.{arith}
 use borrow.Author.Tests.{eq-eqb, ne-eqb, lt-leb}
 use lib.Dec.{eqb, leb}
-use lib.ListN.{length, take, length-append}
-use Rattle.grammar.specs.Text.{Text, b, choose, join, starts, if_then_else_}
+use lib.ListN.{length, take, drop, length-append}
+use Rattle.grammar.specs.Text.{Text, b, choose, join, starts, holds, digit, digit-value, if_then_else_}
 use Rattle.grammar.specs.Reader.{State, Result, ok, refused, Reader, onto, see, bytes-of, fits, push-sub, find, at-code}
-use Rattle.grammar.specs.Grammar.{reading, Production, ⟨template-param⟩, ⟨unqualified-name⟩, ⟨substitution⟩, last, structor-ahead}
+use Rattle.grammar.specs.Grammar.{reading, Production, ⟨template-param⟩, ⟨unqualified-name⟩, ⟨source-name⟩, ⟨substitution⟩, last, digit-ahead, structor-ahead}
 use Rattle.grammar.specs.Grammar as g
+use Rattle.grammar.specs.Steps.{same-from}
+use Rattle.grammar.specs.NameSteps.{unqualified-digit}
 use Rattle.store.specs.Entries.{bytes-append, bytes-one}
-use Rattle.store.specs.Stack.{Clean}
+use Rattle.store.specs.Stack.{Stack}
 use Rattle.store.specs.Tails.{size}
-use Rattle.parser.specs.Holds.{Memory, mem, Wrote, Refines, refuses, Puts, Pushes, pushed, full, keep}
+use Rattle.parser.specs.Holds.{Memory, mem, Holds, Wrote, Refines, refuses, Puts, Pushes, pushed, full, keep}
 use Rattle.parser.specs.Wraps.{puts-top}
 use Rattle.parser.specs.States.{subs-to}
 use Rattle.parser.specs.declared.state.Parser.{Parser}
@@ -151,11 +153,11 @@ module _ (ps : g.Parts) (x : Text) (τ : State) where
 
 pub more-top :
     {k d : ℕ} {s text text₁ : Text} {from : ℕ} {m' : Memory} {p p₁ p' : Parser} (q : Parts) {m : ℕ} {x : Text} {τ : State} →
-    Clean text (p .top) → Puts text text₁ p p₁ (before-part (q .count)) → Wrote k d s (take (p₁ .top) text₁) from m' p' m x τ → 32768 ≤ k →
+    Stack text (p .top) → Puts text text₁ p p₁ (before-part (q .count)) → Wrote k d s (take (p₁ .top) text₁) from m' p' m x τ → 32768 ≤ k →
     min (q .n) 32768 ≤ p .top → min (min (q .n + (2 * min (q .count) 1 + m)) 65536) 32768 ≤ p' .top
 more-top q c u w l i =
     let a = puts-top (min (q .n) 32768) c u i (omega arith) in
-    omega (arith, wrote-least (u .put .clean) w l (min (q .n) 32768 + length (before-part (q .count))) (omega (arith, a)), colons-size (q .count))
+    omega (arith, wrote-least (u .put .stack) w l (min (q .n) 32768 + length (before-part (q .count))) (omega (arith, a)), colons-size (q .count))
 
 -- the parts that a function hands back
 pub parted-as : {k d : ℕ} {s base : Text} {from : ℕ} {m : Memory} {p : Parser} {q q' : Parts} {ps : g.Parts} {σ : State} → q' ≡ q → Parted k d s base from m p q ps σ → Parted k d s base from m p q' ps σ
@@ -171,6 +173,23 @@ module _ (c : ℕ) where
   pub part-other : (c ≡ 84 → ⊥) → part-of c ≡ ⟨unqualified-name⟩
   unfolding part-of if_then_else_
   part-other n = ap (λ (q : Bool). if q then ⟨template-param⟩ else ⟨unqualified-name⟩) (ne-eqb c 84 n)
+
+digit-not-letter : (c k : ℕ) → digit 10 c ≡ true → digit 10 k ≡ false → c ≡ k → ⊥
+digit-not-letter c k d f q = false≢true (sym f ∙ ap (digit 10) (sym q) ∙ d)
+
+digit-other : (c : ℕ) → digit 10 c ≡ true → holds c (b "CDUL") ≡ false
+unfolding holds b digit digit-value if_then_else_
+digit-other c d =
+    rw (ne-eqb c 67 (digit-not-letter c 67 d refl), ne-eqb c 68 (digit-not-letter c 68 d refl), ne-eqb c 85 (digit-not-letter c 85 d refl), ne-eqb c 76 (digit-not-letter c 76 d refl))
+
+digit-first : (t : Text) (σ : State) → σ .rest ≡ t → digit-ahead t ≡ true → reading ⟨unqualified-name⟩ σ ≡ reading ⟨source-name⟩ σ
+unfolding digit-ahead
+digit-first [] σ r d = absurd (false≢true d)
+digit-first (c ∷ t) σ r d = same-from (reading ⟨unqualified-name⟩) (reading ⟨source-name⟩) σ r (unqualified-digit c t σ (digit-other c d) d)
+
+-- an unqualified name that begins with a digit is a source name
+pub part-digit : {s : Text} {m : Memory} {p : Parser} {σ : State} → Holds s m p σ → digit-ahead (drop (p .at) s) ≡ true → reading ⟨unqualified-name⟩ σ ≡ reading ⟨source-name⟩ σ
+part-digit {s} {p = p} {σ = σ} h e = digit-first (drop (p .at) s) σ (h .rest) e
 
 module _ (ps : g.Parts) (σ : State) where
   pub old-is : g.old-prefix reading ps σ ≡ onto (λ (x : Text). λ (u : State). ok (one-part-more ps x) u) (reading ⟨substitution⟩ σ)

@@ -13,7 +13,7 @@ use Rattle.grammar.specs.Reader.{State, ok, refused, Reader, onto, give, by-cod
 use Rattle.grammar.specs.Grammar.{reading, production, expr-primary, literal, local-name, local-encoding, ⟨expr-primary⟩, ⟨name⟩, ⟨type⟩}
 use Rattle.grammar.specs.Agree.{moved}
 use Rattle.grammar.specs.Fuel.{reading-is}
-use Rattle.store.specs.Stack.{Clean}
+use Rattle.store.specs.Stack.{Stack}
 use Rattle.parser.specs.declared.state.Parser.{Parser}
 use Rattle.parser.specs.declared.state.Read.{Read}
 use Rattle.parser.specs.declared.state.Read.the-variants.{Text as read, Refused}
@@ -155,11 +155,11 @@ module _ {s : Text} {m : Memory} {p q : Parser} {σ : State} (h : Holds s m p σ
           E-ahead x = starts-one s to 69 x ∙ not-false _ (subst (λ (j : ℕ). not-E (getD s j 0) ≡ false) (sym (o .0)) (run-stops not-E s (next .at) (omega (arith, o .0))))
 
           pub lit-ready : to < length s → {next' : Parser} → next' ≡ moved-to next (to + 1)
-              → (Clean (m' .text) (next' .top)) × ((n ≤ next' .top) × ((n ≤ 16384) × ((next .at ≤ to) × ((to ≤ length s) × (length s ≤ 16384)))))
+              → (Stack (m' .text) (next' .top)) × ((n ≤ next' .top) × ((n ≤ 16384) × ((next .at ≤ to) × ((to ≤ length s) × (length s ≤ 16384)))))
           lit-ready x {next'} z =
               let w = lit-type-got .wrote in
               let a = newest-part (stands w (omega arith) (omega (arith, h .deep))) (omega (arith, w .short)) .0 in
-              subst (λ (v : Parser). (Clean (m' .text) (v .top)) × ((n ≤ v .top) × ((n ≤ 16384) × ((next .at ≤ to) × ((to ≤ length s) × (length s ≤ 16384)))))) (sym z)
+              subst (λ (v : Parser). (Stack (m' .text) (v .top)) × ((n ≤ v .top) × ((n ≤ 16384) × ((next .at ≤ to) × ((to ≤ length s) × (length s ≤ 16384)))))) (sym z)
               (w .holds .text, (a, (omega (arith, w .size, w .short), (omega (arith, o .0), (omega arith, h .source)))))
 
 pub lit-given :

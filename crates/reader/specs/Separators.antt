@@ -5,7 +5,7 @@ use Prim.Native.Nat.{ℕ, zero, suc, _*_, _≤_, _<_, min}
 use native.Mathlib.Omega.{arith}
 use lib.ListN.{length}
 use Rattle.grammar.specs.Text.{Text, join}
-use Rattle.store.specs.Stack.{Clean}
+use Rattle.store.specs.Stack.{Stack}
 use Rattle.parser.specs.Holds.{Puts}
 use Rattle.parser.specs.declared.state.Parser.{Parser}
 
@@ -14,8 +14,8 @@ abbrev pub before : Text → ℕ → Text
 before sep zero = []
 before sep (suc n) = sep
 
-pub puts-nothing : {text : Text} {p : Parser} → Clean text (p .top) → Puts text text p p []
-puts-nothing c = record { same = refl; put = record { lost = 0; most = omega arith; is = sym (append-nil _); clean = c } }
+pub puts-nothing : {text : Text} {p : Parser} → Stack text (p .top) → Puts text text p p []
+puts-nothing c = record { same = refl; put = record { lost = 0; most = omega arith; is = sym (append-nil _); stack = c } }
 
 module _ (sep : Text) where
   pub join-more : (n : ℕ) (ts : List Text) (t : Text) → min n 1 ≡ min (length ts) 1 → join sep (ts ++ (t ∷ [])) ≡ join sep ts ++ (before sep n ++ t)
@@ -40,6 +40,6 @@ module _ (sep : Text) where
   puts-some zero l u = absurd (omega arith)
   puts-some (suc n) l u = u
 
-  pub puts-none : {text : Text} {p : Parser} (n : ℕ) → n ≤ 0 → Clean text (p .top) → Puts text text p p (before sep n)
+  pub puts-none : {text : Text} {p : Parser} (n : ℕ) → n ≤ 0 → Stack text (p .top) → Puts text text p p (before sep n)
   puts-none zero l c = puts-nothing c
   puts-none (suc n) l c = absurd (omega arith)

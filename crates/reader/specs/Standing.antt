@@ -9,7 +9,7 @@ use Rattle.grammar.specs.Text.{Text}
 use Rattle.grammar.specs.Reader.{State, give}
 use Rattle.grammar.specs.Grammar as g
 use Rattle.grammar.specs.Agree.{moved}
-use Rattle.store.specs.Stack.{Clean, Tail}
+use Rattle.store.specs.Stack.{Stack, Tail}
 use Rattle.store.specs.Tails.{whole, both, weaken, size, top-size}
 use Rattle.parser.specs.Holds.{Memory, mem, window, Holds, Wrote, Stands, Refines, Puts, keep, given-of}
 use Rattle.parser.specs.Laws.{by-state, with-templated, holds-moved, holds-templated, holds-puts, given-refines}
@@ -107,12 +107,12 @@ stands-least {base = base} {t = t} h = omega (arith, h .least, h .tail .most, si
 -- so many bytes are there after a text was read behind n bytes
 pub wrote-least :
     {k d : ℕ} {s text : Text} {from top : ℕ} {m : Memory} {p : Parser} {j : ℕ} {t : Text} {σ : State} →
-    Clean text top → Wrote k d s (take top text) from m p j t σ → 32768 ≤ k → (n : ℕ) → min n 32768 ≤ top → min (n + j) 32768 ≤ p .top
+    Stack text top → Wrote k d s (take top text) from m p j t σ → 32768 ≤ k → (n : ℕ) → min n 32768 ≤ top → min (n + j) 32768 ≤ p .top
 wrote-least {text = text} {top = top} {t = t} c w l n i = omega (arith, top-size c, top-size (w .holds .text), size (w .tail), w .tail .most, length-append (take top text) t, w .size)
 
 pub stands-at :
     {k d : ℕ} {s base : Text} {from : ℕ} {m : Memory} {p : Parser} {n : ℕ} {t : Text} {σ : State} (j to : ℕ) →
-    Wrote k d s base from m p n t σ → j ≤ k → to ≤ from → 32768 ≤ j → j ≤ 49152 → Stands j d s base to m p n t σ
+    Wrote k d s base from m p n t σ → j ≤ k → to ≤ from → 32768 ≤ j → j ≤ 34816 → Stands j d s base to m p n t σ
 stands-at j to w l i x y = record {
   holds = w .holds;
   tail = weaken l (w .tail);
@@ -124,7 +124,7 @@ stands-at j to w l i x y = record {
 }
 
 -- no text yet
-pub stands-nothing : {k : ℕ} {s : Text} {m : Memory} {p : Parser} {σ : State} → Holds s m p σ → 32768 ≤ k → k ≤ 49152 → Stands k (p .depth) s (window m p) (p .at) m p 0 [] σ
+pub stands-nothing : {k : ℕ} {s : Text} {m : Memory} {p : Parser} {σ : State} → Holds s m p σ → 32768 ≤ k → k ≤ 34816 → Stands k (p .depth) s (window m p) (p .at) m p 0 [] σ
 stands-nothing {k} {m = m} {p = p} h l u = record {
   holds = h;
   tail = rw append-nil (whole k (window m p));
@@ -175,7 +175,7 @@ joined {k} {from' = from'} {n = n} {n' = n'} {t = t} {u = u} h w l i =
 pub stands-both :
     {k k' d : ℕ} {s base : Text} {from from' : ℕ} {m m' : Memory} {p p' : Parser} {n n' : ℕ} {t t' : Text} {σ σ' : State} (j to : ℕ) →
     Wrote k d s base from m p n t σ → Wrote k' (p .depth) s (window m p) from' m' p' n' t' σ' →
-    j ≤ k → j ≤ k' → to ≤ from' → 32768 ≤ j → j ≤ 49152 → Stands j d s base to m' p' (n + n') (t ++ t') σ'
+    j ≤ k → j ≤ k' → to ≤ from' → 32768 ≤ j → j ≤ 34816 → Stands j d s base to m' p' (n + n') (t ++ t') σ'
 stands-both {from = from} {n = n} {n' = n'} {t = t} {t' = t'} j to w v l l' i x y =
     stands-sized (n + n') (stands-joined (stands-at j from w l (omega arith) x y) (stands-at j to v l' i x y) (omega arith) (omega arith)) refl
     (omega (arith, w .size, w .short, v .size, v .short, length-append t t'))

@@ -13,7 +13,7 @@ use Rattle.grammar.specs.Reader.{State, ok, onto, go-to}
 use Rattle.grammar.specs.Grammar.{reading, last, class-of}
 use Rattle.grammar.specs.Grammar as g
 use Rattle.grammar.specs.Agree.{moved}
-use Rattle.store.specs.Stack.{Clean, Tail, newest}
+use Rattle.store.specs.Stack.{Stack, Tail, newest}
 use Rattle.store.specs.Lists as lists
 use Rattle.store.specs.Tails.{newest-is, top-size}
 use Rattle.parser.specs.declared.state.Parser.{Parser}
@@ -56,7 +56,7 @@ module _ (c : ℕ) where
   pub puts-tilde : {text text' : Text} {p p' : Parser} → c ≡ 68 → Puts text text' p p' (126 ∷ []) → Puts text text' p p' (tilde-of c)
   puts-tilde e u = rw (tilde-at e) u
 
-  pub puts-no-tilde : {text : Text} {p : Parser} → (c ≡ 68 → ⊥) → Clean text (p .top) → Puts text text p p (tilde-of c)
+  pub puts-no-tilde : {text : Text} {p : Parser} → (c ≡ 68 → ⊥) → Stack text (p .top) → Puts text text p p (tilde-of c)
   puts-no-tilde n l = rw (tilde-none n) (puts-nothing l)
 
 -- ---------------------------------------------------------------- the definition
@@ -97,7 +97,7 @@ class-size {l} {n} {r} h e = ap length (sym (h .is)) ∙ length-take-le (r .n) (
 
 -- bytes of the class, found below the top
 class-seen :
-    {k : ℕ} (base : Text) {text : Text} {top : ℕ} (f l z : Text) {n d m : ℕ} {r : Class} → Tail k (take top text) (base ++ ((f ++ l) ++ z)) → Clean text top → length ((f ++ l) ++ z) ≤ k →
+    {k : ℕ} (base : Text) {text : Text} {top : ℕ} (f l z : Text) {n d m : ℕ} {r : Class} → Tail k (take top text) (base ++ ((f ++ l) ++ z)) → Stack text top → length ((f ++ l) ++ z) ≤ k →
     Classed l n r → n ≡ length l → d ≡ r .back + length z → m ≤ r .n → take m (drop (top - d) text) ≡ take m (class-in l)
 class-seen {k} base {text} {top} f l z {n} {d} {m} {r} t c i h e j o =
     let a : Text = take (n - r .back) l in
@@ -228,5 +228,5 @@ module _ (count : ℕ) {n n' m t : ℕ} (e : n' ≡ min (n + (2 * min count 1 + 
   pub between : n' - n - m ≡ 2 * min count 1 + t
   between = omega (arith, exact)
 
-pub again-room : {back top m x y : ℕ} → x ≡ y → m ≤ back → back + y ≤ top → y ≤ 3 → back ≤ 32768 → m ≤ 16384 → (m ≤ back + x) × ((back + x ≤ top) × ((back + x ≤ 49152) × (m ≤ 16384)))
+pub again-room : {back top m x y : ℕ} → x ≡ y → m ≤ back → back + y ≤ top → y ≤ 3 → back ≤ 32768 → m ≤ 16384 → (m ≤ back + x) × ((back + x ≤ top) × ((back + x ≤ 34816) × (m ≤ 16384)))
 again-room e i j k l o = (omega arith, (omega arith, (omega arith, o)))

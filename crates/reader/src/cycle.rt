@@ -511,7 +511,7 @@ fn inst_n(
     ensures { λ r. ⌜ ReadsInstance x (now (s .entry))
         (mem (now (text .entry)) (now (store .entry)) (now (ends .entry))) (mem (now (text .exit)) (now (store .exit)) (now (ends .exit))) p r ⌝ }
 {
-    let bare = memory::clear_args(store, ends, p);
+    let bare = memory::clear_args(p);
     let got = args(s, text, store, ends, bare);
     let Read::Text(next, n) = got else {
         return got;
@@ -707,7 +707,7 @@ fn px_arg(
     ensures { λ r. ⌜ ReadsPart (prefix-args reading) (now (s .entry))
         (mem (now (text .entry)) (now (store .entry)) (now (ends .entry))) (mem (now (text .exit)) (now (store .exit)) (now (ends .exit))) p parts r ⌝ }
 {
-    let bare = memory::clear_args(store, ends, p);
+    let bare = memory::clear_args(p);
     let got = args(s, text, store, ends, bare);
     let Read::Text(named, m) = got else {
         return lists::unread(got);
@@ -772,6 +772,10 @@ fn part(s: &[u8], text: &mut [u8], store: &mut [u8], ends: &mut [u16], p: Parser
 {
     if c == b'T' {
         return names::template_param(s, text, store, ends, p);
+    }
+    let at = p.at;
+    if leaf::digit_ahead(s, at) {
+        return names::source_name(s, text, p);
     }
     unq(s, text, store, ends, p)
 }

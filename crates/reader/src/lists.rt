@@ -8,7 +8,7 @@ ghost use mathlib.Core.Path.{_≡_};
 ghost use mathlib.Core.List.{List};
 ghost use Prim.Native.Nat.{ℕ, _+_, _-_, _≤_, _<_, min};
 ghost use lib.ListN.{length};
-ghost use Rattle.store.specs.Stack.{Clean};
+ghost use Rattle.store.specs.Stack.{Stack};
 ghost use Rattle.parser.specs.Holds.{mem, Ready, Puts};
 ghost use Rattle.reader.specs.Funcs.{FuncEnd};
 ghost use Rattle.reader.specs.Structors.{tilde-of};
@@ -132,7 +132,7 @@ pub fn longer(parts: Parts, m: usize) -> Parts
 
 // ", " behind the texts so far, if there are any: n is their bytes, with two more for each of them.
 pub fn comma(text: &mut [u8], p: Parser, n: usize) -> Parser
-    requires { ⌜ Clean (now text) (p .top) ⌝ }
+    requires { ⌜ Stack (now text) (p .top) ⌝ }
     ensures { λ r. ⌜ Puts (now (text .entry)) (now (text .exit)) p r (before-text n) ⌝ }
 {
     if n == 0 {
@@ -170,7 +170,7 @@ pub fn pack_opens(level: usize, c: u8) -> bool
 
 // ~ for a destructor, at D.
 fn tilde(text: &mut [u8], p: Parser, c: u8) -> Parser
-    requires { ⌜ Clean (now text) (p .top) ⌝ }
+    requires { ⌜ Stack (now text) (p .top) ⌝ }
     ensures { λ r. ⌜ Puts (now (text .entry)) (now (text .exit)) p r (tilde-of c) ⌝ }
 {
     if c == b'D' {

@@ -9,8 +9,8 @@ use native.Mathlib.Omega.{arith}
 use borrow.Author.Fill.{fill-more}
 use borrow.Author.Tests.{eq-eqb, ne-eqb}
 use lib.Dec.{eqb}
-use lib.ListN.{length, take, drop, getD, set, length-drop, List·getD-append, drop-of-length-le}
-use lib.Seq.{paste, paste-suc, length-paste-head, length-take-le, getD-append-add, getD-drop, getD-take, take-suc, take-length, drop-cons, drop-length}
+use lib.ListN.{length, take, drop, getD, set, length-drop, List·getD-append, drop-of-length-le, take-append-drop}
+use lib.Seq.{paste, paste-suc, length-paste-head, length-take-le, getD-append-add, getD-drop, getD-take, take-suc, take-length, take-take, take-add, drop-cons, drop-drop, drop-length}
 use Rattle.grammar.specs.Text.{Text, if_then_else_, same}
 use Rattle.store.specs.Stack.{zeros, slots-in, newest}
 use Rattle.store.specs.Lists.{drop-take}
@@ -77,7 +77,50 @@ unfolding if_then_else_
 slot-not l f i h e =
     one-more l f i h ∙ ap (λ (q : Bool). slots-in (take i (drop f l)) + (if q then 1 else 0)) (ne-eqb (getD l (f + i) 0) 1 e) ∙ omega arith
 
+pub slots-none : (l : Text) (f k : ℕ) → k ≡ 0 → slots-in (take k (drop f l)) ≡ 0
+unfolding slots-in
+slots-none l f k e = ap (λ (j : ℕ). slots-in (take j (drop f l))) e
+
+-- 16 bytes more, and fewer bytes
+pub slots-block : (l : Text) (f k : ℕ) → slots-in (take k (drop f l)) ≡ 0 → slots-in (take 16 (drop (f + k) l)) ≡ 0 → slots-in (take (k + 16) (drop f l)) ≡ 0
+slots-block l f k g h =
+    ap slots-in (take-add k 16 (drop f l))
+    ∙ slots-append (take k (drop f l)) (take 16 (drop k (drop f l)))
+    ∙ omega (arith, g, h, ap (λ (t : Text). slots-in (take 16 t)) (drop-drop k f l))
+
+pub slots-fewer : (l : Text) (k n : ℕ) → n ≤ k → slots-in (take k l) ≡ 0 → slots-in (take n l) ≡ 0
+slots-fewer l k n h g =
+    omega (arith, g, ap (λ (j : ℕ). slots-in (take j l)) {x = k} {y = n + (k - n)} (omega arith) ∙ ap slots-in (take-add n (k - n) l) ∙ slots-append (take n l) (take (k - n) (drop n l)))
+
 -- ---- same
+
+-- a byte more, and 16 bytes more
+pub equal-more : (l m : Text) (f g i : ℕ) → f + i < length l → g + i < length m → take i (drop f l) ≡ take i (drop g m) → getD l (f + i) 0 ≡ getD m (g + i) 0
+    → take (i + 1) (drop f l) ≡ take (i + 1) (drop g m)
+equal-more l m f g i a b e h = one l f a ∙ ap₂ (λ (t : Text) (x : ℕ). t ++ (x ∷ [])) e h ∙ sym (one m g b) where
+  one : (k : Text) (j : ℕ) → j + i < length k → take (i + 1) (drop j k) ≡ take i (drop j k) ++ (getD k (j + i) 0 ∷ [])
+  one k j c =
+      ap (λ (n : ℕ). take n (drop j k)) (add-one i)
+      ∙ take-suc (drop j k) i 0 (simp length-drop (omega arith))
+      ∙ ap (λ (x : ℕ). take i (drop j k) ++ (x ∷ [])) (getD-drop j k i 0)
+
+pub equal-block : (l m : Text) (f g i : ℕ) → take i (drop f l) ≡ take i (drop g m) → take 16 (drop (f + i) l) ≡ take 16 (drop (g + i) m)
+    → take (i + 16) (drop f l) ≡ take (i + 16) (drop g m)
+equal-block l m f g i e h = one l f ∙ ap₂ (λ (t u : Text). t ++ u) e h ∙ sym (one m g) where
+  one : (k : Text) (j : ℕ) → take (i + 16) (drop j k) ≡ take i (drop j k) ++ take 16 (drop (j + i) k)
+  one k j = take-add i 16 (drop j k) ∙ ap (λ (t : Text). take i (drop j k) ++ take 16 t) (drop-drop i j k)
+
+same-append : (x u v : Text) → same (x ++ u) (x ++ v) ≡ same u v
+unfolding same
+same-append [] u v = refl
+same-append (c ∷ x) u v = ap (λ (q : Bool). q && same (x ++ u) (x ++ v)) (eq-eqb c c refl) ∙ same-append x u v
+
+-- where the first r bytes are equal, the others decide
+pub same-behind : (l m : Text) (n r : ℕ) → r ≤ n → take r l ≡ take r m → same (take n l) (take n m) ≡ same (drop r (take n l)) (drop r (take n m))
+same-behind l m n r h e =
+    ap₂ (λ (t u : Text). same t u) (sym (take-append-drop r (take n l))) (sym (take-append-drop r (take n m)))
+    ∙ ap (λ (t : Text). same (take r (take n l) ++ drop r (take n l)) (t ++ drop r (take n m))) (take-take r n m h ∙ sym e ∙ sym (take-take r n l h))
+    ∙ same-append (take r (take n l)) (drop r (take n l)) (drop r (take n m))
 
 module _ (s t : Text) (i : ℕ) (hs : i < length s) (ht : i < length t) where
   both : same (drop i s) (drop i t) ≡ eqb (getD s i 0) (getD t i 0) && same (drop (suc i) s) (drop (suc i) t)

@@ -3,52 +3,41 @@ use mathlib.Core.Path.{_≡_, refl, sym, ap, ap₂, _∙_}
 use mathlib.Core.List.{[], _∷_, _++_, append-assoc, append-nil}
 use Prim.Native.Nat.{ℕ, suc, _+_, _-_, _*_, _≤_, _<_}
 use native.Mathlib.Omega.{arith}
-use lib.ListN.{length, take, drop, getD, set, length-append, length-drop}
-use lib.Seq.{paste, take-paste, drop-paste, length-take-le, take-at, take-all, take-length, take-take, drop-at, drop-drop, set-split, append-snoc, getD-take, getD-drop}
+use lib.ListN.{length, take, drop, getD, set, length-append, length-drop, length-set}
+use lib.Seq.{paste, take-paste, length-paste, length-take-le, take-at, take-all, take-length, take-take, drop-drop, set-split, append-snoc, getD-take, getD-drop}
 use Rattle.grammar.specs.Text.{Text}
 use Rattle.grammar.specs.Grammar.{at-slots}
-use Rattle.store.specs.Stack.{kept-bytes, zeros, Clean, Put, Cut, Room, Grown, slots-in, at-slot, newest, below-newest}
-use Rattle.store.specs.Lists.{drop-take, part-of, length-zeros, drop-zeros, zeros-zeros}
+use Rattle.store.specs.Stack.{kept-bytes, Stack, Put, Cut, Room, Grown, slots-in, at-slot, newest, below-newest}
+use Rattle.store.specs.Lists.{drop-take, part-of}
 use Rattle.store.specs.Tails.{top-size}
 use Rattle.store.specs.Slots.{at-slot-yes, at-slot-no, at-slots-none, at-slots-more, at-slots-part, length-at-slots}
 
--- the stack is v, where v and zeros are all there is
-pub clean-at : {T : Text} {r : ℕ} (v : Text) (m : ℕ) → T ≡ v ++ zeros m → length v ≡ r → r + m ≡ 65536 → Clean T r
-clean-at {T} {r} v m e f g = record {
-  size = ap length e ∙ length-append v (zeros m) ∙ omega (arith, length-zeros m);
-  most = omega arith;
-  rest = ap (drop r) e ∙ drop-at v (zeros m) r f ∙ ap zeros (omega arith);
-}
+grown-at : {T T' : Text} {top : ℕ} (t : Text) (r : ℕ) → length T' ≡ 51200 → take r T' ≡ take top T ++ t → r ≡ top + length t → r ≤ 51200 → Grown T T' top r t
+grown-at t r s e f g = record { top-is = f; is = e; stack = record { size = s; most = g } }
 
-grown-at : {T T' : Text} {top : ℕ} (t : Text) (m r : ℕ) → Clean T top → T' ≡ (take top T ++ t) ++ zeros m → r ≡ top + length t → r + m ≡ 65536 → Grown T T' top r t
-grown-at {T} {T'} {top} t m r h e f g =
-    let n : length (take top T ++ t) ≡ r = length-append (take top T) t ∙ omega (arith, top-size h) in
-    record { top-is = f; is = ap (take r) e ∙ take-at (take top T ++ t) (zeros m) r n; clean = clean-at (take top T ++ t) m e n g }
-
-rest-zero : {T : Text} {top : ℕ} (n : ℕ) → Clean T top → drop (top + n) T ≡ zeros (65536 - top - n)
-rest-zero {T} {top} n h = sym (drop-drop n top T) ∙ ap (drop n) (h .rest) ∙ drop-zeros n (65536 - top)
-
-pub grown-paste : {T T' : Text} {top : ℕ} (s : Text) (n : ℕ) → Clean T top → T' ≡ paste T top s n → n ≤ length s → top + n ≤ 65536 → Grown T T' top (top + n) (take n s)
+pub grown-paste : {T T' : Text} {top : ℕ} (s : Text) (n : ℕ) → Stack T top → T' ≡ paste T top s n → n ≤ length s → top + n ≤ 51200 → Grown T T' top (top + n) (take n s)
 grown-paste {T} {T'} {top} s n h e l g =
-    grown-at (take n s) (65536 - top - n) (top + n) h (e ∙ ap (λ (z : Text). take top T ++ take n s ++ z) (rest-zero n h)) (omega (arith, length-take-le n s l)) (omega arith)
+    grown-at (take n s) (top + n)
+    (ap length e ∙ length-paste T top s n (omega (arith, h .size)) l ∙ h .size)
+    (ap (take (top + n)) e ∙ take-paste T top s n (omega (arith, h .size)) l)
+    (omega (arith, length-take-le n s l)) g
 
-pub grown-set : {T : Text} {top : ℕ} (x : ℕ) → Clean T top → top < 65536 → Grown T (set T top x) top (top + 1) (x ∷ [])
+pub grown-set : {T : Text} {top : ℕ} (x : ℕ) → Stack T top → top < 51200 → Grown T (set T top x) top (top + 1) (x ∷ [])
 grown-set {T} {top} x h g =
-    grown-at (x ∷ []) (65536 - top - 1) (top + 1) h
-    (set-split T top x (omega (arith, h .size))
-    ∙ sym (append-snoc (take top T) x (drop (suc top) T))
-    ∙ ap (λ (z : Text). take top T ++ (x ∷ []) ++ z) (ap (λ (k : ℕ). drop k T) {x = suc top} {y = top + 1} (omega arith) ∙ rest-zero 1 h))
+    grown-at (x ∷ []) (top + 1) (length-set T top x ∙ h .size)
+    (ap (take (top + 1)) (set-split T top x (omega (arith, h .size)) ∙ sym (append-snoc (take top T) x (drop (suc top) T)))
+    ∙ take-at (take top T ++ (x ∷ [])) (drop (suc top) T) (top + 1) (length-append (take top T) (x ∷ []) ∙ omega (arith, top-size h)))
     refl (omega arith)
 
 pub grown-then : {T T₁ T₂ : Text} {top r r₂ : ℕ} (t u : Text) → Grown T T₁ top r t → Grown T₁ T₂ r r₂ u → Grown T T₂ top r₂ (t ++ u)
 grown-then {T} {T₁} {T₂} {top} {r} {r₂} t u g h = record {
   top-is = omega (arith, g .top-is, h .top-is, length-append t u);
   is = h .is ∙ ap (λ (z : Text). z ++ u) (g .is) ∙ append-assoc (take top T) t u;
-  clean = h .clean;
+  stack = h .stack;
 }
 
 -- what lay on the stack still does
-pub grown-front : {T T' : Text} {top r : ℕ} (t : Text) → Clean T top → Grown T T' top r t → take top T' ≡ take top T
+pub grown-front : {T T' : Text} {top r : ℕ} (t : Text) → Stack T top → Grown T T' top r t → take top T' ≡ take top T
 grown-front {T} {T'} {top} {r} t h g =
     sym (take-take top r T' (omega (arith, g .top-is)))
     ∙ ap (take top) (g .is)
@@ -56,16 +45,16 @@ grown-front {T} {T'} {top} {r} t h g =
 
 -- ---- room
 
-pub room-here : {T : Text} {top size : ℕ} → Clean T top → top + size ≤ 65536 → Room T T top top size
+pub room-here : {T : Text} {top size : ℕ} → Stack T top → top + size ≤ 51200 → Room T T top top size
 room-here {T} {top} h l = record {
   below = omega arith;
   long = omega arith;
   room = l;
   is = ap (λ (k : ℕ). drop k (take top T)) {x = 0} {y = top - top} (omega arith);
-  clean = h;
+  stack = h;
 }
 
-pub room-cut : {T T' : Text} {top r k : ℕ} (n size : ℕ) → Cut T T' top r k n → n ≡ kept-bytes → k ≡ top - n → n ≤ top → n + size ≤ 65536 → Room T T' top r size
+pub room-cut : {T T' : Text} {top r k : ℕ} (n size : ℕ) → Cut T T' top r k n → n ≡ kept-bytes → k ≡ top - n → n ≤ top → n + size ≤ 51200 → Room T T' top r size
 room-cut {T} {T'} {top} {r} {k} n size h e f l m = record {
   below = omega (arith, h .top-is);
   long = omega (arith, h .top-is);
@@ -74,15 +63,15 @@ room-cut {T} {T'} {top} {r} {k} n size h e f l m = record {
       h .is
       ∙ ap (λ (i : ℕ). take i T ++ drop (top - n) (take top T)) {x = top - (k + n)} {y = 0} (omega arith)
       ∙ ap (λ (i : ℕ). drop i (take top T)) {x = top - n} {y = top - r} (omega (arith, h .top-is));
-  clean = h .clean;
+  stack = h .stack;
 }
 
-pub room-put : {T T₁ T₂ : Text} {top at r size : ℕ} (t : Text) → Clean T top → Room T T₁ top at size → Grown T₁ T₂ at r t → Put T T₂ top r t
+pub room-put : {T T₁ T₂ : Text} {top at r size : ℕ} (t : Text) → Stack T top → Room T T₁ top at size → Grown T₁ T₂ at r t → Put T T₂ top r t
 room-put {T} {T₁} {T₂} {top} {at} {r} t c h g = record {
   lost = top - at;
   most = omega (arith, h .long, h .below);
   is = g .is ∙ ap (λ (w : Text). w ++ t) (h .is);
-  clean = g .clean;
+  stack = g .stack;
 }
 
 -- a part of the newest bytes, before and after room was made
@@ -94,86 +83,79 @@ room-part {T} {T₁} {top} {at} a n h l m =
 
 -- ---- cut
 
-pub cut-is : {T T₂ : Text} {top k n : ℕ} (T₁ ys : Text) → Clean T top → k + n ≤ top
-    → T₁ ≡ paste T (top - n - k) (drop (top - n) T) n → length T₁ ≡ length T
-    → ys ≡ zeros (length (take (top - (top - k)) (drop (top - k) T₁))) → T₂ ≡ take (top - k) T₁ ++ (ys ++ drop (top - (top - k)) (drop (top - k) T₁))
-    → Cut T T₂ top (top - k) k n
-cut-is {T} {T₂} {top} {k} {n} T₁ ys h l e s y f =
+pub cut-is : {T T' : Text} {top k n : ℕ} → Stack T top → k + n ≤ top → T' ≡ paste T (top - n - k) (drop (top - n) T) n → Cut T T' top (top - k) k n
+cut-is {T} {T'} {top} {k} {n} h l e =
     let from : ℕ = top - n in
     let to : ℕ = top - n - k in
-    let v : Text = take to T ++ take n (drop from T) in
     let ls : n ≤ length (drop from T) = simp length-drop (omega (arith, h .size, h .most)) in
-    let lt : to ≤ length T = omega (arith, h .size, h .most) in
-    let a : take (top - k) T₁ ≡ v =
-    ap (λ (j : ℕ). take j T₁) {x = top - k} {y = to + n} (omega arith) ∙ ap (take (to + n)) e ∙ take-paste T to (drop from T) n lt ls in
-    let b : drop (top - (top - k)) (drop (top - k) T₁) ≡ zeros (65536 - top) =
-    ap (λ (j : ℕ). drop (top - (top - k)) (drop j T₁)) {x = top - k} {y = to + n} (omega arith)
-    ∙ ap (drop (top - (top - k))) (ap (drop (to + n)) e ∙ drop-paste T to (drop from T) n lt ls)
-    ∙ drop-drop (top - (top - k)) (to + n) T
-    ∙ ap (λ (j : ℕ). drop j T) {x = to + n + (top - (top - k))} {y = top} (omega arith)
-    ∙ h .rest in
-    let q : T₂ ≡ v ++ zeros (k + (65536 - top)) =
-    f ∙ ap₂ (λ (i j : Text). i ++ (ys ++ j)) a b ∙ ap (λ (i : Text). v ++ (i ++ zeros (65536 - top))) (y ∙ ap zeros (length-take-le (top - (top - k)) (drop (top - k) T₁) (simp length-drop (omega (arith, h .size, h .most))) ∙ omega arith)) ∙ ap (λ (i : Text). v ++ i) (zeros-zeros k (65536 - top)) in
-    let d : length v ≡ top - k = length-append (take to T) (take n (drop from T)) ∙ omega (arith, length-take-le to T lt, length-take-le n (drop from T) ls) in
     record {
       top-is = refl;
       is =
-          ap (take (top - k)) q
-          ∙ take-at v (zeros (k + (65536 - top))) (top - k) d
+          ap (λ (j : ℕ). take j T') {x = top - k} {y = to + n} (omega arith)
+          ∙ ap (take (to + n)) e
+          ∙ take-paste T to (drop from T) n (omega (arith, h .size, h .most)) ls
           ∙ ap₂ (λ (i j : Text). i ++ j) (ap (λ (j : ℕ). take j T) {x = to} {y = top - (k + n)} (omega arith))
           (ap (λ (j : ℕ). take j (drop from T)) {x = n} {y = top - from} (omega arith) ∙ sym (drop-take from top T));
-      clean = clean-at v (k + (65536 - top)) q d (omega (arith, h .most));
+      stack = record {
+        size = ap length e ∙ length-paste T to (drop from T) n (omega (arith, h .size, h .most)) ls ∙ h .size;
+        most = omega (arith, h .most);
+      };
     }
 
 -- ---- what is put
 
-pub put-put : {T T₁ T₂ : Text} {top at : ℕ} (w : Text) → Clean T top → Room T T₁ top at (length w) → T₂ ≡ paste T₁ at w (length w)
+-- a text was written where there is room for it, and what is behind it may have changed
+pub written-put : {T T₁ T₂ : Text} {top at n : ℕ} (t : Text) → length t ≡ n → Stack T top → Room T T₁ top at n → length T₂ ≡ length T₁
+    → take (at + n) T₂ ≡ take at T₁ ++ t → Put T T₂ top (at + n) t
+written-put {T} {T₁} {T₂} {top} {at} {n} t l c h s e = room-put t c h (grown-at t (at + n) (s ∙ h .stack .size) e (omega arith) (h .room))
+
+pub put-put : {T T₁ T₂ : Text} {top at : ℕ} (w : Text) → Stack T top → Room T T₁ top at (length w) → T₂ ≡ paste T₁ at w (length w)
     → Put T T₂ top (at + length w) w
 put-put {T} {T₁} {T₂} {top} {at} w c h e =
-    let g : Grown T₁ T₂ at (at + length w) w = rw take-length at (grown-paste w (length w) (h .clean) e (omega arith) (h .room)) in
+    let g : Grown T₁ T₂ at (at + length w) w = rw take-length at (grown-paste w (length w) (h .stack) e (omega arith) (h .room)) in
     room-put w c h g
 
-pub again-put : {T T₁ T₂ : Text} {top at : ℕ} (from n : ℕ) → Clean T top → Room T T₁ top at n → from + n ≤ top → top ≤ from + kept-bytes
+pub again-put : {T T₁ T₂ : Text} {top at : ℕ} (from n : ℕ) → Stack T top → Room T T₁ top at n → from + n ≤ top → top ≤ from + kept-bytes
     → T₂ ≡ paste T₁ at (drop (at - (top - from)) T₁) n → Put T T₂ top (at + n) (take n (drop from T))
 again-put {T} {T₁} {T₂} {top} {at} from n c h l m e =
     let i : at - (top - from) ≡ from - (top - at) = omega (arith, h .long, h .below) in
     let p : take n (drop (at - (top - from)) T₁) ≡ take n (drop from T) = ap (λ (k : ℕ). take n (drop k T₁)) i ∙ room-part from n h (omega (arith, h .long, h .below)) l in
     let g : Grown T₁ T₂ at (at + n) (take n (drop (at - (top - from)) T₁)) =
-    grown-paste (drop (at - (top - from)) T₁) n (h .clean) e (simp length-drop (omega (arith, h .long, h .below, h .clean .size, h .clean .most))) (h .room) in
+    grown-paste (drop (at - (top - from)) T₁) n (h .stack) e (simp length-drop (omega (arith, h .long, h .below, h .stack .size, h .stack .most))) (h .room) in
     room-put (take n (drop from T)) c h (rw p at g)
 
 -- ---- weave
 
-pub grown-none : {T : Text} {top : ℕ} → Clean T top → Grown T T top top []
-grown-none {T} {top} h = record { top-is = omega arith; is = sym (append-nil (take top T)); clean = h }
+pub grown-none : {T : Text} {top : ℕ} → Stack T top → Grown T T top top []
+grown-none {T} {top} h = record { top-is = omega arith; is = sym (append-nil (take top T)); stack = h }
 
-module _ {T : Text} {top : ℕ} (low d : ℕ) (word : Text) (x : ℕ) (h : Clean T top) (l : low + d ≤ top)
-    (f : top + length (at-slot (take d (drop low T) ++ word) x) ≤ 65536) where
+module _ {T : Text} {top : ℕ} (low d : ℕ) (word : Text) (x : ℕ) (h : Stack T top) (l : low + d ≤ top)
+    (f : top + length (at-slot (take d (drop low T) ++ word) x) ≤ 51200) where
   part-size : length (take d (drop low T)) ≡ d
   part-size = length-take-le d (drop low T) (simp length-drop (omega (arith, h .size, h .most)))
 
-  pub slot-room : x ≡ 1 → top + d + length word + 1 ≤ 65536
+  pub slot-room : x ≡ 1 → top + d + length word + 1 ≤ 51200
   slot-room e =
       let i : length (at-slot (take d (drop low T) ++ word) x) ≡ d + length word + 1 =
       ap length (at-slot-yes (take d (drop low T) ++ word) x e) ∙ length-append (take d (drop low T) ++ word) (x ∷ []) ∙ ap (λ (k : ℕ). k + 1) (length-append (take d (drop low T)) word ∙ ap (λ (k : ℕ). k + length word) part-size) in
       omega arith
 
-  pub byte-room : (x ≡ 1 → ⊥) → top + 1 ≤ 65536
+  pub byte-room : (x ≡ 1 → ⊥) → top + 1 ≤ 51200
   byte-room e = let i : length (at-slot (take d (drop low T) ++ word) x) ≡ 1 = ap length (at-slot-no (take d (drop low T) ++ word) x e) in omega arith
 
   pub slot-put : {T₁ T₂ : Text} → x ≡ 1 → T₁ ≡ paste T top (drop low T) d → T₂ ≡ paste T₁ (top + d) word (length word)
       → Grown T (set T₂ (top + d + length word) x) top (top + d + length word + 1) (at-slot (take d (drop low T) ++ word) x)
   slot-put {T₁} {T₂} e e₁ e₂ =
-      let r : top + d + length word + 1 ≤ 65536 = slot-room e in
+      let r : top + d + length word + 1 ≤ 51200 = slot-room e in
       let g : Grown T T₁ top (top + d) (take d (drop low T)) = grown-paste (drop low T) d h e₁ (simp length-drop (omega (arith, h .size, h .most))) (omega arith) in
-      let i : Grown T₁ T₂ (top + d) (top + d + length word) word = rw take-length at (grown-paste word (length word) (g .clean) e₂ (omega arith) (omega arith)) in
-      let j : Grown T₂ (set T₂ (top + d + length word) x) (top + d + length word) (top + d + length word + 1) (x ∷ []) = grown-set x (i .clean) (omega arith) in
+      let i : Grown T₁ T₂ (top + d) (top + d + length word) word = rw take-length at (grown-paste word (length word) (g .stack) e₂ (omega arith) (omega arith)) in
+      let j : Grown T₂ (set T₂ (top + d + length word) x) (top + d + length word) (top + d + length word + 1) (x ∷ []) = grown-set x (i .stack) (omega arith) in
       rw (at-slot-yes (take d (drop low T) ++ word) x e) (grown-then (take d (drop low T) ++ word) (x ∷ []) (grown-then (take d (drop low T)) word g i) j)
 
   pub byte-put : (x ≡ 1 → ⊥) → Grown T (set T top x) top (top + 1) (at-slot (take d (drop low T) ++ word) x)
   byte-put e = rw (at-slot-no (take d (drop low T) ++ word) x e) (grown-set x h (omega (arith, byte-room e)))
 
-module _ {T : Text} {top : ℕ} (n d : ℕ) (word : Text) (h : Clean T top) (l : d + n ≤ top) where
+module _ {T : Text} {top : ℕ} (n d : ℕ) (word : Text) (h : Stack T top) (l : d + n ≤ top) where
   abbrev e : Text
   e = below-newest T top n d ++ word
 
@@ -218,8 +200,8 @@ module _ {T : Text} {top : ℕ} (n d : ℕ) (word : Text) (h : Clean T top) (l :
     more-is : at-slots e (take (i + 1) t) ≡ at-slots e (take i t) ++ at-slot e (getD t i 0)
     more-is = at-slots-more e t i (omega (arith, newest-size))
 
-    pub piece-fits : top + length (at-slots (below-newest T top n d ++ word) (newest T top n)) ≤ 65536
-        → at + length (at-slot (take d (drop (top - n - d) T') ++ word) (getD T' (top - n + i) 0)) ≤ 65536
+    pub piece-fits : top + length (at-slots (below-newest T top n d ++ word) (newest T top n)) ≤ 51200
+        → at + length (at-slot (take d (drop (top - n - d) T') ++ word) (getD T' (top - n + i) 0)) ≤ 51200
     piece-fits f =
         rw piece-is
         (omega (arith, g .top-is, ap length more-is ∙ length-append (at-slots e (take i t)) (at-slot e (getD t i 0)), at-slots-part e t (i + 1)))
@@ -229,7 +211,7 @@ module _ {T : Text} {top : ℕ} (n d : ℕ) (word : Text) (h : Clean T top) (l :
     piece-more k = rw more-is (grown-then (at-slots e (take i t)) (at-slot e (getD t i 0)) g (rw piece-is at k))
 
 -- the newest bytes, before and after room was made
-module _ {T T₁ : Text} {top at size : ℕ} (n d : ℕ) (c : Clean T top) (h : Room T T₁ top at size) (l : d + n ≤ top) (m : d + n ≤ kept-bytes) where
+module _ {T T₁ : Text} {top at size : ℕ} (n d : ℕ) (c : Stack T top) (h : Room T T₁ top at size) (l : d + n ≤ top) (m : d + n ≤ kept-bytes) where
   pub room-newest : newest T₁ at n ≡ newest T top n
   room-newest =
       ap (drop (at - n)) (h .is)
@@ -245,7 +227,7 @@ module _ {T T₁ : Text} {top at size : ℕ} (n d : ℕ) (c : Clean T top) (h : 
   woven-is word = ap₂ (λ (x y : Text). at-slots (x ++ word) y) room-below room-newest
 
   pub weave-fits : (word : Text) → size ≡ n + slots-in (newest T top n) * (d + length word)
-      → at + length (at-slots (below-newest T₁ at n d ++ word) (newest T₁ at n)) ≤ 65536
+      → at + length (at-slots (below-newest T₁ at n d ++ word) (newest T₁ at n)) ≤ 51200
   weave-fits word e = omega (arith, e, h .room, ap length (woven-is word) ∙ weave-size n d word c l)
 
   pub weave-put : {T₂ : Text} {r : ℕ} (word : Text) → Grown T₁ T₂ at r (at-slots (below-newest T₁ at n d ++ word) (newest T₁ at n))

@@ -5,13 +5,12 @@ use mathlib.Core.Option.{none, some}
 use Prim.Native.Nat.{ℕ, zero, suc, _+_, _-_, _≤_, _<_}
 use native.Mathlib.Numerals.{add-one}
 use native.Mathlib.Omega.{arith}
-use lib.ListN.{length, take, drop, getD, set, getElem?, length-append, List·getD-append}
-use lib.Seq.{paste, take-at, drop-at, take-nil}
+use lib.ListN.{length, take, drop, getD, set, getElem?, length-append}
+use lib.Seq.{take-at, drop-at, take-nil}
 use Rattle.grammar.specs.Text.{Text}
 use Rattle.grammar.specs.Reader.{bytes-of}
-use Rattle.store.specs.Stack.{zeros, Clean}
-use Rattle.store.specs.Table.{pad, concat, ends-from, Entries, Sized}
-use Rattle.store.specs.Lists.{length-zeros, length-pad, pad-none, pad-paste, pad-set, pad-cleared}
+use Rattle.store.specs.Table.{Front, concat, ends-from, Entries, Sized}
+use Rattle.store.specs.Fronts.{front-none, front-as, front-at, front-written, front-set}
 
 -- ---- lists of texts
 
@@ -91,22 +90,23 @@ start-below (t ∷ l) zero = omega arith
 start-below (t ∷ l) (suc k) = omega (arith, start-below l k)
 
 -- what `start` returns
-pub start-at : (n k : ℕ) (ends : List ℕ) (l : List Text) → ends ≡ pad n (ends-from 0 l) → (k ≡ 0 → ⊥) → k ≤ length l → getD ends (k - 1) 0 ≡ bytes-of (take k l)
-unfolding pad
+pub start-at : (n k : ℕ) (ends : List ℕ) (l : List Text) → Front n (ends-from 0 l) ends → (k ≡ 0 → ⊥) → k ≤ length l → getD ends (k - 1) 0 ≡ bytes-of (take k l)
 start-at n k ends l e p h =
-    ap (λ (x : List ℕ). getD x (k - 1) 0) e
-    ∙ List·getD-append (ends-from 0 l) (zeros (n - length (ends-from 0 l))) 0 (k - 1) (omega (arith, length-ends 0 l))
+    front-at e (k - 1) (omega (arith, length-ends 0 l))
     ∙ end-at 0 (k - 1) l (omega arith)
     ∙ ap (λ (j : ℕ). 0 + bytes-of (take j l)) {x = suc (k - 1)} {y = k} (omega arith)
     ∙ omega arith
 
-stored : (n k : ℕ) (l : List Text) → k < length l → take (length (getD l k [])) (drop (bytes-of (take k l)) (pad n (concat l))) ≡ getD l k []
-unfolding pad
-stored n k l h =
+stored : {n : ℕ} {store : List ℕ} (k : ℕ) (l : List Text) → Front n (concat l) store → k < length l
+    → take (length (getD l k [])) (drop (bytes-of (take k l)) store) ≡ getD l k []
+stored {n} {store} k l f h =
     let t : Text = getD l k [] in
-    let z : Text = zeros (n - length (concat l)) in
-    let e : pad n (concat l) ≡ concat (take k l) ++ (t ++ (concat (drop (suc k) l) ++ z)) =
-    ap (λ (x : Text). x ++ z) (concat-at k l h) ∙ append-assoc (concat (take k l)) (t ++ concat (drop (suc k) l)) z ∙ ap (λ (x : Text). concat (take k l) ++ x) (append-assoc t (concat (drop (suc k) l)) z) in
+    let z : Text = f .rest in
+    let e : store ≡ concat (take k l) ++ (t ++ (concat (drop (suc k) l) ++ z)) =
+    f .is
+    ∙ ap (λ (x : Text). x ++ z) (concat-at k l h)
+    ∙ append-assoc (concat (take k l)) (t ++ concat (drop (suc k) l)) z
+    ∙ ap (λ (x : Text). concat (take k l) ++ x) (append-assoc t (concat (drop (suc k) l)) z) in
     ap (λ (x : Text). take (length t) (drop (bytes-of (take k l)) x)) e
     ∙ ap (take (length t)) (drop-at (concat (take k l)) (t ++ (concat (drop (suc k) l) ++ z)) (bytes-of (take k l)) (length-concat (take k l)))
     ∙ take-at t (concat (drop (suc k) l) ++ z) (length t) refl
@@ -114,36 +114,25 @@ stored n k l h =
 module _ {l : List Text} {store ends : List ℕ} {count bytes : ℕ} (h : Entries l store ends count bytes) where
   -- entry k lies in the store
   pub entry-in : (k : ℕ) → k < length l → take (length (getD l k [])) (drop (bytes-of (take k l)) store) ≡ getD l k []
-  entry-in k i = ap (λ (x : Text). take (length (getD l k [])) (drop (bytes-of (take k l)) x)) (h .store-is) ∙ stored 32768 k l i
+  entry-in k i = stored k l (h .store-is) i
 
   pub entry-within : (k : ℕ) → k < length l → bytes-of (take k l) + length (getD l k []) ≤ bytes
   entry-within k i = omega (arith, next-start l k i, start-below l (k + 1), h .bytes-is)
 
   pub entries-sized : Sized store ends
-  entries-sized = record {
-    store-size = ap length (h .store-is) ∙ length-pad 32768 (concat l) (omega (arith, length-concat l, h .bytes-is, h .room));
-    ends-size = ap length (h .ends-is) ∙ length-pad 1024 (ends-from 0 l) (omega (arith, length-ends 0 l, h .count-is, h .most));
-  }
+  entries-sized = record { store-size = h .store-is .size; ends-size = h .ends-is .size }
 
-  -- what `push` leaves
-  pub pushed : (t : Text) (store' ends' : List ℕ) → count < 1024 → bytes + length t ≤ 32768
-      → store' ≡ paste store bytes t (length t) → ends' ≡ set ends count (bytes + length t)
-      → Entries (l ++ (t ∷ [])) store' ends' (count + 1) (bytes + length t)
-  pushed t store' ends' more fits e f =
+  -- what `push` leaves: a text of k bytes more
+  pub pushed : (t : Text) (k : ℕ) (store' ends' : List ℕ) → length t ≡ k → count < 1024 → bytes + k ≤ 32768
+      → length store' ≡ length store → take (bytes + k) store' ≡ take bytes store ++ t → ends' ≡ set ends count (bytes + k)
+      → Entries (l ++ (t ∷ [])) store' ends' (count + 1) (bytes + k)
+  pushed t k store' ends' m more fits z e f =
       let b : bytes ≡ length (concat l) = h .bytes-is ∙ sym (length-concat l) in
       let n : count ≡ length (ends-from 0 l) = h .count-is ∙ sym (length-ends 0 l) in
       record {
-        store-is =
-            e
-            ∙ ap₂ (λ (x : Text) (k : ℕ). paste x k t (length t)) (h .store-is) b
-            ∙ pad-paste 32768 (concat l) t (omega arith)
-            ∙ ap (pad 32768) (sym (concat-append l (t ∷ []) ∙ ap (λ (x : Text). concat l ++ x) (concat-one t)));
-        ends-is =
-            f
-            ∙ ap₂ (λ (x : List ℕ) (k : ℕ). set x k (bytes + length t)) (h .ends-is) n
-            ∙ pad-set 1024 (ends-from 0 l) (bytes + length t) (omega arith)
-            ∙ ap (λ (k : ℕ). pad 1024 (ends-from 0 l ++ (k ∷ []))) (omega (arith, h .bytes-is))
-            ∙ ap (pad 1024) (sym (ends-append 0 l t));
+        store-is = rw (concat-append l (t ∷ []) ∙ ap (λ (x : Text). concat l ++ x) (concat-one t)) (front-written (h .store-is) t z (rw (b, ← m) at e));
+        ends-is = rw (ends-append 0 l t)
+            (front-as (f ∙ ap₂ (λ (i j : ℕ). set ends i j) n (omega (arith, h .bytes-is))) (front-set (h .ends-is) (0 + bytes-of l + length t) (omega arith)));
         count-is = omega (arith, h .count-is, length-append l (t ∷ []));
         bytes-is = omega (arith, h .bytes-is, bytes-append l (t ∷ []), bytes-one t);
         most = omega arith;
@@ -154,39 +143,22 @@ module _ {l : List Text} {store ends : List ℕ} {count bytes : ℕ} (h : Entrie
 pub entries-as : {l : List Text} {store ends store' ends' : List ℕ} {count bytes : ℕ}
     → store' ≡ store → ends' ≡ ends → Entries l store ends count bytes → Entries l store' ends' count bytes
 entries-as e f h = record {
-  store-is = e ∙ h .store-is;
-  ends-is = f ∙ h .ends-is;
+  store-is = front-as e (h .store-is);
+  ends-is = front-as f (h .ends-is);
   count-is = h .count-is;
   bytes-is = h .bytes-is;
   most = h .most;
   room = h .room;
 }
 
-empty : (store ends : List ℕ) → store ≡ pad 32768 [] → ends ≡ pad 1024 [] → Entries [] store ends 0 0
+-- a table of no texts, whatever the slices hold
+pub no-entries : {store ends : List ℕ} → Sized store ends → Entries [] store ends 0 0
 unfolding concat ends-from bytes-of
-empty store ends e f = record { store-is = e; ends-is = f; count-is = refl; bytes-is = refl; most = omega arith; room = omega arith }
-
--- what `wipe` leaves
-pub wiped : {l : List Text} {store ends : List ℕ} {count bytes : ℕ} → Entries l store ends count bytes → (store' ends' : List ℕ)
-    → store' ≡ zeros bytes ++ drop bytes store → ends' ≡ zeros count ++ drop count ends → Entries [] store' ends' 0 0
-wiped {l} {store} {ends} {count} {bytes} h store' ends' e f =
-    let b : bytes ≡ length (concat l) = h .bytes-is ∙ sym (length-concat l) in
-    let n : count ≡ length (ends-from 0 l) = h .count-is ∙ sym (length-ends 0 l) in
-    empty store' ends'
-    (e ∙ ap₂ (λ (x : Text) (k : ℕ). zeros k ++ drop k x) (h .store-is) b ∙ pad-cleared 32768 (concat l) (omega (arith, h .room)))
-    (f ∙ ap₂ (λ (x : Text) (k : ℕ). zeros k ++ drop k x) (h .ends-is) n ∙ pad-cleared 1024 (ends-from 0 l) (omega (arith, h .most)))
-
--- ---- zeros
-
-pub fresh-table : Entries [] (zeros 32768) (zeros 1024) 0 0
-fresh-table = empty (zeros 32768) (zeros 1024) (sym (pad-none 32768)) (sym (pad-none 1024))
-
-pub fresh-stack : Clean (zeros 65536) 0
-fresh-stack = record { size = length-zeros 65536; most = omega arith; rest = refl }
-
-pub empty-table : {store ends : List ℕ} {count bytes : ℕ} → Entries [] store ends count bytes → (store ≡ zeros 32768) × (ends ≡ zeros 1024)
-unfolding concat ends-from
-empty-table h = (h .store-is ∙ pad-none 32768, h .ends-is ∙ pad-none 1024)
-
-pub empty-stack : {text : Text} → Clean text 0 → text ≡ zeros 65536
-empty-stack h = h .rest
+no-entries h = record {
+  store-is = front-none (h .store-size);
+  ends-is = front-none (h .ends-size);
+  count-is = refl;
+  bytes-is = refl;
+  most = omega arith;
+  room = omega arith;
+}

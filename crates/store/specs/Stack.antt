@@ -1,4 +1,4 @@
--- The stack of texts in a slice of 65,536 bytes: its first `top` bytes, the newest last; all bytes behind them are zero.
+-- The stack of texts in a slice of 51,200 bytes: its first `top` bytes, the newest last; those behind them may be anything.
 use mathlib.Core.Path.{_≡_}
 use mathlib.Core.List.{[], _∷_, _++_}
 use Prim.Native.Nat.{ℕ, _+_, _-_, _≤_, min}
@@ -9,17 +9,16 @@ use Rattle.grammar.specs.Text.{Text, if_then_else_}
 unfoldable pub zeros : ℕ → Text
 zeros n = replicate n 0
 
-pub record Clean (text : Text) (top : ℕ) : Type 0 where
-  pub size : length text ≡ 65536
-  pub most : top ≤ 65536
-  pub rest : drop top text ≡ zeros (65536 - top)
+pub record Stack (text : Text) (top : ℕ) : Type 0 where
+  pub size : length text ≡ 51200
+  pub most : top ≤ 51200
 
 -- a full stack keeps so many of its newest bytes, and so many can be put on it at once
 abbrev pub kept-bytes : ℕ
-kept-bytes = 49152
+kept-bytes = 34816
 
 abbrev pub most-put : ℕ
-most-put = 65536 - kept-bytes
+most-put = 51200 - kept-bytes
 
 -- w is `full` without its oldest bytes; its newest k bytes, at least, are there
 pub record Tail (k : ℕ) (w full : Text) : Type 0 where
@@ -32,27 +31,27 @@ pub record Put (text text' : Text) (top top' : ℕ) (t : Text) : Type 0 where
   pub lost : ℕ
   pub most : lost ≤ top - kept-bytes
   pub is : take top' text' ≡ drop lost (take top text) ++ t
-  pub clean : Clean text' top'
+  pub stack : Stack text' top'
 
 -- the k bytes below the newest n were removed
 pub record Cut (text text' : Text) (top top' k n : ℕ) : Type 0 where
   pub top-is : top' ≡ top - k
   pub is : take top' text' ≡ take (top - (k + n)) text ++ drop (top - n) (take top text)
-  pub clean : Clean text' top'
+  pub stack : Stack text' top'
 
 -- the oldest bytes may have left, so that there is room for so many more
 pub record Room (text text' : Text) (top top' size : ℕ) : Type 0 where
   pub below : top' ≤ top
   pub long : min top kept-bytes ≤ top'
-  pub room : top' + size ≤ 65536
+  pub room : top' + size ≤ 51200
   pub is : take top' text' ≡ drop (top - top') (take top text)
-  pub clean : Clean text' top'
+  pub stack : Stack text' top'
 
 -- the text t was put on the stack, which had room
 pub record Grown (text text' : Text) (top top' : ℕ) (t : Text) : Type 0 where
   pub top-is : top' ≡ top + length t
   pub is : take top' text' ≡ take top text ++ t
-  pub clean : Clean text' top'
+  pub stack : Stack text' top'
 
 -- how many of the bytes are slots
 unfoldable pub slots-in : Text → ℕ

@@ -1,15 +1,17 @@
--- A table of texts in two slices: `store` of 32,768 bytes has the texts one after another, `ends` of 1,024 numbers where each ends; the rest is zero.
+-- A table of texts in two slices: `store` of 32,768 bytes has the texts one after another, `ends` of 1,024 numbers where each ends; the rest
+-- may be anything.
 use mathlib.Core.Path.{_≡_}
 use mathlib.Core.List.{List, [], _∷_, _++_}
-use Prim.Native.Nat.{ℕ, _+_, _-_, _≤_}
+use Prim.Native.Nat.{ℕ, _+_, _≤_}
 use lib.ListN.{length}
 use Rattle.grammar.specs.Text.{Text}
 use Rattle.grammar.specs.Reader.{bytes-of}
-use Rattle.store.specs.Stack.{zeros}
 
--- the text, and zeros up to so many bytes
-unfoldable pub pad : ℕ → Text → Text
-pad n w = w ++ zeros (n - length w)
+-- of the n numbers of a slice, w stands in front; what is behind it may be anything
+pub record Front (n : ℕ) (w slice : List ℕ) : Type 0 where
+  pub rest : List ℕ
+  pub is : slice ≡ w ++ rest
+  pub size : length slice ≡ n
 
 unfoldable pub concat : List Text → Text
 concat [] = []
@@ -21,8 +23,8 @@ ends-from n [] = []
 ends-from n (t ∷ ts) = (n + length t) ∷ ends-from (n + length t) ts
 
 pub record Entries (l : List Text) (store ends : List ℕ) (count bytes : ℕ) : Type 0 where
-  pub store-is : store ≡ pad 32768 (concat l)
-  pub ends-is : ends ≡ pad 1024 (ends-from 0 l)
+  pub store-is : Front 32768 (concat l) store
+  pub ends-is : Front 1024 (ends-from 0 l) ends
   pub count-is : count ≡ length l
   pub bytes-is : bytes ≡ bytes-of l
   pub most : count ≤ 1024

@@ -1,12 +1,12 @@
 -- Laws of what the stack keeps. Assumes nothing.
 use mathlib.Core.Path.{_≡_, refl, sym, ap, _∙_}
-use mathlib.Core.List.{List, [], _∷_, _++_, append-assoc, append-nil}
+use mathlib.Core.List.{_++_, append-assoc}
 use Prim.Native.Nat.{ℕ, _+_, _-_, _≤_}
 use native.Mathlib.Omega.{arith}
-use lib.ListN.{length, take, drop, length-append, length-take, length-drop}
+use lib.ListN.{length, take, drop, length-append, length-drop}
 use lib.Seq.{drop-append-le, drop-drop, take-at, drop-at, length-take-le, take-take}
 use Rattle.grammar.specs.Text.{Text}
-use Rattle.store.specs.Stack.{kept-bytes, Clean, Tail, Put, Cut}
+use Rattle.store.specs.Stack.{kept-bytes, Stack, Tail, Put, Cut}
 
 pub whole : (k : ℕ) (w : Text) → Tail k w w
 whole k w = record { lost = 0; most = omega arith; is = refl }
@@ -37,11 +37,11 @@ chain {k} {w} {w'} {full} t h g =
 pub both : {k : ℕ} {w₁ w₂ : Text} (w t u : Text) → Tail k w₁ (w ++ t) → Tail k w₂ (w₁ ++ u) → Tail k w₂ (w ++ (t ++ u))
 both w t u g h = rw (← append-assoc) (chain u g h)
 
-pub top-size : {text : Text} {top : ℕ} → Clean text top → length (take top text) ≡ top
+pub top-size : {text : Text} {top : ℕ} → Stack text top → length (take top text) ≡ top
 top-size {text} {top} h = length-take-le top text (omega (arith, h .size, h .most))
 
 -- what `put` leaves
-pub put-tail : {k : ℕ} {text text' full : Text} {top top' : ℕ} (t : Text) → Clean text top → k ≤ kept-bytes → Put text text' top top' t
+pub put-tail : {k : ℕ} {text text' full : Text} {top top' : ℕ} (t : Text) → Stack text top → k ≤ kept-bytes → Put text text' top top' t
     → Tail k (take top text) full → Tail k (take top' text') (full ++ t)
 put-tail {k} {text} {text'} {full} {top} t c l p h =
     let s = size h in
@@ -66,7 +66,7 @@ newest-is {k} {w} a t h l =
     let b : h .lost ≤ length a = omega arith in
     (omega arith, ap (drop (length w - length t)) (h .is) ∙ drop-drop (length w - length t) (h .lost) (a ++ t) ∙ drop-at a t (h .lost + (length w - length t)) (omega arith))
 
-module _ {k : ℕ} {text text' : Text} {top top' : ℕ} (a b c : Text) (t : Tail k (take top text) (a ++ (b ++ c))) (l : Clean text top) where
+module _ {k : ℕ} {text text' : Text} {top top' : ℕ} (a b c : Text) (t : Tail k (take top text) (a ++ (b ++ c))) (l : Stack text top) where
   -- what `cut` leaves where no more than so much was lost
   cut-is : {j : ℕ} → t .lost ≤ length a → t .lost ≤ length a + length c - j → Cut text text' top top' (length b) (length c) → Tail j (take top' text') (a ++ c)
   cut-is m n h =
@@ -97,7 +97,7 @@ module _ {k : ℕ} {text text' : Text} {top top' : ℕ} (a b c : Text) (t : Tail
 
 -- a text that is put on the stack in place of one below it, which is no longer
 pub replaced :
-    {k : ℕ} {text text₁ text₂ : Text} {top top₁ top₂ : ℕ} (a b x r : Text) → Tail k (take top text) (a ++ (b ++ x)) → Clean text top →
+    {k : ℕ} {text text₁ text₂ : Text} {top top₁ top₂ : ℕ} (a b x r : Text) → Tail k (take top text) (a ++ (b ++ x)) → Stack text top →
     Put text text₁ top top₁ r → Cut text₁ text₂ top₁ top₂ (length b) (length (x ++ r)) →
     k ≤ kept-bytes → length b + length x ≤ k → length b ≤ length r → Tail k (take top₂ text₂) (a ++ (x ++ r))
 replaced {k} {text} {text₁} {text₂} {top} {top₁} a b x r t l p h m n o =
@@ -116,4 +116,4 @@ replaced {k} {text} {text₁} {text₂} {top} {top₁} a b x r t l p h m n o =
           ∙ sym (drop-append-le (t .lost + p .lost) (a ++ (b ++ x)) r d)
           ∙ ap (drop (t .lost + p .lost)) (simp append-assoc);
     } in
-    cut-is a b (x ++ r) u (p .clean) (omega (arith, p .most)) (simp length-append (omega (arith, p .most))) h
+    cut-is a b (x ++ r) u (p .stack) (omega (arith, p .most)) (simp length-append (omega (arith, p .most))) h

@@ -10,7 +10,7 @@ use lib.Dec.{leb}
 use lib.ListN.{length, drop}
 use lib.Seq.{paste, take-length}
 use Rattle.grammar.specs.Text.{Text, if_then_else_}
-use Rattle.grammar.specs.Names.{refusal, named, demangle, mangled-name, within, work-fits, most-symbol-bytes, number-of}
+use Rattle.grammar.specs.Names.{refusal, named, demangle, mangled-name, answer, within, work-fits, most-symbol-bytes, number-of}
 use Rattle.grammar.specs.Names as n
 use Rattle.grammar.specs.Fuel.{never-0}
 use Rattle.catalogue.specs.Recogniser.{classify}
@@ -19,20 +19,19 @@ use Rattle.walk.specs.Equal.{walk-is}
 use Rattle.nodes.specs.Nodes.{note-symbol}
 use Rattle.nodes.specs.Equal.{nodes-are-walk}
 use Rattle.store.specs.Stack.{zeros}
-use Rattle.parser.specs.Holds.{mem}
 use Rattle.names.specs.declared.entry.Answer.{Answer}
 use Rattle.names.specs.declared.entry.Answer.the-variants.{Name, Refused}
 use Rattle.names.specs.declared.symbol.Front.{Front}
 use Rattle.names.specs.declared.symbol.Front.the-variants as front-as
-use Rattle.names.specs.Outcome.{Slices, Outcome, slices, lent, leaves, demangled, Demangles, Zero, number-in}
+use Rattle.names.specs.Outcome.{Slices, slices, lent, number-in}
 use Rattle.names.specs.Symbols.{Fronts}
 use Rattle.names.specs.Fronts.{both-true}
-use Rattle.names.specs.Printed.{Tells, Cleared, refused-of}
+use Rattle.names.specs.Printed.{Tells, refused-of}
 use Rattle.names.specs.Tells.{tells-refusal, tells-name, tells-as}
-use Rattle.names.specs.Told.{told-leaves, refusal-leaves, front-leaves, again}
+use Rattle.names.specs.Told.{front-tells, told-leaves}
 use Rattle.names.specs.Lengths.{answer-is}
 use Rattle.symbols.specs.Outcome.{normalized, Normalizes}
-use Rattle.symbols.specs.Parts.{Long, Accepts, Normal}
+use Rattle.symbols.specs.Parts.{Long, accepted-answer}
 
 -- ---- a normal symbol, told
 
@@ -57,12 +56,12 @@ pub note-is : (s : Text) → note-symbol s ≡ normalIn (classify s)
 note-is s = nodes-are-walk s ∙ walk-is s
 
 module _ (s out : Text) where
-  pub told-6 : note-symbol s ≡ none → Tells (within (length out) (normal-told (normalIn (classify s)))) out out (Refused 6)
+  pub told-6 : note-symbol s ≡ none → Tells (accepted-answer (length out) s) out out (Refused 6)
   unfolding normal-told within
   told-6 e = tells-refusal (ap (λ (x : Option Text). within (length out) (normal-told x)) (sym (note-is s) ∙ e))
 
   pub told-normal : {v w out' : Text} {r : Answer} → note-symbol s ≡ some v → w ≡ v → Tells (within (length out) (normal-told (some w))) out out' r
-      → Tells (within (length out) (normal-told (normalIn (classify s)))) out out' r
+      → Tells (accepted-answer (length out) s) out out' r
   told-normal e f h = tells-as (ap (λ (x : Option Text). within (length out) (normal-told x)) (ap some f ∙ sym e ∙ note-is s)) h
 
 -- ---- the reading for the name
@@ -70,19 +69,14 @@ module _ (s out : Text) where
 long-fits : (l : Slices) → Long l → work-fits (lent l) ≡ true
 unfolding work-fits
 long-fits l h =
-    rw (le-leb 65536 (length (l .text)) (h .text), le-leb 65536 (length (l .store)) (h .store), le-leb 2048 (length (l .ends)) (omega (arith, h .ends)))
+    rw (le-leb 51200 (length (l .text)) (h .text), le-leb 65536 (length (l .store)) (h .store), le-leb 2048 (length (l .ends)) (omega (arith, h .ends)))
 
-pub accepts : (s out text store ends : Text) (l' : Slices) (r : Answer) {k : ℕ} → Demangles s (slices out text store ends) l' r → 16384 ≤ length out
-    → Long (slices [] text store ends) → k ≡ number-in r → Accepts s (slices [] text store ends) (slices [] (l' .text) (l' .store) (l' .ends)) k
-unfolding demangled leaves
-accepts s out text store ends l' r e h f g =
+-- a reading whose output slice is never too short tells the number of the symbol
+pub number-is : (s out text store ends : Text) {out' : Text} (r : Answer) {k : ℕ} → Tells (answer most-symbol-bytes (lent (slices out text store ends)) s) out out' r
+    → 16384 ≤ length out → Long (slices [] text store ends) → k ≡ number-in r → k ≡ number-of (demangle most-symbol-bytes s)
+number-is s out text store ends r e h f g =
     let l = slices out text store ends in
-    record {
-      number = g ∙ ap (λ (o : Outcome). o .number) e ∙ ap number-of (answer-is l s h (long-fits l (record { text = f .text; store = f .store; ends = f .ends })));
-      text = ap (λ (o : Outcome). o .slices .text) e;
-      store = ap (λ (o : Outcome). o .slices .store) e;
-      ends = ap (λ (o : Outcome). o .slices .ends) e;
-    }
+    g ∙ e .number ∙ ap number-of (answer-is l s h (long-fits l (record { text = f .text; store = f .store; ends = f .ends })))
 
 after-refused : (s : Text) (a : n.Answer) {k : ℕ} → k ≡ number-of a → (k ≡ 0 → ⊥) → normal-after s a ≡ refusal k
 unfolding number-of normal-after
@@ -97,52 +91,47 @@ after-accepted s (refusal r) z e h = absurd (z (ap refusal (sym e ∙ h)))
 -- ---- the lengths of the work slices
 
 abbrev pub fit : Slices → Bool
-fit l = leb 65536 (length (l .text)) && leb 65536 (length (l .store)) && leb 24576 (length (l .ends))
+fit l = leb 51200 (length (l .text)) && leb 65536 (length (l .store)) && leb 24576 (length (l .ends))
 
 pub fit-long : (l : Slices) → fit l ≡ true → Long l
 fit-long l h =
-    let (i, k) = both-true (leb 65536 (length (l .text)) && leb 65536 (length (l .store))) (leb 24576 (length (l .ends))) h in
-    let (x, y) = both-true (leb 65536 (length (l .text))) (leb 65536 (length (l .store))) i in
-    record { text = leb-true 65536 (length (l .text)) x; store = leb-true 65536 (length (l .store)) y; ends = leb-true 24576 (length (l .ends)) k }
+    let (i, k) = both-true (leb 51200 (length (l .text)) && leb 65536 (length (l .store))) (leb 24576 (length (l .ends))) h in
+    let (x, y) = both-true (leb 51200 (length (l .text))) (leb 65536 (length (l .store))) i in
+    record { text = leb-true 51200 (length (l .text)) x; store = leb-true 65536 (length (l .store)) y; ends = leb-true 24576 (length (l .ends)) k }
 
 -- ---- by the front
 
 module _ {s : Text} {f : Front} (h : Fronts s f) where
-  pub front-refuses : (l : Slices) {r : Answer} {k : ℕ} → f ≡ front-as.Refused k → r ≡ refused-of f → Zero l → Normalizes s l l r
-  unfolding normalized normal-answer
-  front-refuses l e g z = front-leaves h _ l e g z
+  pub front-refuses : (l : Slices) {r : Answer} {k : ℕ} → f ≡ front-as.Refused k → r ≡ refused-of f → Tells (normal-answer (lent l) s) (l .out) (l .out) r
+  unfolding normal-answer
+  front-refuses l e g = front-tells h _ (l .out) e g
 
-  module _ {k : ℕ} (e : f ≡ front-as.Behind k) where
+  module _ {k : ℕ} (e : f ≡ front-as.Behind k) (l : Slices) where
     abbrev here : Fronts s (front-as.Behind k)
     here = subst (Fronts s) e h
 
-    pub front-short : (l : Slices) → fit l ≡ false → Zero l → Normalizes s l l (Refused 14)
-    unfolding normalized normal-answer normal-work-fits if_then_else_
-    front-short l g z = refusal-leaves l z ∙ ap (λ (a : n.Answer). leaves a l) (sym (here .is _ ∙ rw g))
+    pub front-short : fit l ≡ false → Tells (normal-answer (lent l) s) (l .out) (l .out) (Refused 14)
+    unfolding normal-answer normal-work-fits if_then_else_
+    front-short g = tells-refusal (here .is _ ∙ rw g)
 
-    after-is : (l : Slices) → fit l ≡ true → normal-answer (lent l) s ≡ within (length (l .out)) (normal-after s (demangle most-symbol-bytes s))
-    unfolding normal-answer normal-work-fits if_then_else_ demangle
-    after-is l g = here .is _ ∙ rw g (ap (λ (a : n.Answer). within (length (l .out)) (normal-after s a)) (sym (here .is mangled-name)))
+    module _ (g : fit l ≡ true) where
+      after-is : normal-answer (lent l) s ≡ within (length (l .out)) (normal-after s (demangle most-symbol-bytes s))
+      unfolding normal-answer normal-work-fits if_then_else_ demangle
+      after-is = here .is _ ∙ rw g (ap (λ (a : n.Answer). within (length (l .out)) (normal-after s a)) (sym (here .is mangled-name)))
 
-    module _ (l : Slices) (g : fit l ≡ true) {text store ends : Text} {j : ℕ} (a : Accepts s (slices [] (l .text) (l .store) (l .ends)) (slices [] text store ends) j) where
-      pub reading-refuses : (j ≡ 0 → ⊥) → Normalizes s l (slices (l .out) text store ends) (Refused j)
-      unfolding normalized within
-      reading-refuses z =
-          told-leaves l (slices (l .out) text store ends)
-          (tells-refusal (after-is l g ∙ ap (within (length (l .out))) (after-refused s (demangle most-symbol-bytes s) (a .number) z)))
-          (a .text) (a .store) (a .ends)
+      module _ {j : ℕ} (a : j ≡ number-of (demangle most-symbol-bytes s)) where
+        pub reading-refuses : (j ≡ 0 → ⊥) → Tells (normal-answer (lent l) s) (l .out) (l .out) (Refused j)
+        unfolding within
+        reading-refuses z = tells-refusal (after-is ∙ ap (within (length (l .out))) (after-refused s (demangle most-symbol-bytes s) a z))
 
-      pub reading-accepts : (m : Slices) {r : Answer} → j ≡ 0 → Normal s (l .out) (m .out) (zeros (length text)) (m .text) (zeros (length ends)) (m .ends) r
-          → m .store ≡ store → Normalizes s l m r
-      unfolding normalized
-      reading-accepts m z i c =
-          told-leaves l m
-          (tells-as (sym (after-is l g ∙ ap (within (length (l .out))) (after-accepted s (demangle most-symbol-bytes s) (never-0 most-symbol-bytes s) (a .number) z))) (i .tells))
-          (i .text-is ∙ ap zeros (again (l .text) text (a .text))) (c ∙ a .store) (i .ends-is ∙ ap zeros (again (l .ends) ends (a .ends)))
+        pub reading-accepts : {out : Text} {r : Answer} → j ≡ 0 → Tells (accepted-answer (length (l .out)) s) (l .out) out r
+            → Tells (normal-answer (lent l) s) (l .out) out r
+        reading-accepts z i =
+            tells-as (sym (after-is ∙ ap (within (length (l .out))) (after-accepted s (demangle most-symbol-bytes s) (never-0 most-symbol-bytes s) a z))) i
 
--- ---- only the lengths of the work slices matter
+-- ---- an answer that was told, and work slices that are zero
 
-pub cleared-normalized : {text store ends text' store' ends' : Text} → Cleared (mem text store ends) (mem text' store' ends') → (s out : Text)
-    → normalized s (slices out text' store' ends') ≡ normalized s (slices out text store ends)
-unfolding normalized leaves
-cleared-normalized {text} {store} {ends} {text'} {store'} {ends'} h s out = rw (again text text' (h .text), again store store' (h .store), again ends ends' (h .ends))
+pub told-normalizes : (s : Text) (l m : Slices) {r : Answer} → Tells (normal-answer (lent l) s) (l .out) (m .out) r → m .text ≡ zeros (length (l .text))
+    → m .store ≡ zeros (length (l .store)) → m .ends ≡ zeros (length (l .ends)) → Normalizes s l m r
+unfolding normalized
+told-normalizes s l m h e f g = told-leaves l m h e f g

@@ -1,6 +1,6 @@
 pub mod Outcome
 pub mod Parts
-pub mod Wiping
+pub mod Written
 pub mod Answers
 pub mod Runs
 pub mod Demand

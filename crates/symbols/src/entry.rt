@@ -8,19 +8,18 @@ use store::stack;
 use writer::symbol as writing;
 use writer::symbol::Written;
 ghost use mathlib.Core.Bool.{_&&_};
-ghost use mathlib.Core.List.{[], _++_};
+ghost use mathlib.Core.List.{[]};
 ghost use mathlib.Core.Option.{some};
 ghost use mathlib.Core.Path.{_≡_};
-ghost use Prim.Native.Nat.{_+_, _≤_};
+ghost use Prim.Native.Nat.{_≤_};
 ghost use lib.Dec.{leb};
-ghost use lib.ListN.{length, take, drop};
-ghost use Rattle.grammar.specs.Names.{within};
-ghost use Rattle.catalogue.specs.Answer.{normal-told};
-ghost use Rattle.store.specs.Stack.{zeros};
-ghost use Rattle.names.specs.Outcome.{slices, Zero, number-in};
+ghost use lib.ListN.{length, take};
+ghost use Rattle.grammar.specs.Names.{demangle, most-symbol-bytes, number-of, within};
+ghost use Rattle.catalogue.specs.Answer.{normal-told, normal-answer};
+ghost use Rattle.names.specs.Outcome.{slices, lent, number-in};
 ghost use Rattle.names.specs.Printed.{Tells};
 ghost use Rattle.symbols.specs.Outcome.{Normalizes};
-ghost use Rattle.symbols.specs.Parts.{Long, Accepts, Normal, Used};
+ghost use Rattle.symbols.specs.Parts.{Long, accepted-answer};
 
 // The least length of `ends`; those of `text` and `store` are symbol::TEXT and symbol::STORE.
 pub const ENDS: usize = 24576;
@@ -36,23 +35,23 @@ pub fn normalize(
     ensures { λ r. ⌜ Normalizes (now (s .entry)) (slices (now (out .entry)) (now (text .entry)) (now (store .entry)) (now (ends .entry)))
         (slices (now (out .exit)) (now (text .exit)) (now (store .exit)) (now (ends .exit))) r ⌝ }
 {
+    let answer = normalize_uncleared(s, out, text, store, ends);
     stack::clear(text);
     stack::clear(store);
     stack::clear_ends(ends);
-    normalize_zeroed(s, out, text, store, ends)
+    answer
 }
 
-// The same, where the work slices are zero.
-pub fn normalize_zeroed(
+// The same, but what the work slices hold at the end is left free: for callers that clear them once for many symbols.
+pub fn normalize_uncleared(
     s: &[u8],
     out: &mut [u8],
     text: &mut [u8],
     store: &mut [u8],
     ends: &mut [u16],
 ) -> Answer
-    requires { ⌜ Zero (slices (now out) (now text) (now store) (now ends)) ⌝ }
-    ensures { λ r. ⌜ Normalizes (now (s .entry)) (slices (now (out .entry)) (now (text .entry)) (now (store .entry)) (now (ends .entry)))
-        (slices (now (out .exit)) (now (text .exit)) (now (store .exit)) (now (ends .exit))) r ⌝ }
+    ensures { λ r. ⌜ Tells (normal-answer (lent (slices (now (out .entry)) (now (text .entry)) (now (store .entry)) (now (ends .entry)))) (now (s .entry)))
+        (now (out .entry)) (now (out .exit)) r ⌝ }
 {
     let front = symbol::behind_front(s);
     let Front::Behind(_) = front else {
@@ -65,12 +64,12 @@ pub fn normalize_zeroed(
     if first != 0 {
         return Answer::Refused(first);
     }
-    write_within(s, out, text, ends)
+    write_within(s, out, store, ends)
 }
 
 // Whether the work slices are as long as they have to be.
 fn work_fits(text: usize, store: usize, ends: usize) -> bool
-    ensures { λ r. ⌜ r ≡ (leb 65536 text && leb 65536 store && leb 24576 ends) ⌝ }
+    ensures { λ r. ⌜ r ≡ (leb 51200 text && leb 65536 store && leb 24576 ends) ⌝ }
 {
     if text < symbol::TEXT {
         return false;
@@ -83,12 +82,11 @@ fn work_fits(text: usize, store: usize, ends: usize) -> bool
 
 // The reading for the name: the number of its refusal, or 0. Its contract settles the number, and not the variant that tells it.
 fn accepted(s: &[u8], text: &mut [u8], store: &mut [u8], ends: &mut [u16]) -> u8
-    requires { ⌜ (Long (slices [] (now text) (now store) (now ends))) × Zero (slices [] (now text) (now store) (now ends)) ⌝ }
-    ensures { λ r. ⌜ Accepts (now (s .entry)) (slices [] (now (text .entry)) (now (store .entry)) (now (ends .entry)))
-        (slices [] (now (text .exit)) (now (store .exit)) (now (ends .exit))) r ⌝ }
+    requires { ⌜ Long (slices [] (now text) (now store) (now ends)) ⌝ }
+    ensures { λ r. ⌜ r ≡ number-of (demangle most-symbol-bytes (now (s .entry))) ⌝ }
 {
     let mut name = [0u8; 16384];
-    number(reading::demangle_zeroed(s, &mut name, text, store, ends))
+    number(reading::demangle_uncleared(s, &mut name, text, store, ends))
 }
 
 fn number(got: Answer) -> u8
@@ -100,28 +98,27 @@ fn number(got: Answer) -> u8
     }
 }
 
-// The normal symbol of an accepted symbol.
-fn write_within(s: &[u8], out: &mut [u8], text: &mut [u8], ends: &mut [u16]) -> Answer
-    requires { ⌜ (length (now s) ≤ 4096) × (((65536 ≤ length (now text)) × (now text ≡ zeros (length (now text))))
-        × ((24576 ≤ length (now ends)) × (now ends ≡ zeros (length (now ends))))) ⌝ }
-    ensures { λ r. ⌜ Normal (now (s .entry)) (now (out .entry)) (now (out .exit)) (zeros (length (now (text .entry)))) (now (text .exit))
-        (zeros (length (now (ends .entry)))) (now (ends .exit)) r ⌝ }
+// The normal symbol of an accepted symbol. It is written in `store` first: `text` may be too short for it.
+fn write_within(s: &[u8], out: &mut [u8], store: &mut [u8], ends: &mut [u16]) -> Answer
+    requires { ⌜ (length (now s) ≤ 4096) × ((65536 ≤ length (now store)) × (24576 ≤ length (now ends))) ⌝ }
+    ensures { λ r. ⌜ Tells (accepted-answer (length (now (out .entry))) (now (s .entry))) (now (out .entry)) (now (out .exit)) r ⌝ }
 {
-    write(s, out, &mut text[..Writer::OUT], &mut ends[..Writer::NOTES])
+    write(
+        s,
+        out,
+        &mut store[..Writer::OUT],
+        &mut ends[..Writer::NOTES],
+    )
 }
 
-fn write(s: &[u8], out: &mut [u8], text: &mut [u8], notes: &mut [u16]) -> Answer
-    requires { ⌜ (length (now s) ≤ 4096) × ((now text ≡ zeros 65536) × (now notes ≡ zeros 24576)) ⌝ }
-    ensures { λ r. ⌜ Normal (now (s .entry)) (now (out .entry)) (now (out .exit)) (zeros 65536) (now (text .exit)) (zeros 24576) (now (notes .exit)) r ⌝ }
+fn write(s: &[u8], out: &mut [u8], store: &mut [u8], notes: &mut [u16]) -> Answer
+    requires { ⌜ (length (now s) ≤ 4096) × ((length (now store) ≡ 65536) × (length (now notes) ≡ 24576)) ⌝ }
+    ensures { λ r. ⌜ Tells (accepted-answer (length (now (out .entry))) (now (s .entry))) (now (out .entry)) (now (out .exit)) r ⌝ }
 {
-    let Written::Symbol(p) = writing::write_symbol(s, text, notes) else {
-        stack::clear(text);
-        stack::clear_ends(notes);
+    let Written::Symbol(p) = writing::write_symbol(s, store, notes) else {
         return Answer::Refused(6);
     };
-    let answer = print(out, text, p.out);
-    wipe(text, notes, p);
-    answer
+    print(out, store, p.out)
 }
 
 // The first n bytes as the normal symbol: 13 where it is too long, 12 where `out` is too short.
@@ -137,26 +134,4 @@ fn print(out: &mut [u8], text: &[u8], n: usize) -> Answer
     }
     stack::copy(out, 0, &text[..n]);
     Answer::Name(n)
-}
-
-// What was written and noted goes.
-fn wipe(text: &mut [u8], notes: &mut [u16], p: Writer)
-    requires { ⌜ Used (now text) (now notes) p ⌝ }
-    ensures { λ _. ⌜ (now (text .exit) ≡ zeros 65536) × (now (notes .exit) ≡ zeros 24576) ⌝ }
-{
-    let end = p.out;
-    stack::clear(&mut text[..end]);
-    let nodes = 4 * p.nodes;
-    wipe_part(notes, 0, nodes);
-    wipe_part(notes, Writer::TABLE, p.table);
-    wipe_part(notes, Writer::FIRSTS, p.firsts);
-}
-
-// The n numbers from `from` on become zero.
-fn wipe_part(notes: &mut [u16], from: usize, n: usize)
-    requires { ⌜ from + n ≤ length (now notes) ⌝ }
-    ensures { λ _. ⌜ now (notes .exit) ≡ take from (now (notes .entry)) ++ (zeros n ++ drop (from + n) (now (notes .entry))) ⌝ }
-{
-    let end = from + n;
-    stack::clear_ends(&mut notes[from..end]);
 }

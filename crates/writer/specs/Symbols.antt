@@ -1,19 +1,16 @@
 -- Whole symbols: the state at the start, the name, the types, and the answer. Assumes nothing.
 use mathlib.Core.Bool.{Bool, true, false, false≢true, not, _&&_}
-use mathlib.Core.List.{[], _∷_, _++_}
+use mathlib.Core.List.{[], _∷_}
 use mathlib.Core.Option.{Option, none, some}
-use mathlib.Core.Path.{_≡_, refl, sym, ap, ap₂, subst, _∙_}
+use mathlib.Core.Path.{_≡_, refl, sym, ap, subst, _∙_}
 use Prim.Native.Nat.{ℕ, suc, _+_, _-_, _*_, _≤_, _<_}
 use native.Mathlib.Omega.{arith}
 use borrow.Author.Tests.{eq-eqb, ne-eqb, le-leb, lt-leb}
 use lib.Dec.{eqb}
 use lib.ListN.{length, drop, length-drop}
-use lib.Seq.{paste}
 use Rattle.grammar.specs.Text.{Text, if_then_else_, starts}
 use Rattle.grammar.specs.Laws.{starts-nothing}
-use Rattle.store.specs.Stack.{zeros}
-use Rattle.store.specs.Table.{pad}
-use Rattle.store.specs.Lists.{pad-none, pad-paste, zeros-zeros}
+use Rattle.store.specs.Table.{Front}
 use Rattle.catalogue.specs.Spelling.{nameBytes}
 use Rattle.catalogue.specs.Recogniser.{Rd, stop, ifNext}
 use Rattle.walk.specs.Walk.{name}
@@ -50,7 +47,8 @@ use Rattle.normal.specs.Told.{Answered, answered, refused}
 use Rattle.normal.specs.Limits.{spent-room}
 use Rattle.normal.specs.LeafSteps.{name-size}
 use Rattle.normal.specs.Answers.{NameAt}
-use Rattle.normal.specs.Holds.{nodes-in, flat, Inside, noting, Holds, Ready, Spent, Room, Refines, Fueled, Does, Puts, Tag, closed}
+use Rattle.normal.specs.Regions.{regions-none}
+use Rattle.normal.specs.Holds.{nodes-in, flat, Inside, Holds, Ready, Spent, Room, Refines, Fueled, Does, Puts, Tag, closed}
 use Rattle.writer.specs.Writes.{Writes, writes, outside, Heads, heads, nameless, Scoped, Plain, Functions, at-plain, Ended, ended, broken, Types}
 use Rattle.normal.specs.declared.state.Writer.{Writer}
 use Rattle.normal.specs.declared.state.Told.{Told}
@@ -62,17 +60,10 @@ use Rattle.writer.specs.declared.symbol.Written.the-variants.{Symbol, Ba
 
 -- ---------------------------------------------------------------- the start
 
-noting-none : zeros 24576 ≡ noting [] []
-unfolding flat add-all
-noting-none =
-    sym (zeros-zeros 16384 8192)
-    ∙ ap₂ (λ (x y : Text). x ++ y) (sym (pad-none 16384))
-    (sym (zeros-zeros 4096 4096) ∙ ap₂ (λ (x y : Text). x ++ y) (sym (pad-none 4096)) (sym (pad-none 4096)))
-
 -- nothing is noted, and w is written
 pub begun-holds : (s w : Text) (at : ℕ) {out ns : Text} {p : Writer} → p ≡ begun-at at (length w) → length s ≤ 4096 → at ≤ length s → length w ≤ 16 * at
-    → out ≡ pad 65536 w → ns ≡ zeros 24576 → Holds s out ns p (notes w [] [] 0 (drop at s))
-unfolding nodes-in Inside add-all
+    → Front 65536 w out → length ns ≡ 24576 → Holds s out ns p (notes w [] [] 0 (drop at s))
+unfolding nodes-in flat Inside add-all
 begun-holds s w at {out} {ns} {p} e l h k o z = subst (λ (q : Writer). Holds s out ns q (notes w [] [] 0 (drop at s))) (sym e) (record {
   source = l;
   place = h;
@@ -80,7 +71,7 @@ begun-holds s w at {out} {ns} {p} e l h k o z = subst (λ (q : Writer). Holds s 
   rows = [];
   inside = tt;
   nodes-are = refl;
-  notes-are = z ∙ noting-none;
+  notes-are = regions-none z;
   nodes-count = refl;
   table-count = refl;
   firsts-count = refl;
@@ -100,11 +91,6 @@ module _ {s out ns : Text} where
   heads-by : {r : Headed} {f g : Got Bool} → f ≡ g → Heads s out ns r g → Heads s out ns r f
   heads-by {r = r} e h = subst (λ (x : Got Bool). Heads s out ns r x) (sym e) h
 
--- ---------------------------------------------------------------- _Z, _ZN or _ZNK
-
-pub begun-writes : (w : Text) {o o' : Text} → length w ≤ 4 → o ≡ zeros 65536 → o' ≡ paste o 0 w (length w) → o' ≡ pad 65536 w
-begun-writes w h z e = e ∙ ap (λ (t : Text). paste t 0 w (length w)) (z ∙ sym (pad-none 65536)) ∙ pad-paste 65536 [] w (omega arith)
-
 -- ---------------------------------------------------------------- a source name
 
 pub plain-none : (s : Text) {o : Text} → name (drop 2 s) ≡ stop → Plain s o no-name
@@ -118,7 +104,7 @@ module _ {s : Text} {from to : ℕ} (h : NameAt s 2 from to) where
   pub plain-size : length word + 2 ≡ to
   plain-size = let z = name-size h in omega arith
 
-  pub plain-heads : {o o' : Text} {p q : Writer} → p ≡ moved-to (begun-at 2 2) to → length s ≤ 4096 → o ≡ pad 65536 (95 ∷ 90 ∷ []) → Puts word o o' p q
+  pub plain-heads : {o o' : Text} {p q : Writer} → p ≡ moved-to (begun-at 2 2) to → length s ≤ 4096 → Front 65536 (95 ∷ 90 ∷ []) o → Puts word o o' p q
       → Plain s o' (Name q false)
   plain-heads {o} {o'} {p} {q} e l z f n y =
       let a : p .at ≡ to = ap (λ (x : Writer). x .at) e in
@@ -137,20 +123,20 @@ pub record Begun (s w o n : Text) (p : Writer) : Type 0 where
   pub source : length s ≤ 4096
   pub two : 2 ≤ length w
   pub fits : length w ≤ length s
-  pub out-is : o ≡ pad 65536 w
-  pub notes-are : n ≡ zeros 24576
+  pub out-is : Front 65536 w o
+  pub notes-size : length n ≡ 24576
 
-pub begun-by : {s w o o' n : Text} {p : Writer}
-    → ((length s ≤ 4096) × ((2 ≤ length w) × ((length w ≤ 4) × (length w ≤ length s)))) × ((o ≡ zeros 65536) × (n ≡ zeros 24576))
-    → (p ≡ begun-at (length w) (length w)) × (o' ≡ pad 65536 w) → Begun s w o' n p
-begun-by h k = record { is = k .0; source = h .0 .0; two = h .0 .1 .0; fits = h .0 .1 .1 .1; out-is = k .1; notes-are = h .1 .1 }
+pub begun-by : (s w n : Text) {o : Text} {p : Writer}
+    → (length s ≤ 4096) × ((2 ≤ length w) × ((length w ≤ 4) × (length w ≤ length s))) → length n ≡ 24576
+    → (p ≡ begun-at (length w) (length w)) × Front 65536 w o → Begun s w o n p
+begun-by s w n h z k = record { is = k .0; source = h .0; two = h .1 .0; fits = h .1 .1 .1; out-is = k .1; notes-size = z }
 
 abbrev pub first : Text → Text → Notes
 first s w = notes w [] [] 0 (drop (length w) s)
 
 module _ {s w o n : Text} {p : Writer} (b : Begun s w o n p) where
   pub scoped-holds : Holds s o n p (first s w)
-  scoped-holds = begun-holds s w (length w) (b .is) (b .source) (b .fits) (omega arith) (b .out-is) (b .notes-are)
+  scoped-holds = begun-holds s w (length w) (b .is) (b .source) (b .fits) (omega arith) (b .out-is) (b .notes-size)
 
   at-is : p .at ≡ length w
   at-is = ap (λ (x : Writer). x .at) (b .is)
@@ -207,7 +193,7 @@ module _ (m : ℕ) where
   nested t = ifNext 75 t constant (other t)
 
 module _ (s : Text) {o n : Text} {r : Headed} where
-  pub function-plain : starts (drop 2 s) (78 ∷ []) ≡ false → n ≡ zeros 24576 → Plain s o r → Functions s o n r
+  pub function-plain : starts (drop 2 s) (78 ∷ []) ≡ false → length n ≡ 24576 → Plain s o r → Functions s o n r
   function-plain h z f m k = heads-by (next-not 78 (nested m) (at-plain (drop 2 s)) (drop 2 s) h) (f n z)
 
   module _ (h : starts (drop 2 s) (78 ∷ []) ≡ true) where

@@ -6,7 +6,6 @@ use mathlib.Core.Path.{_≡_}
 use Prim.Native.Nat.{ℕ, _+_, _≤_}
 use lib.ListN.{length, drop}
 use Rattle.grammar.specs.Text.{Text}
-use Rattle.store.specs.Stack.{zeros}
 use Rattle.catalogue.specs.Spelling.{nameBytes}
 use Rattle.walk.specs.Walk.{name}
 use Rattle.nodes.specs.Nodes.{
@@ -47,7 +46,7 @@ abbrev pub at-plain : Text → Got Bool
 at-plain t = with (name t) (λ n r. got false (begun (nameBytes n) r))
 
 abbrev pub Plain : Text → Text → Headed → Type 0
-Plain s o' r = (n : Text) → n ≡ zeros 24576 → Heads s o' n r (at-plain (drop 2 s))
+Plain s o' r = (n : Text) → length n ≡ 24576 → Heads s o' n r (at-plain (drop 2 s))
 
 -- a nested name, behind the word w
 abbrev pub Scoped : Text → Bool → Text → Text → Text → Headed → Type 0

@@ -11,8 +11,7 @@ use store::stack;
 ghost use mathlib.Core.Path.{_≡_};
 ghost use Prim.Native.Nat.{_≤_};
 ghost use lib.ListN.{length};
-ghost use Rattle.store.specs.Stack.{zeros};
-ghost use Rattle.store.specs.Table.{pad};
+ghost use Rattle.store.specs.Table.{Front};
 ghost use Rattle.nodes.specs.Nodes.{note-symbol};
 ghost use Rattle.normal.specs.States.{begun-at};
 ghost use Rattle.normal.specs.Holds.{Ready};
@@ -32,8 +31,8 @@ pub enum Headed {
 
 // "_Z", "_ZN" or "_ZNK" is written, and taken.
 fn begin(out: &mut [u8], word: &[u8]) -> Writer
-    requires { ⌜ (length (now word) ≤ 4) × (now out ≡ zeros 65536) ⌝ }
-    ensures { λ r. ⌜ (r ≡ begun-at (length (now (word .entry))) (length (now (word .entry)))) × (now (out .exit) ≡ pad 65536 (now (word .entry))) ⌝ }
+    requires { ⌜ (length (now word) ≤ 4) × (length (now out) ≡ 65536) ⌝ }
+    ensures { λ r. ⌜ (r ≡ begun-at (length (now (word .entry))) (length (now (word .entry)))) × Front 65536 (now (word .entry)) (now (out .exit)) ⌝ }
 {
     stack::copy(out, 0, word);
     let n = word.len();
@@ -42,7 +41,7 @@ fn begin(out: &mut [u8], word: &[u8]) -> Writer
 
 // <source-name>
 fn plain(s: &[u8], out: &mut [u8]) -> Headed
-    requires { ⌜ (length (now s) ≤ 4096) × (now out ≡ zeros 65536) ⌝ }
+    requires { ⌜ (length (now s) ≤ 4096) × (length (now out) ≡ 65536) ⌝ }
     ensures { λ r. ⌜ Plain (now (s .entry)) (now (out .exit)) r ⌝ }
 {
     let Named::At(from, to) = words::source_name(s, 2) else {
@@ -55,7 +54,7 @@ fn plain(s: &[u8], out: &mut [u8]) -> Headed
 // <parts> E behind N or NK, without arguments at the end
 fn scoped(s: &[u8], out: &mut [u8], notes: &mut [u16], word: &[u8], constant: bool) -> Headed
     requires { ⌜ ((length (now s) ≤ 4096) × ((2 ≤ length (now word)) × ((length (now word) ≤ 4) × (length (now word) ≤ length (now s)))))
-        × ((now out ≡ zeros 65536) × (now notes ≡ zeros 24576)) ⌝ }
+        × ((length (now out) ≡ 65536) × (length (now notes) ≡ 24576)) ⌝ }
     ensures { λ r. ⌜ Scoped (now (word .entry)) constant (now (s .entry)) (now (out .exit)) (now (notes .exit)) r ⌝ }
 {
     let begun = begin(out, word);
@@ -70,7 +69,7 @@ fn scoped(s: &[u8], out: &mut [u8], notes: &mut [u16], word: &[u8], constant: bo
 
 // <name> ::= <source-name> | N [K] <parts> E
 fn function(s: &[u8], out: &mut [u8], notes: &mut [u16]) -> Headed
-    requires { ⌜ (length (now s) ≤ 4096) × ((now out ≡ zeros 65536) × (now notes ≡ zeros 24576)) ⌝ }
+    requires { ⌜ (length (now s) ≤ 4096) × ((length (now out) ≡ 65536) × (length (now notes) ≡ 24576)) ⌝ }
     ensures { λ r. ⌜ Functions (now (s .entry)) (now (out .exit)) (now (notes .exit)) r ⌝ }
 {
     if !bytes::starts_with(s, 2, b"N") {
@@ -102,7 +101,7 @@ fn types(s: &[u8], out: &mut [u8], notes: &mut [u16], p: Writer) -> Written
 
 // <encoding> ::= <name> [<type>+]; at most 1,024 arguments
 pub fn write_symbol(s: &[u8], out: &mut [u8], notes: &mut [u16]) -> Written
-    requires { ⌜ (length (now s) ≤ 4096) × ((now out ≡ zeros 65536) × (now notes ≡ zeros 24576)) ⌝ }
+    requires { ⌜ (length (now s) ≤ 4096) × ((length (now out) ≡ 65536) × (length (now notes) ≡ 24576)) ⌝ }
     ensures { λ r. ⌜ Writes (now (s .entry)) (now (out .exit)) (now (notes .exit)) r (note-symbol (now (s .entry))) ⌝ }
 {
     if !bytes::starts_with(s, 0, b"_Z") {

@@ -28,7 +28,7 @@ enum-known-w : tie.Need-enum-known-w Inv-loop μ-loop
 enum-known-w c = search needs
 
 put-word-requires : tie.Need-put-word-requires Inv-loop μ-loop
-put-word-requires c κs = (c .before .before .before .before .before .before .before .loop .inv .adds .clean, picked-at (c .before .before .before .before .qualifier .ensures) (c .before .before .w .given .1) .1)
+put-word-requires c κs = (c .before .before .before .before .before .before .before .loop .inv .adds .stack, picked-at (c .before .before .before .before .qualifier .ensures) (c .before .before .w .given .1) .1)
 
 sub-sum : tie.Need-sub-sum Inv-loop μ-loop
 sub-sum c = omega (arith, picked-at (c .before .before .before .before .before .before .before .before .qualifier .ensures) (c .before .before .before .before .before .before .w .given .1) .1)
@@ -60,7 +60,7 @@ given-requires : tie.Need-given-requires Inv-loop μ-loop
 given-requires c κs = search needs
 
 same-length : tie.Need-same-length Inv-loop μ-loop
-same-length c = omega (arith, c .before .before .loop .inv .adds .clean .size, c .before .before .before .before .before .pre .0 .size)
+same-length c = omega (arith, c .before .before .loop .inv .adds .stack .size, c .before .before .before .before .before .pre .0 .size)
 
 returns : tie.Need-returns Inv-loop μ-loop
 returns c = qualifying-done (c .before .before .loop .inv) (omega arith) (c .given .ensures)

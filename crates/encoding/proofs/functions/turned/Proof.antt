@@ -6,7 +6,7 @@ use native.Mathlib.Omega.{arith}
 use lib.ListN.{take, drop, length-drop}
 use lib.Seq.{length-take-le}
 use Rattle.grammar.specs.Text.{Text, b}
-use Rattle.store.specs.Stack.{Clean}
+use Rattle.store.specs.Stack.{Stack}
 use Rattle.parser.specs.declared.state.Parser.{Parser}
 use Rattle.parser.specs.Holds.{Puts}
 use Rattle.parser.specs.Laws.{holds-puts}
@@ -16,12 +16,12 @@ use Rattle.encoding.proofs.functions.turned.Statement.{statement}
 use Rattle.encoding.proofs.functions.turned.Tie as tie
 
 -- the name stands once more on the top
-again-room : {text text₁ text₂ : Text} {p p₁ p₂ : Parser} {c m : ℕ} → Clean text (p .top) → c ≤ 16384 → m ≤ 16384 → c + m ≤ p .top
+again-room : {text text₁ text₂ : Text} {p p₁ p₂ : Parser} {c m : ℕ} → Stack text (p .top) → c ≤ 16384 → m ≤ 16384 → c + m ≤ p .top
     → Puts text text₁ p p₁ (32 ∷ []) → Puts text₁ text₂ p₁ p₂ (take c (drop (p₁ .top - (c + m + 1)) text₁)) → c + m + 1 + c ≤ p₂ .top
 again-room {text₁ = text₁} {p₁ = p₁} {c = c} {m = m} h i j l u v =
     let e = puts-top (c + m) h u l (omega arith) in
-    let z = length-take-le c (drop (p₁ .top - (c + m + 1)) text₁) (simp length-drop (omega (arith, u .put .clean .size, u .put .clean .most))) in
-    omega (arith, puts-top (c + m + 1) (u .put .clean) v (omega (arith, e)) (omega arith), z)
+    let z = length-take-le c (drop (p₁ .top - (c + m + 1)) text₁) (simp length-drop (omega (arith, u .put .stack .size, u .put .stack .most))) in
+    omega (arith, puts-top (c + m + 1) (u .put .stack) v (omega (arith, e)) (omega arith), z)
 
 slice-aggregate-put : tie.Need-slice-aggregate-put
 slice-aggregate-put c = search needs
@@ -38,7 +38,7 @@ add-d-2 c = search needs
 again-requires : tie.Need-again-requires
 again-requires c κs =
     let a = c .before .before .before .before .before .before .before in
-    (c .before .before .before .put .ensures .put .clean, (omega arith, (omega (arith, puts-top (a .args .c + a .args .m) (a .pre .0) (c .before .before .before .put .ensures) (a .pre .1 .1 .1) (omega (arith, a .pre .1 .0, a .pre .1 .1 .0))), (omega (arith, a .pre .1 .0, a .pre .1 .1 .0), a .pre .1 .0))))
+    (c .before .before .before .put .ensures .put .stack, (omega arith, (omega (arith, puts-top (a .args .c + a .args .m) (a .pre .0) (c .before .before .before .put .ensures) (a .pre .1 .1 .1) (omega (arith, a .pre .1 .0, a .pre .1 .1 .0))), (omega (arith, a .pre .1 .0, a .pre .1 .1 .0), a .pre .1 .0))))
 
 add-n : tie.Need-add-n
 add-n c = search needs
@@ -50,7 +50,7 @@ cut-requires : tie.Need-cut-requires
 cut-requires c κs =
     let a = c .before .before .before .before .before .before .before .before .before .before .before in
     let u = c .before .before .before .before .before .before .before .put .ensures in
-    (c .before .before .before .again .ensures .put .clean, omega (arith, again-room (a .pre .0) (a .pre .1 .0) (a .pre .1 .1 .0) (a .pre .1 .1 .1) u (c .before .before .before .again .ensures)))
+    (c .before .before .before .again .ensures .put .stack, omega (arith, again-room (a .pre .0) (a .pre .1 .0) (a .pre .1 .1 .0) (a .pre .1 .1 .1) u (c .before .before .before .again .ensures)))
 
 same-length : tie.Need-same-length
 same-length c = search needs

@@ -5,7 +5,7 @@ use native.Mathlib.Omega.{arith}
 use Rattle.grammar.specs.Text.{b}
 use Rattle.grammar.specs.Words.{Picked-inside}
 use Rattle.grammar.proofs.Lookups.{length-spelled}
-use Rattle.parser.specs.Adds.{clean-by}
+use Rattle.parser.specs.Adds.{stack-by}
 use Rattle.encoding.specs.Specials.{fresh-holds, label-holds, label-refused, label-got, label-given, other-read}
 use borrow.Author.Needs.{needs}
 use Rattle.encoding.proofs.mangled.encoding.Statement.{statement}
@@ -62,7 +62,7 @@ moved-requires : tie.Need-moved-requires
 moved-requires c κs = search needs
 
 put-word-requires : tie.Need-put-word-requires
-put-word-requires c κs = (clean-by (c .moved .ensures) (c .before .before .before .before .before .before .before .before .before .before .before .before .before .pre .1 .1 .text), subst Picked-inside (c .before .before .before .w .given .1) (c .before .before .before .before .before .label .ensures .inside))
+put-word-requires c κs = (stack-by (c .moved .ensures) (c .before .before .before .before .before .before .before .before .before .before .before .before .before .pre .1 .1 .text), subst Picked-inside (c .before .before .before .w .given .1) (c .before .before .before .before .before .label .ensures .inside))
 
 ty-requires : tie.Need-ty-requires
 ty-requires c κs = (_, label-holds (c .before .before .before .before .before .before .before .before .before .before .before .before .before .before .before .before .before .before .before .pre .0) (c .before .before .before .before .before .before .before .before .before .before .before .before .before .before .before .before .before .before .before .pre .1 .1) (c .before .before .before .before .before .before .before .before .before .before .before .label .ensures) (c .before .before .before .before .before .before .before .before .before .w .given .1) (c .before .before .before .before .before .before .moved .ensures) (c .before .before .before .before .before .put-word .ensures))

@@ -6,8 +6,8 @@ use native.Mathlib.Omega.{arith}
 use lib.ListN.{length, length-drop}
 use Rattle.grammar.specs.Text.{b, starts}
 use Rattle.store.specs.Lists.{second-lent}
-use Rattle.parser.specs.Adds.{clean-by}
-use Rattle.encoding.specs.Clones.{blank-text, Clones, clones-start, clone-fits, clones-more, clones-fresh, clones-alone, clones-refused, clones-got, clones-given}
+use Rattle.parser.specs.Adds.{stack-by}
+use Rattle.encoding.specs.Clones.{least-text, Clones, clones-start, clone-fits, clones-more, clones-fresh, clones-alone, clones-refused, clones-got, clones-given}
 use borrow.Author.Needs.{needs}
 use Rattle.encoding.proofs.mangled.mangled_name.Statement.{statement}
 use Rattle.encoding.proofs.mangled.mangled_name.Tie as tie
@@ -22,7 +22,7 @@ new-requires : tie.Need-new-requires Inv-loop μ-loop
 new-requires c κs = search needs
 
 loop-holds : tie.Need-loop-holds Inv-loop μ-loop
-loop-holds c = clones-start (c .before .before .before .before .before .args .s .now) (clean-by (c .new .ensures) (blank-text (c .before .before .before .before .before .pre .1)))
+loop-holds c = clones-start (c .before .before .before .before .before .args .s .now) (stack-by (c .new .ensures) (least-text (c .before .before .before .before .before .pre .1)))
 
 slice-aggregate-starts-with : tie.Need-slice-aggregate-starts-with Inv-loop μ-loop
 slice-aggregate-starts-with c = search needs
@@ -34,7 +34,7 @@ slice-aggregate-put : tie.Need-slice-aggregate-put Inv-loop μ-loop
 slice-aggregate-put c = search needs
 
 put-requires : tie.Need-put-requires Inv-loop μ-loop
-put-requires c κs = (c .before .before .before .before .before .loop .inv .adds .clean, omega arith)
+put-requires c κs = (c .before .before .before .before .before .loop .inv .adds .stack, omega arith)
 
 sum-requires : tie.Need-sum-requires Inv-loop μ-loop
 sum-requires c κs = (omega (arith, c .before .before .before .before .before .before .before .before .loop .inv .size-is), omega arith)
@@ -74,7 +74,7 @@ enum-told : tie.Need-enum-told Inv-loop μ-loop
 enum-told c = search needs
 
 same-length : tie.Need-same-length Inv-loop μ-loop
-same-length c = omega (arith, c .before .before .before .before .before .before .before .before .encoding .kept, c .before .before .before .before .before .before .before .before .before .before .before .before .before .before .before .before .loop .inv .adds .clean .size, blank-text (c .before .before .before .before .before .before .before .before .before .before .before .before .before .before .before .before .before .before .before .before .before .before .pre .1) .size)
+same-length c = omega (arith, c .before .before .before .before .before .before .before .before .encoding .kept, c .before .before .before .before .before .before .before .before .before .before .before .before .before .before .before .before .loop .inv .adds .stack .size, least-text (c .before .before .before .before .before .before .before .before .before .before .before .before .before .before .before .before .before .before .before .before .before .before .pre .1) .size)
 
 same-length-2 : tie.Need-same-length-2 Inv-loop μ-loop
 same-length-2 c = omega (arith, c .before .before .before .before .before .before .before .before .encoding .kept)
@@ -86,7 +86,7 @@ returns : tie.Need-returns Inv-loop μ-loop
 returns c = clones-refused (c .before .before .before .before .before .before .before .before .before .before .before .before .before .before .before .before .loop .inv) (c .before .before .before .before .before .before .before .before .before .before .before .before .before .before .before .before .before .new .ensures) (second-lent (c .before .before .before .before .before .before .before .before .before .before .before .before .before .before .before .before .loop .at) (c .before .before .before .before .before .before .before .before .before .before .before .before .before .before .before .before .before .before .before .before .before .before .args .s .now)) (c .before .before .before .before .before .before .before .before .encoding .ensures) (c .enum-told .given .1)
 
 same-length-4 : tie.Need-same-length-4 Inv-loop μ-loop
-same-length-4 c = omega (arith, c .before .before .before .before .before .before .before .before .before .before .encoding .kept, c .before .before .before .before .before .before .before .before .before .before .before .before .before .before .before .before .before .before .loop .inv .adds .clean .size, blank-text (c .before .before .before .before .before .before .before .before .before .before .before .before .before .before .before .before .before .before .before .before .before .before .before .before .pre .1) .size)
+same-length-4 c = omega (arith, c .before .before .before .before .before .before .before .before .before .before .encoding .kept, c .before .before .before .before .before .before .before .before .before .before .before .before .before .before .before .before .before .before .loop .inv .adds .stack .size, least-text (c .before .before .before .before .before .before .before .before .before .before .before .before .before .before .before .before .before .before .before .before .before .before .before .before .pre .1) .size)
 
 same-length-5 : tie.Need-same-length-5 Inv-loop μ-loop
 same-length-5 c = omega (arith, c .before .before .before .before .before .before .before .before .before .before .encoding .kept)
@@ -109,7 +109,7 @@ given-requires : tie.Need-given-requires Inv-loop μ-loop
 given-requires c κs = search needs
 
 same-length-7 : tie.Need-same-length-7 Inv-loop μ-loop
-same-length-7 c = omega (arith, c .before .before .before .before .before .before .before .before .before .before .before .before .before .encoding .kept, c .before .before .before .before .before .before .before .before .before .before .before .before .before .before .before .before .before .before .before .before .before .loop .inv .adds .clean .size, blank-text (c .before .before .before .before .before .before .before .before .before .before .before .before .before .before .before .before .before .before .before .before .before .before .before .before .before .before .before .pre .1) .size)
+same-length-7 c = omega (arith, c .before .before .before .before .before .before .before .before .before .before .before .before .before .encoding .kept, c .before .before .before .before .before .before .before .before .before .before .before .before .before .before .before .before .before .before .before .before .before .loop .inv .adds .stack .size, least-text (c .before .before .before .before .before .before .before .before .before .before .before .before .before .before .before .before .before .before .before .before .before .before .before .before .before .before .before .pre .1) .size)
 
 same-length-8 : tie.Need-same-length-8 Inv-loop μ-loop
 same-length-8 c = omega (arith, c .before .before .before .before .before .before .before .before .before .before .before .before .before .encoding .kept)

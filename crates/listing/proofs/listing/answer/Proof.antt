@@ -1,20 +1,20 @@
--- `listing::answer` meets its contract: the entry of its kind leaves the answer. Assumes nothing.
+-- `listing::answer` meets its contract: the entry of its kind tells the answer. Assumes nothing.
 use borrow.Author.Needs.{needs}
-use Rattle.listing.specs.Kinds.{name-left, symbol-left}
+use Rattle.listing.specs.Kinds.{name-told, symbol-told}
 use Rattle.listing.proofs.listing.answer.Statement.{statement}
 use Rattle.listing.proofs.listing.answer.Tie as tie
 
 enum-told : tie.Need-enum-told
 enum-told c = search needs
 
-demangle-zeroed-requires : tie.Need-demangle-zeroed-requires
-demangle-zeroed-requires c κs = search needs
+demangle-uncleared-requires : tie.Need-demangle-uncleared-requires
+demangle-uncleared-requires c κs = search needs
 
 enum-told-2 : tie.Need-enum-told-2
 enum-told-2 c = search needs
 
-normalize-zeroed-requires : tie.Need-normalize-zeroed-requires
-normalize-zeroed-requires c κs = search needs
+normalize-uncleared-requires : tie.Need-normalize-uncleared-requires
+normalize-uncleared-requires c κs = search needs
 
 same-length : tie.Need-same-length
 same-length c = search needs
@@ -31,8 +31,8 @@ same-length-4 c = search needs
 returns : tie.Need-returns
 returns c =
     let s = c .before .before .before .before .before .before .before .before .before .before .before .before .before .before .before .before .before .before .before .before in
-    let d = c .before .before .before .before .before .before .before .before .demangle-zeroed in
-    name-left (s .args .s .now) (d .result) (s .pre) (c .before .before .before .before .before .before .before .before .before .before .before .before .before .enum-told .given .1) (d .ensures)
+    let d = c .before .before .before .before .before .before .before .before .demangle-uncleared in
+    name-told (s .args .s .now) (s .pre) (c .before .before .before .before .before .before .before .before .before .before .before .before .before .enum-told .given .1) (d .ensures)
 
 same-length-5 : tie.Need-same-length-5
 same-length-5 c = search needs
@@ -49,17 +49,17 @@ same-length-8 c = search needs
 returns-2 : tie.Need-returns-2
 returns-2 c =
     let s = c .before .before .before .before .before .before .before .before .before .before .before .before .before .before .before .before .before .before .before .before in
-    let d = c .before .before .before .before .before .before .before .before .normalize-zeroed in
-    symbol-left (s .args .s .now) (d .result) (s .pre) (c .before .before .before .before .before .before .before .before .before .before .before .before .before .enum-told2 .given .1) (d .ensures)
+    let d = c .before .before .before .before .before .before .before .before .normalize-uncleared in
+    symbol-told (s .args .s .now) (s .pre) (c .before .before .before .before .before .before .before .before .before .before .before .before .before .enum-told2 .given .1) (d .ensures)
 
 pub answer-spec : {M : Type 1} → statement M
 answer-spec =
     tie.close
     (tie.spec
     enum-told
-    demangle-zeroed-requires
+    demangle-uncleared-requires
     enum-told-2
-    normalize-zeroed-requires
+    normalize-uncleared-requires
     same-length
     same-length-2
     same-length-3

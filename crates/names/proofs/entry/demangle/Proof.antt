@@ -1,15 +1,18 @@
--- `names::entry::demangle` meets its contract: only the lengths of the work slices matter. Assumes nothing.
-use mathlib.Core.Path.{_∙_}
+-- `names::entry::demangle` meets its contract: what was told, and work slices that were cleared. Assumes nothing.
+use mathlib.Core.Path.{ap, _∙_}
+use native.Mathlib.Omega.{arith}
+use Rattle.store.specs.Stack.{zeros}
+use Rattle.names.specs.Outcome.{slices}
+use Rattle.names.specs.Told.{told-demangles}
 use borrow.Author.Needs.{needs}
-use Rattle.names.specs.Told.{cleared-zero, cleared-demangled}
 use Rattle.names.proofs.entry.demangle.Statement.{statement}
 use Rattle.names.proofs.entry.demangle.Tie as tie
 
+demangle-uncleared-requires : tie.Need-demangle-uncleared-requires
+demangle-uncleared-requires c κs = search needs
+
 clear-requires : tie.Need-clear-requires
 clear-requires c κs = search needs
-
-demangle-zeroed-requires : tie.Need-demangle-zeroed-requires
-demangle-zeroed-requires c κs = cleared-zero (c .before .before .before .before .before .before .before .before .before .before .clear .ensures) (c .before .before .before .before .before .before .before .before .before .before .before .before .before .before .before .before .before .before .before .args .out .now)
 
 same-length : tie.Need-same-length
 same-length c = search needs
@@ -26,14 +29,17 @@ same-length-4 c = search needs
 returns : tie.Need-returns
 returns c =
     let a = c .before .before .before .before .before .before .before .before .before .before .before .before .before .before .before .before .before .before .before .before .before .before .before .before .before .before .before .before .args in
-    c .before .before .before .before .before .before .before .before .demangle-zeroed .ensures ∙ cleared-demangled (c .before .before .before .before .before .before .before .before .before .before .before .before .before .before .before .before .before .before .before .clear .ensures) (a .s .now) (a .out .now)
+    let d = c .before .before .before .before .before .before .before .before .before .before .before .before .before .before .before .before .before .before .demangle-uncleared in
+    let h = c .before .before .before .before .before .before .clear .ensures in
+    told-demangles (a .s .now) (slices (a .out .now) (a .text .now) (a .store .now) (a .ends .now)) _ (d .ensures)
+    (h .text ∙ ap zeros (omega (arith, d .kept))) (h .store ∙ ap zeros (omega (arith, d .kept))) (h .ends ∙ ap zeros (omega (arith, d .kept)))
 
 pub demangle-spec : {M : Type 1} → statement M
 demangle-spec =
     tie.close
     (tie.spec
+    demangle-uncleared-requires
     clear-requires
-    demangle-zeroed-requires
     same-length
     same-length-2
     same-length-3

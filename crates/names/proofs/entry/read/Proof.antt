@@ -1,14 +1,11 @@
 -- `names::entry::read` meets its contract: a reading refused, or one printed. Assumes nothing.
-use mathlib.Core.Path.{sym, ap, _∙_}
-use native.Mathlib.Omega.{arith}
-use borrow.Author.Needs.{needs}
+use mathlib.Core.Path.{sym, ap}
 use lib.ListN.{length}
 use Rattle.grammar.specs.Text.{Text}
 use Rattle.grammar.specs.Reader.{Result}
 use Rattle.grammar.specs.Names.{finished, within, mangled-name}
-use Rattle.store.specs.Lists.{length-zeros}
-use Rattle.names.specs.Tells.{tells-as, tells-unread, was-read, printed-fits, printed-top, printed-used}
-use Rattle.names.specs.Wiped.{cleared-blank}
+use Rattle.names.specs.Tells.{tells-as, tells-unread, was-read, printed-fits, printed-top}
+use borrow.Author.Needs.{needs}
 use Rattle.names.proofs.entry.read.Statement.{statement}
 use Rattle.names.proofs.entry.read.Tie as tie
 
@@ -20,9 +17,6 @@ enum-known-got c = search needs
 
 enum-told : tie.Need-enum-told
 enum-told c = search needs
-
-clear-requires : tie.Need-clear-requires
-clear-requires c κs = search needs
 
 unread-requires : tie.Need-unread-requires
 unread-requires c κs = search needs
@@ -37,22 +31,12 @@ same-length-3 : tie.Need-same-length-3
 same-length-3 c = search needs
 
 returns : tie.Need-returns
-returns c =
-    let a = c .before .before .before .before .before .before .before .before .before .before .before .before .before .before .before .before .before .before .before .before .before .before .before .before .before .before .before .before in
-    let g = c .before .before .before .before .before .before .before .before .before .before .before .before .before .before .before .before .before .before .before .mangled-name in
-    record {
-      tells = tells-unread (a .args .out .now) (g .ensures) (c .before .before .before .before .before .before .before .before .before .before .before .enum-told .given .1) (c .unread .ensures);
-      blank = cleared-blank (omega (arith, g .kept, ap length (a .pre .1 .text) ∙ length-zeros 65536)) (omega (arith, g .kept, ap length (a .pre .1 .store) ∙ length-zeros 65536))
-          (omega (arith, g .kept, ap length (a .pre .1 .ends) ∙ length-zeros 2048)) (c .before .before .before .before .before .before .before .clear .ensures);
-    }
+returns c = tells-unread (c .before .before .before .before .before .before .before .before .before .before .before .before .before .before .before .before .before .before .args .out .now) (c .before .before .before .before .before .before .before .before .before .mangled-name .ensures) (c .before .enum-told .given .1) (c .unread .ensures)
 
 print-requires : tie.Need-print-requires
 print-requires c κs =
     let h = was-read (c .before .before .before .before .before .before .before .before .before .before .before .mangled-name .ensures) (c .before .before .before .got .given .1) .1 .1 .1 in
     (printed-fits h, (printed-top h, h .place))
-
-wipe-requires : tie.Need-wipe-requires
-wipe-requires c κs = printed-used (was-read (c .before .before .before .before .before .before .before .before .before .before .before .before .before .before .before .before .before .mangled-name .ensures) (c .before .before .before .before .before .before .before .before .before .got .given .1) .1 .1 .1)
 
 same-length-4 : tie.Need-same-length-4
 same-length-4 c = search needs
@@ -69,11 +53,8 @@ same-length-7 c = search needs
 returns-2 : tie.Need-returns-2
 unfolding mangled-name
 returns-2 c =
-    let (t, (σ, (e, h))) = was-read (c .before .before .before .before .before .before .before .before .before .before .before .before .before .before .before .before .before .before .before .before .before .before .before .before .mangled-name .ensures) (c .before .before .before .before .before .before .before .before .before .before .before .before .before .before .before .before .got .given .1) in
-    record {
-      tells = tells-as (ap (λ (x : Result Text). within (length (c .before .before .before .before .before .before .before .before .before .before .before .before .before .before .before .before .before .before .before .before .before .before .before .before .before .before .before .before .before .before .before .before .before .args .out .now)) (finished x)) (sym e)) (c .before .before .before .before .before .before .before .before .before .before .before .before .print .ensures _ _ t σ h);
-      blank = c .before .before .before .before .before .before .wipe .ensures;
-    }
+    let (t, (σ, (e, h))) = was-read (c .before .before .before .before .before .before .before .before .before .before .before .before .before .before .mangled-name .ensures) (c .before .before .before .before .before .before .got .given .1) in
+    tells-as (ap (λ (x : Result Text). within (length (c .before .before .before .before .before .before .before .before .before .before .before .before .before .before .before .before .before .before .before .before .before .before .before .args .out .now)) (finished x)) (sym e)) (c .before .before .print .ensures _ _ t σ h)
 
 pub read-spec : {M : Type 1} → statement M
 read-spec =
@@ -82,14 +63,12 @@ read-spec =
     mangled-name-requires
     enum-known-got
     enum-told
-    clear-requires
     unread-requires
     same-length
     same-length-2
     same-length-3
     returns
     print-requires
-    wipe-requires
     same-length-4
     same-length-5
     same-length-6

@@ -1,8 +1,7 @@
 -- `normal::memory::settle` writes the reference of what is in the table. Assumes nothing.
-use mathlib.Core.Path.{refl}
 use lib.ListN.{length-take, length-drop}
-use Rattle.normal.specs.Slices.{out-size, notes-size, firsts-most, out-most}
-use Rattle.normal.specs.Memory.{sought-firsts, settle-not, cleared-size, index-most, reference-room, settle-here}
+use Rattle.normal.specs.Slices.{out-size, notes-size, firsts-most}
+use Rattle.normal.specs.Memory.{sought-firsts, settle-not, index-most, reference-room, settle-here}
 use borrow.Author.Needs.{needs}
 use native.Mathlib.Omega.{arith}
 use Rattle.normal.proofs.memory.settle.Statement.{statement}
@@ -27,26 +26,12 @@ returns c s σ h =
     let a = c .before .before .before .before .before .args in
     settle-not h (a .d) (a .from) (c .before .before .before .before .before .pre .0) (sought-firsts h (a .d) (c .before .seek .result) (c .before .seek .ensures) .missing (c .if1 .taken))
 
-sub-clear : tie.Need-sub-clear
-sub-clear c = search needs
-
-part-clear-start : tie.Need-part-clear-start
-part-clear-start c = search needs
-
-part-clear-end : tie.Need-part-clear-end
-part-clear-end c = let h = c .before .before .before .before .before .pre .1 .1 .1 .1 in omega (arith, out-size h, h .out-count, out-most h)
-
-clear-requires : tie.Need-clear-requires
-clear-requires c κs = search needs
-
 write-reference-requires : tie.Need-write-reference-requires
 write-reference-requires c κs =
-    let q = c .before .before .before .before .before .before .before .before .before .before in
+    let q = c .before .before .before .before .before .before in
     let h = q .pre .1 .1 .1 .1 in
-    let e = c .before .before .before .clear in (
-      index-most h (q .args .from) (q .pre .0) _ (e .last .0) (e .ensures) refl (c .before .before .before .before .before .before .seek .result) (q .pre .1 .0) (omega arith),
-      omega (arith, cleared-size h (q .args .from) (q .pre .0) _ (e .last .0) (e .ensures) refl, reference-room h (q .args .from) (q .pre .0) _ (e .last .0) (e .ensures) refl (c .before .before .before .before .before .before .seek .result) (q .pre .1 .0) (omega arith)),
-    )
+    let i = c .before .before .seek .result in
+    (index-most h i (c .before .if1 .left), omega (arith, out-size h, reference-room h i (c .before .if1 .left) (q .args .from) (q .pre .0) (q .pre .1 .0)))
 
 written-requires : tie.Need-written-requires
 written-requires c κs = search needs
@@ -56,13 +41,13 @@ same-length c = search needs
 
 returns-2 : tie.Need-returns-2
 returns-2 c s σ h =
-    let q = c .before .before .before .before .before .before .before .before .before .before .before .before .before .before in
+    let q = c .before .before .before .before .before .before .before .before .before .before in
     let a = q .args in
-    let e = c .before .before .before .before .before .before .before .clear in
-    let f = c .before .before .before .before .before .before .before .before .before .before .seek in
+    let f = c .before .before .before .before .before .before .seek in
     let w = c .before .before .before .write-reference in
-    settle-here h (a .from) (q .pre .0) _ (e .last .0) (e .ensures) refl (f .result) (q .pre .1 .0) (c .before .before .before .before .before .before .before .before .before .if1 .left) (a .d) (w .result) _ (c .written .result)
-    (sought-firsts h (a .d) (f .result) (f .ensures) .found (c .before .before .before .before .before .before .before .before .before .if1 .left)) (w .ensures) (c .written .ensures)
+    let m = c .before .before .before .before .before .if1 .left in
+    settle-here h (f .result) m (a .from) (q .pre .0) (q .pre .1 .0) (a .d) (w .result) _ (c .written .result)
+    (sought-firsts h (a .d) (f .result) (f .ensures) .found m) (w .ensures) (c .written .ensures)
 
 pub settle-spec : {M : Type 1} → statement M
 settle-spec =
@@ -73,10 +58,6 @@ settle-spec =
     part-seek-end
     seek-requires
     returns
-    sub-clear
-    part-clear-start
-    part-clear-end
-    clear-requires
     write-reference-requires
     written-requires
     same-length

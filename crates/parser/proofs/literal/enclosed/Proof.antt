@@ -20,14 +20,14 @@ put-requires : tie.Need-put-requires
 put-requires c κs = search needs
 
 again-requires : tie.Need-again-requires
-again-requires c κs = (c .before .before .before .put .ensures .put .clean, (omega arith, (omega (arith, puts-least (c .before .before .before .before .before .before .before .pre .0) (c .before .before .before .put .ensures)), (omega arith, omega arith))))
+again-requires c κs = (c .before .before .before .put .ensures .put .stack, (omega arith, (omega (arith, puts-least (c .before .before .before .before .before .before .before .pre .0) (c .before .before .before .put .ensures)), (omega arith, omega arith))))
 
 cut-requires : tie.Need-cut-requires
 cut-requires c κs =
     let u = c .before .before .before .before .before .before .before .put .ensures in
     let x = puts-least (c .before .before .before .before .before .before .before .before .before .before .before .pre .0) u in
-    let y = puts-least (u .put .clean) (c .before .before .before .again .ensures) in
-    (c .before .before .before .again .ensures .put .clean, omega (arith, x, simp (length-take, length-drop) at y, u .put .clean .size, u .put .clean .most, c .before .before .before .before .before .before .before .before .before .before .before .pre))
+    let y = puts-least (u .put .stack) (c .before .before .before .again .ensures) in
+    (c .before .before .before .again .ensures .put .stack, omega (arith, x, simp (length-take, length-drop) at y, u .put .stack .size, u .put .stack .most, c .before .before .before .before .before .before .before .before .before .before .before .pre))
 
 slice-aggregate-put-2 : tie.Need-slice-aggregate-put-2
 slice-aggregate-put-2 c = search needs
@@ -42,7 +42,7 @@ returns : tie.Need-returns
 unfolding b
 returns c =
     record {
-      clean = c .before .before .put2 .ensures .put .clean;
+      stack = c .before .before .put2 .ensures .put .stack;
       stands = λ {t = t} l h.
           let w = stands-turned l (omega arith) h (c .before .before .before .before .before .before .before .before .before .before .before .before .before .before .before .put .ensures) (c .before .before .before .before .before .before .before .before .before .before .before .again .ensures) (c .before .before .before .before .before .before .before .cut .ensures) in
           stands-size (stands-puts w (c .before .before .put2 .ensures) refl) (c .before .before .before .before .before .before .before .before .before .before .before .before .before .before .before .before .before .before .before .args .n + 2) (simp length-append (omega (arith, h .size)));

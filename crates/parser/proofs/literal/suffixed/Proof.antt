@@ -22,7 +22,7 @@ slice-aggregate-put-part : tie.Need-slice-aggregate-put-part
 slice-aggregate-put-part c = search needs
 
 put-part-requires : tie.Need-put-part-requires
-put-part-requires c κs = (c .before .before .before .before .value .ensures .clean, (omega (arith, c .before .before .before .before .before .before .before .before .before .before .before .before .pre), (omega (arith, c .before .before .before .before .before .before .before .before .before .before .before .before .pre), omega (arith, c .before .before .before .before .before .before .before .before .before .before .before .before .pre))))
+put-part-requires c κs = (c .before .before .before .before .value .ensures .stack, (omega (arith, c .before .before .before .before .before .before .before .before .before .before .before .before .pre), (omega (arith, c .before .before .before .before .before .before .before .before .before .before .before .before .pre), omega (arith, c .before .before .before .before .before .before .before .before .before .before .before .before .pre))))
 
 sub-size : tie.Need-sub-size
 sub-size c = omega (arith, c .before .before .before .before .before .before .before .before .before .before .before .before .before .before .before .pre)

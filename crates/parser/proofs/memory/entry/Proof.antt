@@ -15,17 +15,28 @@ returns c s ends σ h =
     let a = c .before .before .before in
     by (give-long _ σ (omega (arith, part-size (a .args .store .now) (a .pre .1 .0) (a .pre .1 .1), c .if1 .taken))) refuses
 
-put-part-requires : tie.Need-put-part-requires
-put-part-requires c κs = search needs
+sub-put : tie.Need-sub-put
+sub-put c = search needs
+
+part-put-start : tie.Need-part-put-start
+part-put-start c = search needs
+
+part-put-end : tie.Need-part-put-end
+part-put-end c = search needs
+
+put-requires : tie.Need-put-requires
+put-requires c κs = search needs
 
 same-length : tie.Need-same-length
 same-length c = search needs
 
 returns-2 : tie.Need-returns-2
 returns-2 c s ends σ h =
-    let a = c .before .before .before .before .before .before .before in
+    let a = c .before .before .before .before .before .before .before .before in
     let z = part-size (a .args .store .now) (a .pre .1 .0) (a .pre .1 .1) in
-    wrote-one h (c .before .before .put-part .ensures) z (omega (arith, z, c .before .before .before .before .if1 .left)) (omega arith)
+    wrote-one h (c .before .before .put .ensures) z (omega (arith, z, c .before .before .before .before .before .if1 .left)) (omega arith)
 
 pub entry-spec : {M : Type 1} → statement M
-entry-spec = tie.close (tie.spec sub-n returns put-part-requires same-length returns-2)
+entry-spec =
+    tie.close
+    (tie.spec sub-n returns sub-put part-put-start part-put-end put-requires same-length returns-2)

@@ -52,9 +52,9 @@ returns-2 c k d s base from t σ g l =
 sub-low : tie.Need-sub-low
 sub-low c = search needs
 
-same-part-requires : tie.Need-same-part-requires
+same-long-part-requires : tie.Need-same-long-part-requires
 unfolding low-ends
-same-part-requires c κs =
+same-long-part-requires c κs =
     let h = c .before .before .before .before .before .before .before .before .before .before .pre .0 .1 .1 in
     let i : c .before .before .before .before .before .before .before .before .before .before .args .p .subs .count - 1 < c .before .before .before .before .before .before .before .before .before .before .args .p .subs .count = omega (arith, c .before .before .before .before .before .if1 .left) in
     let f = c .before .before .before .start .ensures _ 1024 (h .subs .ends-is) (omega (arith, h .subs .count-is)) in
@@ -70,7 +70,7 @@ returns-3 c k d s base from t σ g l =
     let f = c .before .before .before .before .start .ensures _ 1024 (h .subs .ends-is) (omega (arith, h .subs .count-is)) in
     let e = c .before .before .start2 .ensures _ 1024 (h .subs .ends-is) (omega (arith, i, h .subs .count-is)) in
     let x = newest-part g (omega arith) in
-    c .same-part .ensures
+    c .same-long-part .ensures
     ∙ ap₂ same
     (ap (λ (j : ℕ). take j (drop (a .p .top - a .n) (a .text .now))) {x = a .n} {y = a .p .top - (a .p .top - a .n)} (omega (arith, x .0)) ∙ x .1)
     (ap (λ (j : ℕ). take j (drop (c .before .before .before .before .start .result) (a .store .now))) {x = a .n} {y = c .before .before .start2 .result - c .before .before .before .before .start .result} (omega (arith, c .before .if2 .left)) ∙ sub-part h i f e)
@@ -90,5 +90,5 @@ newest-entry-spec =
     sub-if2
     returns-2
     sub-low
-    same-part-requires
+    same-long-part-requires
     returns-3)

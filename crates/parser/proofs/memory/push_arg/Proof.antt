@@ -4,7 +4,7 @@ use borrow.Author.Needs.{needs}
 use Rattle.store.specs.Entries.{entries-sized, entries-as}
 use Rattle.store.specs.Lists.{second-lent}
 use Rattle.parser.specs.Holds.{full, high-bytes, high-ends}
-use Rattle.parser.specs.Halves.{store-size, ends-size, lent-size, fits-not, push-arg-no, pushes-by, pushes-arg}
+use Rattle.parser.specs.Halves.{store-size, ends-size, fits-not, push-arg-no, pushes-by, pushes-arg}
 use Rattle.parser.proofs.memory.push_arg.Statement.{statement}
 use Rattle.parser.proofs.memory.push_arg.Tie as tie
 
@@ -38,21 +38,12 @@ part-push-start-2 c = omega (arith, ends-size (c .before .before .before .before
 part-push-end-2 : tie.Need-part-push-end-2
 part-push-end-2 c = search needs
 
-sub-push-3 : tie.Need-sub-push-3
-sub-push-3 c = search needs
-
-part-push-start-3 : tie.Need-part-push-start-3
-part-push-start-3 c = search needs
-
-part-push-end-3 : tie.Need-part-push-end-3
-part-push-end-3 c = search needs
-
 push-requires : tie.Need-push-requires
 unfolding high-bytes high-ends
 push-requires c κs =
-    let h = c .before .before .before .before .before .before .before .before .before .pre .0 .1 .1 in
-    let a = c .before .before .before .before .before .before .before .before .before .args in
-    (entries-sized (entries-as (second-lent 32768 (a .store .now)) (second-lent 1024 (a .ends .now)) (h .args)), (c .before .before .before .before .if1 .left, omega (arith, lent-size (a .n) (h .text) (omega (arith, c .before .before .before .if2 .left)), c .before .before .before .if2 .left)))
+    let h = c .before .before .before .before .before .before .before .before .pre .0 .1 .1 in
+    let a = c .before .before .before .before .before .before .before .before .args in
+    (entries-sized (entries-as (second-lent 32768 (a .store .now)) (second-lent 1024 (a .ends .now)) (h .args)), (c .before .before .before .if1 .left, (omega arith, (omega (arith, h .text .size, h .text .most), omega (arith, c .before .before .if2 .left)))))
 
 add-with-args : tie.Need-add-with-args
 add-with-args c = search needs
@@ -72,8 +63,8 @@ same-length-2 c = search needs
 returns-3 : tie.Need-returns-3
 unfolding high-bytes high-ends
 returns-3 c k d s base from t σ h =
-    let a = c .before .before .before .before .before .before .before .before .before .before .before .before .before .before .before .args in
-    pushes-arg h (omega (arith, c .before .before .before .before .before .before .before .before .before .if2 .left)) (c .before .before .before .before .before .before .before .before .before .before .if1 .left) (omega (arith, c .before .before .before .before .before .before .before .before .before .if2 .left, h .holds .args .room)) (c .with-args .ensures)
+    let a = c .before .before .before .before .before .before .before .before .before .before .before .before .before .before .args in
+    pushes-arg h (omega (arith, c .before .before .before .before .before .before .before .before .if2 .left)) (c .before .before .before .before .before .before .before .before .before .if1 .left) (omega (arith, c .before .before .before .before .before .before .before .before .if2 .left, h .holds .args .room)) (c .with-args .ensures)
     (c .before .before .before .before .before .push .ensures _ (entries-as (second-lent 32768 (a .store .now)) (second-lent 1024 (a .ends .now)) (h .holds .args)))
 
 pub push-arg-spec : {M : Type 1} → statement M
@@ -90,9 +81,6 @@ push-arg-spec =
     sub-push-2
     part-push-start-2
     part-push-end-2
-    sub-push-3
-    part-push-start-3
-    part-push-end-3
     push-requires
     add-with-args
     add-with-args-2

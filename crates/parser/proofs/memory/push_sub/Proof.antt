@@ -5,7 +5,7 @@ use mathlib.Core.Path.{sym}
 use lib.Seq.{length-take-le}
 use Rattle.store.specs.Entries.{entries-sized}
 use Rattle.parser.specs.Holds.{full, low-bytes, low-ends}
-use Rattle.parser.specs.Halves.{store-size, ends-size, lent-size, fits-not, push-sub-no, pushes-by, pushes-sub}
+use Rattle.parser.specs.Halves.{store-size, ends-size, fits-not, push-sub-no, pushes-by, pushes-sub}
 use Rattle.parser.proofs.memory.push_sub.Statement.{statement}
 use Rattle.parser.proofs.memory.push_sub.Tie as tie
 
@@ -33,26 +33,17 @@ slice-relend-prefix-push-2 c = omega (arith, ends-size (c .before .before .befor
 slice-aggregate-push-2 : tie.Need-slice-aggregate-push-2
 slice-aggregate-push-2 c = sym (length-take-le 1024 (c .before .before .before .before .before .before .before .before .args .ends .now) (omega (arith, ends-size (c .before .before .before .before .before .before .before .before .pre .0 .1 .1))))
 
-sub-push : tie.Need-sub-push
-sub-push c = search needs
-
-part-push-start : tie.Need-part-push-start
-part-push-start c = search needs
-
-part-push-end : tie.Need-part-push-end
-part-push-end c = search needs
-
 push-requires : tie.Need-push-requires
 unfolding low-bytes low-ends
 push-requires c κs =
-    let h = c .before .before .before .before .before .before .before .before .before .pre .0 .1 .1 in
-    (entries-sized (h .subs), (c .before .before .before .before .if1 .left, omega (arith, lent-size (c .before .before .before .before .before .before .before .before .before .args .n) (h .text) (omega (arith, c .before .before .before .if2 .left)), c .before .before .before .if2 .left)))
+    let h = c .before .before .before .before .before .before .before .before .pre .0 .1 .1 in
+    (entries-sized (h .subs), (c .before .before .before .if1 .left, (omega arith, (omega (arith, h .text .size, h .text .most), omega (arith, c .before .before .if2 .left)))))
 
 add-with-subs : tie.Need-add-with-subs
 add-with-subs c = search needs
 
 add-with-subs-2 : tie.Need-add-with-subs-2
-add-with-subs-2 c = omega (arith, c .before .before .before .before .before .before .before .before .if2 .left)
+add-with-subs-2 c = omega (arith, c .before .before .before .before .before .before .before .if2 .left)
 
 with-subs-requires : tie.Need-with-subs-requires
 with-subs-requires c κs = search needs
@@ -66,7 +57,7 @@ same-length-2 c = search needs
 returns-3 : tie.Need-returns-3
 unfolding low-bytes low-ends
 returns-3 c k d s base from t σ h =
-    pushes-sub h (omega (arith, c .before .before .before .before .before .before .before .before .before .if2 .left)) (c .before .before .before .before .before .before .before .before .before .before .if1 .left) (omega (arith, c .before .before .before .before .before .before .before .before .before .if2 .left, h .holds .subs .room)) (c .with-subs .ensures) (c .before .before .before .before .before .push .ensures _ (h .holds .subs))
+    pushes-sub h (omega (arith, c .before .before .before .before .before .before .before .before .if2 .left)) (c .before .before .before .before .before .before .before .before .before .if1 .left) (omega (arith, c .before .before .before .before .before .before .before .before .if2 .left, h .holds .subs .room)) (c .with-subs .ensures) (c .before .before .before .before .before .push .ensures _ (h .holds .subs))
 
 pub push-sub-spec : {M : Type 1} → statement M
 push-sub-spec =
@@ -80,9 +71,6 @@ push-sub-spec =
     slice-aggregate-push
     slice-relend-prefix-push-2
     slice-aggregate-push-2
-    sub-push
-    part-push-start
-    part-push-end
     push-requires
     add-with-subs
     add-with-subs-2

@@ -1,7 +1,7 @@
 -- `parser::memory::recall_arg` puts template argument k on the stack, from the second halves. Assumes nothing.
 use native.Mathlib.Omega.{arith}
 use borrow.Author.Needs.{needs}
-use mathlib.Core.Path.{_∙_}
+use Rattle.store.specs.Fronts.{front-as}
 use Rattle.store.specs.Lists.{second-lent}
 use Rattle.parser.specs.Holds.{high-ends}
 use Rattle.parser.specs.Laws.{by}
@@ -41,8 +41,8 @@ unfolding high-ends
 add-from c =
     let h = c .before .before .before .before .before .before .before .pre .0 .1 .1 in
     let i = c .before .before .before .before .before .before .before .pre .1 in
-    let f = c .before .before .start .ensures _ 1024 (second-lent 1024 (c .before .before .before .before .before .before .before .args .ends .now) ∙ h .args .ends-is) (omega (arith, i, h .args .count-is)) in
-    let e = c .start2 .ensures _ 1024 (second-lent 1024 (c .before .before .before .before .before .before .before .args .ends .now) ∙ h .args .ends-is) (omega (arith, i, h .args .count-is)) in
+    let f = c .before .before .start .ensures _ 1024 (front-as (second-lent 1024 (c .before .before .before .before .before .before .before .args .ends .now)) (h .args .ends-is)) (omega (arith, i, h .args .count-is)) in
+    let e = c .start2 .ensures _ 1024 (front-as (second-lent 1024 (c .before .before .before .before .before .before .before .args .ends .now)) (h .args .ends-is)) (omega (arith, i, h .args .count-is)) in
     omega (arith, entry-size (h .args) i f e, entry-room (h .args) i f e)
 
 add-end : tie.Need-add-end
@@ -50,8 +50,8 @@ unfolding high-ends
 add-end c =
     let h = c .before .before .before .before .before .before .before .pre .0 .1 .1 in
     let i = c .before .before .before .before .before .before .before .pre .1 in
-    let f = c .before .before .start .ensures _ 1024 (second-lent 1024 (c .before .before .before .before .before .before .before .args .ends .now) ∙ h .args .ends-is) (omega (arith, i, h .args .count-is)) in
-    let e = c .start2 .ensures _ 1024 (second-lent 1024 (c .before .before .before .before .before .before .before .args .ends .now) ∙ h .args .ends-is) (omega (arith, i, h .args .count-is)) in
+    let f = c .before .before .start .ensures _ 1024 (front-as (second-lent 1024 (c .before .before .before .before .before .before .before .args .ends .now)) (h .args .ends-is)) (omega (arith, i, h .args .count-is)) in
+    let e = c .start2 .ensures _ 1024 (front-as (second-lent 1024 (c .before .before .before .before .before .before .before .args .ends .now)) (h .args .ends-is)) (omega (arith, i, h .args .count-is)) in
     omega (arith, entry-room (h .args) i f e)
 
 entry-requires : tie.Need-entry-requires
@@ -59,8 +59,8 @@ unfolding high-ends
 entry-requires c κs =
     let h = c .before .before .before .before .before .before .before .before .pre .0 .1 .1 in
     let i = c .before .before .before .before .before .before .before .before .pre .1 in
-    let f = c .before .before .before .start .ensures _ 1024 (second-lent 1024 (c .before .before .before .before .before .before .before .before .args .ends .now) ∙ h .args .ends-is) (omega (arith, i, h .args .count-is)) in
-    let e = c .before .start2 .ensures _ 1024 (second-lent 1024 (c .before .before .before .before .before .before .before .before .args .ends .now) ∙ h .args .ends-is) (omega (arith, i, h .args .count-is)) in
+    let f = c .before .before .before .start .ensures _ 1024 (front-as (second-lent 1024 (c .before .before .before .before .before .before .before .before .args .ends .now)) (h .args .ends-is)) (omega (arith, i, h .args .count-is)) in
+    let e = c .before .start2 .ensures _ 1024 (front-as (second-lent 1024 (c .before .before .before .before .before .before .before .before .args .ends .now)) (h .args .ends-is)) (omega (arith, i, h .args .count-is)) in
     (h .text, (omega (arith, entry-size (h .args) i f e), omega (arith, entry-room (h .args) i f e, store-size h)))
 
 same-length : tie.Need-same-length
@@ -70,8 +70,8 @@ returns : tie.Need-returns
 unfolding high-ends
 returns c s g σ h =
     let i = c .before .before .before .before .before .before .before .before .before .before .before .pre .1 in
-    let f = c .before .before .before .before .before .before .start .ensures _ 1024 (second-lent 1024 (c .before .before .before .before .before .before .before .before .before .before .before .args .ends .now) ∙ h .args .ends-is) (omega (arith, i, h .args .count-is)) in
-    let e = c .before .before .before .before .start2 .ensures _ 1024 (second-lent 1024 (c .before .before .before .before .before .before .before .before .before .before .before .args .ends .now) ∙ h .args .ends-is) (omega (arith, i, h .args .count-is)) in
+    let f = c .before .before .before .before .before .before .start .ensures _ 1024 (front-as (second-lent 1024 (c .before .before .before .before .before .before .before .before .before .before .before .args .ends .now)) (h .args .ends-is)) (omega (arith, i, h .args .count-is)) in
+    let e = c .before .before .before .before .start2 .ensures _ 1024 (front-as (second-lent 1024 (c .before .before .before .before .before .before .before .before .before .before .before .args .ends .now)) (h .args .ends-is)) (omega (arith, i, h .args .count-is)) in
     by (arg-given h g i f e) (c .before .before .entry .ensures s _ σ h)
 
 pub recall-arg-spec : {M : Type 1} → statement M

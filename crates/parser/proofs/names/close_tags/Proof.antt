@@ -23,7 +23,7 @@ slice-aggregate-put : tie.Need-slice-aggregate-put Inv-loop μ-loop
 slice-aggregate-put c = search needs
 
 put-requires : tie.Need-put-requires Inv-loop μ-loop
-put-requires c κs = (c .before .before .before .loop .inv .1 .clean, omega arith)
+put-requires c κs = (c .before .before .before .loop .inv .1 .stack, omega arith)
 
 add-closed : tie.Need-add-closed Inv-loop μ-loop
 add-closed c = omega arith
@@ -37,7 +37,7 @@ loop-again c =
     (omega arith, rw (← closers-more (l .closed)) (adds-more (l .inv .1) (c .before .before .put .ensures)))
 
 same-length : tie.Need-same-length Inv-loop μ-loop
-same-length c = omega (arith, c .before .loop .inv .1 .clean .size, c .before .before .before .pre .size)
+same-length c = omega (arith, c .before .loop .inv .1 .stack .size, c .before .before .before .pre .size)
 
 returns : tie.Need-returns Inv-loop μ-loop
 returns c =

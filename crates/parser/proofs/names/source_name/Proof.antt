@@ -6,7 +6,7 @@ use native.Mathlib.Omega.{arith}
 use borrow.Author.Needs.{needs}
 use borrow.Author.Tests.{not-true, not-false}
 use lib.ListN.{length}
-use Rattle.parser.specs.Adds.{clean-by, puts-at}
+use Rattle.parser.specs.Adds.{stack-by, puts-at}
 use Rattle.grammar.specs.Places.{starts-inside}
 use Rattle.parser.specs.Tags.{Tagging, tagging-start, tagging-refuses, located, tagging-ends, tagging-more}
 use Rattle.parser.proofs.names.source_name.Statement.{statement}
@@ -31,7 +31,7 @@ enum-told : tie.Need-enum-told Inv-loop μ-loop
 enum-told c = search needs
 
 same-length : tie.Need-same-length Inv-loop μ-loop
-same-length c = omega (arith, c .before .before .before .loop .inv .adds .clean .size, c .before .before .before .before .before .before .pre .1 .1 .size)
+same-length c = omega (arith, c .before .before .before .loop .inv .adds .stack .size, c .before .before .before .before .before .before .pre .1 .1 .size)
 
 returns : tie.Need-returns Inv-loop μ-loop
 returns c = λ store ends. tagging-refuses (c .before .before .before .loop .inv) (sym (c .before .before .identifier .ensures) ∙ c .enum-told .given .1)
@@ -45,7 +45,7 @@ moved-requires c κs = search needs
 put-part-requires : tie.Need-put-part-requires Inv-loop μ-loop
 put-part-requires c κs =
     let l = located (c .before .before .before .before .before .before .loop .inv) (sym (c .before .before .before .before .before .identifier .ensures) ∙ c .before .before .before .from .given .1) in
-    (clean-by (c .moved .ensures) (c .before .before .before .before .before .before .loop .inv .adds .clean), (omega (arith, l .some), (l .inside, omega (arith, l .inside, c .before .before .before .before .before .before .before .before .before .pre .1 .0))))
+    (stack-by (c .moved .ensures) (c .before .before .before .before .before .before .loop .inv .adds .stack), (omega (arith, l .some), (l .inside, omega (arith, l .inside, c .before .before .before .before .before .before .before .before .before .pre .1 .0))))
 
 sum-requires : tie.Need-sum-requires Inv-loop μ-loop
 sum-requires c κs =
@@ -56,7 +56,7 @@ here-requires : tie.Need-here-requires Inv-loop μ-loop
 here-requires c κs = search needs
 
 close-tags-requires : tie.Need-close-tags-requires Inv-loop μ-loop
-close-tags-requires c κs = c .before .before .before .before .before .before .put-part .ensures .put .clean
+close-tags-requires c κs = c .before .before .before .before .before .before .put-part .ensures .put .stack
 
 sum-requires-2 : tie.Need-sum-requires-2 Inv-loop μ-loop
 sum-requires-2 c κs =
@@ -67,7 +67,7 @@ given-requires : tie.Need-given-requires Inv-loop μ-loop
 given-requires c κs = search needs
 
 same-length-2 : tie.Need-same-length-2 Inv-loop μ-loop
-same-length-2 c = omega (arith, c .before .before .before .before .close-tags .ensures .clean .size, c .before .before .before .before .before .before .before .before .before .before .before .before .before .before .before .before .before .before .before .before .before .pre .1 .1 .size)
+same-length-2 c = omega (arith, c .before .before .before .before .close-tags .ensures .stack .size, c .before .before .before .before .before .before .before .before .before .before .before .before .before .before .before .before .before .before .before .before .before .pre .1 .1 .size)
 
 returns-2 : tie.Need-returns-2 Inv-loop μ-loop
 returns-2 c = λ store ends.
@@ -92,7 +92,7 @@ slice-aggregate-put : tie.Need-slice-aggregate-put Inv-loop μ-loop
 slice-aggregate-put c = search needs
 
 put-requires : tie.Need-put-requires Inv-loop μ-loop
-put-requires c κs = (clean-by (c .before .moved2 .ensures) (c .before .before .before .before .before .before .before .before .put-part .ensures .put .clean), omega arith)
+put-requires c κs = (stack-by (c .before .moved2 .ensures) (c .before .before .before .before .before .before .before .before .put-part .ensures .put .stack), omega arith)
 
 sum-requires-3 : tie.Need-sum-requires-3 Inv-loop μ-loop
 sum-requires-3 c κs = (omega (arith, c .before .before .before .before .before .before .before .before .sum .ensures), omega arith)

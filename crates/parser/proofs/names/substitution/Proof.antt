@@ -5,7 +5,7 @@ use borrow.Author.Tests.{not-true, not-false}
 use Rattle.grammar.specs.Words.{word-of, Picked-inside}
 use Rattle.parser.specs.Holds.{refuses}
 use Rattle.parser.specs.Laws.{by}
-use Rattle.parser.specs.Adds.{clean-by, reads-moved, ready-moved}
+use Rattle.parser.specs.Adds.{stack-by, reads-moved, ready-moved}
 use Rattle.parser.specs.References.{sub-none, sub-end, sub-word, sub-entry}
 use borrow.Author.Needs.{needs}
 use Rattle.parser.proofs.names.substitution.Statement.{statement}
@@ -59,7 +59,7 @@ moved-requires-2 c κs = search needs
 
 word-requires : tie.Need-word-requires
 word-requires c κs =
-    (clean-by (c .moved2 .ensures) (c .before .before .before .before .before .before .before .before .before .before .before .before .before .before .pre .1 .text), subst Picked-inside (c .before .before .before .picked .given .1) (c .before .before .before .before .before .abbreviation .ensures .inside))
+    (stack-by (c .moved2 .ensures) (c .before .before .before .before .before .before .before .before .before .before .before .before .before .before .pre .1 .text), subst Picked-inside (c .before .before .before .picked .given .1) (c .before .before .before .before .before .abbreviation .ensures .inside))
 
 same-length-2 : tie.Need-same-length-2
 same-length-2 c = search needs

@@ -8,7 +8,7 @@ use Rattle.grammar.specs.Agree.{moved}
 use Rattle.parser.specs.Holds.{refuses}
 use Rattle.parser.specs.Laws.{by, holds-moved}
 use Rattle.parser.specs.Halves.{wrote-one}
-use Rattle.parser.specs.Adds.{clean-by, puts-from}
+use Rattle.parser.specs.Adds.{stack-by, puts-from}
 use Rattle.parser.specs.Source.{behind-number, number-more}
 use Rattle.parser.specs.Unnamed.{lambda, no-name, unnamed-end, unnamed-open, unnamed-lambda, unnamed-other}
 use borrow.Author.Needs.{needs}
@@ -43,7 +43,7 @@ slice-aggregate-put : tie.Need-slice-aggregate-put
 slice-aggregate-put c = search needs
 
 put-requires : tie.Need-put-requires
-put-requires c κs = (clean-by (c .before .moved .ensures) (c .before .before .before .before .before .before .before .before .before .before .before .pre), omega arith)
+put-requires c κs = (stack-by (c .before .moved .ensures) (c .before .before .before .before .before .before .before .before .before .before .before .pre), omega arith)
 
 same-length : tie.Need-same-length
 same-length c = search needs
@@ -73,7 +73,7 @@ slice-aggregate-put-2 : tie.Need-slice-aggregate-put-2
 slice-aggregate-put-2 c = search needs
 
 put-requires-2 : tie.Need-put-requires-2
-put-requires-2 c κs = (clean-by (c .before .moved2 .ensures) (c .before .before .before .before .before .before .before .before .before .pre), omega arith)
+put-requires-2 c κs = (stack-by (c .before .moved2 .ensures) (c .before .before .before .before .before .before .before .before .before .pre), omega arith)
 
 same-length-2 : tie.Need-same-length-2
 same-length-2 c = search needs

@@ -7,7 +7,7 @@ use borrow.Author.Needs.{needs}
 use lib.ListN.{take, drop, length-append, length-drop}
 use lib.Seq.{length-take-le}
 use Rattle.grammar.specs.Text.{Text, b}
-use Rattle.store.specs.Stack.{Clean}
+use Rattle.store.specs.Stack.{Stack}
 use Rattle.parser.specs.declared.state.Parser.{Parser}
 use Rattle.parser.specs.Holds.{Puts}
 use Rattle.parser.specs.Laws.{holds-puts}
@@ -16,12 +16,12 @@ use Rattle.parser.proofs.types.class_behind.Statement.{statement}
 use Rattle.parser.proofs.types.class_behind.Tie as tie
 
 -- the class stands once more on the top
-again-room : {text text₁ text₂ : Text} {p p₁ p₂ : Parser} {c m : ℕ} → Clean text (p .top) → c ≤ 16384 → m ≤ 16384 → c + m ≤ p .top
+again-room : {text text₁ text₂ : Text} {p p₁ p₂ : Parser} {c m : ℕ} → Stack text (p .top) → c ≤ 16384 → m ≤ 16384 → c + m ≤ p .top
     → Puts text text₁ p p₁ (32 ∷ []) → Puts text₁ text₂ p₁ p₂ (take c (drop (p₁ .top - (c + m + 1)) text₁)) → c + m + 1 + c ≤ p₂ .top
 again-room {text₁ = text₁} {p₁ = p₁} {c = c} {m = m} h i j l u v =
     let e = puts-top (c + m) h u l (omega arith) in
-    let z = length-take-le c (drop (p₁ .top - (c + m + 1)) text₁) (simp length-drop (omega (arith, u .put .clean .size, u .put .clean .most))) in
-    omega (arith, puts-top (c + m + 1) (u .put .clean) v (omega (arith, e)) (omega arith), z)
+    let z = length-take-le c (drop (p₁ .top - (c + m + 1)) text₁) (simp length-drop (omega (arith, u .put .stack .size, u .put .stack .most))) in
+    omega (arith, puts-top (c + m + 1) (u .put .stack) v (omega (arith, e)) (omega arith), z)
 
 slice-aggregate-put : tie.Need-slice-aggregate-put
 slice-aggregate-put c = search needs
@@ -38,7 +38,7 @@ add-d-2 c = search needs
 again-requires : tie.Need-again-requires
 again-requires c κs =
     let a = c .before .before .before .before .before .before .before in
-    (c .before .before .before .put .ensures .put .clean, (omega arith, (omega (arith, puts-top (a .args .c + a .args .m) (a .pre .0) (c .before .before .before .put .ensures) (a .pre .1 .1 .1) (omega (arith, a .pre .1 .0, a .pre .1 .1 .0))), (omega (arith, a .pre .1 .0, a .pre .1 .1 .0), a .pre .1 .0))))
+    (c .before .before .before .put .ensures .put .stack, (omega arith, (omega (arith, puts-top (a .args .c + a .args .m) (a .pre .0) (c .before .before .before .put .ensures) (a .pre .1 .1 .1) (omega (arith, a .pre .1 .0, a .pre .1 .1 .0))), (omega (arith, a .pre .1 .0, a .pre .1 .1 .0), a .pre .1 .0))))
 
 add-n : tie.Need-add-n
 add-n c = search needs
@@ -50,7 +50,7 @@ cut-requires : tie.Need-cut-requires
 cut-requires c κs =
     let a = c .before .before .before .before .before .before .before .before .before .before .before in
     let u = c .before .before .before .before .before .before .before .put .ensures in
-    (c .before .before .before .again .ensures .put .clean, omega (arith, again-room (a .pre .0) (a .pre .1 .0) (a .pre .1 .1 .0) (a .pre .1 .1 .1) u (c .before .before .before .again .ensures)))
+    (c .before .before .before .again .ensures .put .stack, omega (arith, again-room (a .pre .0) (a .pre .1 .0) (a .pre .1 .1 .0) (a .pre .1 .1 .1) u (c .before .before .before .again .ensures)))
 
 slice-aggregate-put-2 : tie.Need-slice-aggregate-put-2
 slice-aggregate-put-2 c = search needs
@@ -70,7 +70,7 @@ returns c =
     let o = c .before .before .before .before .before .before .before .cut .ensures in
     let w = c .before .before .put2 .ensures in
     let l = again-room (a .pre .0) (a .pre .1 .0) (a .pre .1 .1 .0) (a .pre .1 .1 .1) u v in (
-      omega (arith, puts-top (a .args .m + 1 + a .args .c) (o .cut .clean) w (omega (arith, l, o .cut .top-is)) (omega (arith, a .pre .1 .0, a .pre .1 .1 .0))),
+      omega (arith, puts-top (a .args .m + 1 + a .args .c) (o .cut .stack) w (omega (arith, l, o .cut .top-is)) (omega (arith, a .pre .1 .0, a .pre .1 .1 .0))),
       (
         (λ s store ends σ h. holds-puts w (holds-cuts o (holds-puts v (holds-puts u h)))),
         (λ k d s base from store ends x y σ e f h.

@@ -1,14 +1,12 @@
 -- `parser::types::weave_word` writes the word into an array and hands it to `stack::weave`. Assumes nothing.
 use mathlib.Core.Path.{_≡_, sym, ap, _∙_, subst}
-use mathlib.Core.List.{_++_}
 use Prim.Native.Nat.{ℕ, _+_, _-_, _*_}
 use native.Mathlib.Omega.{arith}
 use borrow.Author.Needs.{needs}
-use lib.ListN.{length, take, drop}
-use lib.Seq.{take-at}
+use lib.ListN.{length, take}
 use Rattle.grammar.specs.Text.{Text}
 use Rattle.grammar.specs.Grammar.{at-slots}
-use Rattle.grammar.specs.Words.{spelled, Inside}
+use Rattle.grammar.specs.Words.{spelled}
 use Rattle.grammar.specs.declared.codes.Word.{Word}
 use Rattle.grammar.proofs.Lookups.{length-spelled}
 use Rattle.store.specs.Stack.{Put, slots-in, newest}
@@ -16,8 +14,8 @@ use Rattle.parser.specs.Laws.{puts-by}
 use Rattle.parser.proofs.types.weave_word.Statement.{statement}
 use Rattle.parser.proofs.types.weave_word.Tie as tie
 
-written : (w : Word) → Inside w → (out z : Text) → out ≡ take 0 z ++ spelled w ++ drop (0 + (w .to - w .from)) z → take (w .to - w .from) out ≡ spelled w
-written w i out z e = ap (take (w .to - w .from)) e ∙ take-at (spelled w) (drop (0 + (w .to - w .from)) z) (w .to - w .from) (length-spelled w i)
+written : (w : Word) (out : Text) → take (0 + (w .to - w .from)) out ≡ spelled w → take (w .to - w .from) out ≡ spelled w
+written w out e = ap (λ (k : ℕ). take k out) {x = w .to - w .from} {y = 0 + (w .to - w .from)} (omega arith) ∙ e
 
 sub-each : tie.Need-sub-each
 sub-each c = search needs
@@ -34,12 +32,12 @@ array-share-prefix-word c = search needs
 slice-aggregate-weave : tie.Need-slice-aggregate-weave
 slice-aggregate-weave c =
     let a = c .before .before .before .before .before .before .before in
-    sym (ap length (written (a .args .w) (a .pre .1 .0) _ _ (c .before .before .before .write-word .ensures)) ∙ length-spelled (a .args .w) (a .pre .1 .0))
+    sym (ap length (written (a .args .w) _ (c .before .before .before .write-word .ensures)) ∙ length-spelled (a .args .w) (a .pre .1 .0))
 
 weave-requires : tie.Need-weave-requires
 weave-requires c κs =
     let a = c .before .before .before .before .before .before .before in
-    let z = ap length (written (a .args .w) (a .pre .1 .0) _ _ (c .before .before .before .write-word .ensures)) ∙ length-spelled (a .args .w) (a .pre .1 .0) in
+    let z = ap length (written (a .args .w) _ (c .before .before .before .write-word .ensures)) ∙ length-spelled (a .args .w) (a .pre .1 .0) in
     let l = a .pre .1 .1 .1 .1 in
     (a .pre .0, (omega (arith, a .pre .1 .1 .1 .0), (omega (arith, l), (omega (arith, z, a .pre .1 .1 .0), omega (arith, ap (λ (j : ℕ). slots-in (newest (a .args .text .now) (a .args .p .top) (a .args .n)) * (0 + j)) z, l)))))
 
@@ -54,7 +52,7 @@ returns c =
     let a = c .before .before .before .before .before .before .before .before .before .before .before in
     puts-by (c .raised .ensures)
     (subst (λ (z : Text). Put (a .args .text .now) (c .before .before .before .weave .last .0) (a .args .p .top) (c .before .before .before .weave .result) (at-slots z (newest (a .args .text .now) (a .args .p .top) (a .args .n))))
-    (written (a .args .w) (a .pre .1 .0) _ _ (c .before .before .before .before .before .before .before .write-word .ensures)) (c .before .before .before .weave .ensures))
+    (written (a .args .w) _ (c .before .before .before .before .before .before .before .write-word .ensures)) (c .before .before .before .weave .ensures))
 
 pub weave-word-spec : {M : Type 1} → statement M
 weave-word-spec =

@@ -10,7 +10,7 @@ use lib.Seq.{length-take-le}
 use Rattle.grammar.specs.Text.{Text, b}
 use Rattle.grammar.specs.Reader.{State, recorded}
 use Rattle.grammar.specs.Grammar.{at-slots}
-use Rattle.store.specs.Stack.{Clean, slots-in, newest, below-newest}
+use Rattle.store.specs.Stack.{Stack, slots-in, newest, below-newest}
 use Rattle.store.specs.Lists.{drop-take}
 use Rattle.parser.specs.declared.state.Parser.{Parser}
 use Rattle.parser.specs.Holds.{Memory, Stands, Puts}
@@ -28,7 +28,7 @@ member {m = m} {p = p} {j = j} x y h l f =
     sym (drop-take (p .top - j) (p .top) (m .text)) ∙ ap (λ (i : ℕ). newest (m .text) (p .top) i) (sym f) ∙ end-text x y h l
 
 -- how many bytes `weave` puts
-woven : {text : Text} {top slots : ℕ} (c m : ℕ) → Clean text top → c + m ≤ top → slots ≡ slots-in (lent text top m)
+woven : {text : Text} {top slots : ℕ} (c m : ℕ) → Stack text top → c + m ≤ top → slots ≡ slots-in (lent text top m)
     → length (at-slots (below-newest text top m c ++ (58 ∷ 58 ∷ 42 ∷ [])) (newest text top m)) ≡ m + slots * (c + 3)
 woven {text} {top} c m h l e =
     woven-size (below-newest text top m c ++ (58 ∷ 58 ∷ 42 ∷ [])) (newest text top m) (newest-size m h (omega arith))
@@ -114,7 +114,7 @@ cut-requires c κs =
     let h = a .pre .0 .1 .1 .text in
     let u = puts-by (c .before .raised .ensures) (c .before .before .before .before .weave .ensures) in
     let z = woven (a .args .c) (a .args .m) h (a .pre .1 .1 .1) (c .before .before .before .before .before .before .before .before .before .before .slots .ensures .0) in
-    (u .put .clean, omega (arith, puts-top (a .args .c + a .args .m) h u (a .pre .1 .1 .1) (omega (arith, a .pre .1 .0, a .pre .1 .1 .0)), z, c .before .before .before .before .before .before .before .before .woven .ensures, c .before .before .before .before .before .before .before .if2 .left))
+    (u .put .stack, omega (arith, puts-top (a .args .c + a .args .m) h u (a .pre .1 .1 .1) (omega (arith, a .pre .1 .0, a .pre .1 .1 .0)), z, c .before .before .before .before .before .before .before .before .woven .ensures, c .before .before .before .before .before .before .before .if2 .left))
 
 recorded-requires-2 : tie.Need-recorded-requires-2
 recorded-requires-2 c κs =

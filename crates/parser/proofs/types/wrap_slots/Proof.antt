@@ -72,7 +72,7 @@ cut-requires c κs =
     let h = a .pre .0 .1 .1 in
     let x = picked-at (c .before .before .before .before .before .before .before .before .before .before .before .slot-wrapper .ensures) (c .before .before .before .before .before .before .before .before .before .picked .given .1) in
     let z = woven-size (spelled (c .before .before .before .before .before .before .before .before .before .picked .given .0 .0)) (newest (a .args .text .now) (a .args .p .top) (a .args .n)) (newest-size (a .args .n) (h .text) (a .pre .1 .0)) (sym (a .pre .1 .1 .1 .1)) (length-spelled _ (x .1)) in
-    (c .before .before .before .weave-word .ensures .put .clean, omega (arith, puts-top (a .args .n) (h .text) (c .before .before .before .weave-word .ensures) (a .pre .1 .0) (omega (arith, a .pre .1 .1 .0)), z, c .before .before .before .before .before .before .woven .ensures, c .before .before .before .before .before .if1 .left))
+    (c .before .before .before .weave-word .ensures .put .stack, omega (arith, puts-top (a .args .n) (h .text) (c .before .before .before .weave-word .ensures) (a .pre .1 .0) (omega (arith, a .pre .1 .1 .0)), z, c .before .before .before .before .before .before .woven .ensures, c .before .before .before .before .before .if1 .left))
 
 recorded-requires : tie.Need-recorded-requires
 recorded-requires c κs =

@@ -119,7 +119,7 @@ pub +arg+args+array+class+func+inst-n+inst-t+item+items+lit+loc-fn+local+memb+na
     (λ t. nm-in-lts.spec (Cycle.nm-in-calls t) (Cycle.nm-in-at t) nm-in.Post (NmIn.peek-requires t) (NmIn.enum-known-c t) (NmIn.enum-told t) (NmIn.returns t) (NmIn.nested-requires t) (NmIn.s-nm-requires t) (NmIn.add-moved t) (NmIn.moved-requires t) (NmIn.name-requires t) (NmIn.local-requires t) (NmIn.plain-requires t) (NmIn.same-length t) (NmIn.same-length-2 t) (NmIn.same-length-3 t) (NmIn.returns-2 t) (NmIn.same-length-4 t) (NmIn.same-length-5 t) (NmIn.same-length-6 t) (NmIn.returns-3 t) (NmIn.same-length-7 t) (NmIn.same-length-8 t) (NmIn.same-length-9 t) (NmIn.returns-4 t) (NmIn.same-length-10 t) (NmIn.same-length-11 t) (NmIn.same-length-12 t) (NmIn.returns-5 t) (NmIn.same-length-13 t) (NmIn.same-length-14 t) (NmIn.same-length-15 t) (NmIn.returns-6 t))
     (λ t. oper-lts.spec (Cycle.oper-calls t) (Cycle.oper-at t) oper.Post (Oper.add-if1 t) (Oper.returns t) (Oper.shared-slice-read-a t) (Oper.add-c t) (Oper.shared-slice-read-c t) (Oper.add-moved t) (Oper.moved-requires t) (Oper.operator-name-requires t) (Oper.enum-known-w t) (Oper.word-requires t) (Oper.same-length t) (Oper.returns-2 t) (Oper.enum-told t) (Oper.returns-3 t) (Oper.returns-4 t) (Oper.slice-aggregate-put t) (Oper.put-requires t) (Oper.ty-requires t) (Oper.enum-known-got t) (Oper.enum-told-2 t) (Oper.same-length-2 t) (Oper.same-length-3 t) (Oper.same-length-4 t) (Oper.returns-5 t) (Oper.with-templated-requires t) (Oper.add-given t) (Oper.given-requires t) (Oper.same-length-5 t) (Oper.same-length-6 t) (Oper.same-length-7 t) (Oper.returns-6 t))
     (λ t. pack-lts.spec (Cycle.pack-calls t) (Cycle.pack-at t) pack.Post Pack.Inv-loop Pack.μ-loop (Pack.loop-holds t) (Pack.peek-requires t) (Pack.enum-known-c t) (Pack.enum-told t) (Pack.same-length t) (Pack.same-length-2 t) (Pack.same-length-3 t) (Pack.returns t) (Pack.add-moved t) (Pack.moved-requires t) (Pack.pack-ends-requires t) (Pack.joined-size-requires t) (Pack.given-requires t) (Pack.same-length-4 t) (Pack.same-length-5 t) (Pack.same-length-6 t) (Pack.returns-2 t) (Pack.sub-level t) (Pack.mul-sum t) (Pack.array-read-sum t) (Pack.joined-size-requires-2 t) (Pack.add-sum t) (Pack.sum-requires t) (Pack.loop-less t) (Pack.loop-again t) (Pack.comma-requires t) (Pack.pack-opens-requires t) (Pack.mul-outer t) (Pack.array-write-outer t) (Pack.add-level t) (Pack.add-moved-2 t) (Pack.moved-requires-2 t) (Pack.loop-less-2 t) (Pack.loop-again-2 t) (Pack.arg-requires t) (Pack.enum-known-got t) (Pack.enum-told-2 t) (Pack.same-length-7 t) (Pack.same-length-8 t) (Pack.same-length-9 t) (Pack.returns-3 t) (Pack.add-sum-2 t) (Pack.sum-requires-2 t) (Pack.loop-less-3 t) (Pack.loop-again-3 t))
-    (λ t. part-lts.spec (Cycle.part-calls t) (Cycle.part-at t) part.Post (Part.template-param-requires t) (Part.same-length t) (Part.same-length-2 t) (Part.same-length-3 t) (Part.returns t) (Part.unq-requires t) (Part.same-length-4 t) (Part.same-length-5 t) (Part.same-length-6 t) (Part.returns-2 t))
+    (λ t. part-lts.spec (Cycle.part-calls t) (Cycle.part-at t) part.Post (Part.template-param-requires t) (Part.same-length t) (Part.same-length-2 t) (Part.same-length-3 t) (Part.returns t) (Part.digit-ahead-requires t) (Part.source-name-requires t) (Part.same-length-4 t) (Part.returns-2 t) (Part.unq-requires t) (Part.same-length-5 t) (Part.same-length-6 t) (Part.same-length-7 t) (Part.returns-3 t))
     (λ t. plain-lts.spec (Cycle.plain-calls t) (Cycle.plain-at t) plain.Post (Plain.unq-requires t) (Plain.enum-known-got t) (Plain.enum-told t) (Plain.same-length t) (Plain.same-length-2 t) (Plain.same-length-3 t) (Plain.returns t) (Plain.here-requires t) (Plain.same-length-4 t) (Plain.same-length-5 t) (Plain.same-length-6 t) (Plain.returns-2 t) (Plain.push-sub-requires t) (Plain.enum-known-kept t) (Plain.enum-told-2 t) (Plain.same-length-7 t) (Plain.same-length-8 t) (Plain.same-length-9 t) (Plain.returns-3 t) (Plain.inst-n-requires t) (Plain.same-length-10 t) (Plain.same-length-11 t) (Plain.same-length-12 t) (Plain.returns-4 t))
     (λ t. px-lts.spec (Cycle.px-calls t) (Cycle.px-at t) px.Post (Px.structor-requires t) (Px.ctor-dtor-requires t) (Px.same-length t) (Px.returns t) (Px.px-arg-requires t) (Px.separated-requires t) (Px.substitution-requires t) (Px.enum-known-got t) (Px.enum-told t) (Px.unread-requires t) (Px.same-length-2 t) (Px.same-length-3 t) (Px.same-length-4 t) (Px.returns-2 t) (Px.longer-requires t) (Px.px-new-requires t) (Px.same-length-5 t) (Px.same-length-6 t) (Px.same-length-7 t) (Px.returns-3 t) (Px.same-length-8 t) (Px.same-length-9 t) (Px.same-length-10 t) (Px.returns-4 t) (Px.same-length-11 t) (Px.same-length-12 t) (Px.same-length-13 t) (Px.returns-5 t))
     (λ t. px-arg-lts.spec (Cycle.px-arg-calls t) (Cycle.px-arg-at t) px-arg.Post (PxArg.clear-args-requires t) (PxArg.args-requires t) (PxArg.enum-known-got t) (PxArg.enum-told t) (PxArg.unread-requires t) (PxArg.same-length t) (PxArg.same-length-2 t) (PxArg.same-length-3 t) (PxArg.returns t) (PxArg.same-length-4 t) (PxArg.same-length-5 t) (PxArg.same-length-6 t) (PxArg.returns-2 t) (PxArg.sum-requires t) (PxArg.push-sub-requires t) (PxArg.enum-known-kept t) (PxArg.enum-told-2 t) (PxArg.unread-requires-2 t) (PxArg.same-length-7 t) (PxArg.same-length-8 t) (PxArg.same-length-9 t) (PxArg.returns-3 t) (PxArg.here-requires t) (PxArg.with-templated-requires t) (PxArg.sum-requires-2 t) (PxArg.same-length-10 t) (PxArg.same-length-11 t) (PxArg.same-length-12 t) (PxArg.returns-4 t))

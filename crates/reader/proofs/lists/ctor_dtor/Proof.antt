@@ -62,14 +62,14 @@ back-there : (c : tie.After-struct-known) → c .before .before .before .before 
 back-there c =
     let u = c .before .before .before .before .before .before .before .before .separated .ensures in
     let a = puts-top (c .before .before .before .before .before .before .before .before .before .before .before .before .before .class-of .result .back) (c .before .before .before .before .before .before .before .before .before .before .before .before .before .before .before .before .before .pre .0 .3 .1 .text) u (omega (arith, c .before .before .before .before .before .before .before .before .before .before .before .before .before .class-of .ensures .inside, c .before .before .before .before .before .before .before .before .before .before .before .before .before .before .before .before .before .pre .1, c .before .before .before .before .before .before .before .before .before .before .before .before .before .before .before .if1 .left)) (omega (arith, back-small c)) in
-    let e = puts-top (c .before .before .before .before .before .before .before .before .before .before .before .before .before .class-of .result .back + length (before-part (c .before .before .before .before .before .before .before .before .before .before .before .before .before .before .before .before .before .args .parts .count))) (u .put .clean) (c .before .before .before .before .tilde .ensures) a (omega (arith, back-small c, colons-size (c .before .before .before .before .before .before .before .before .before .before .before .before .before .before .before .before .before .args .parts .count))) in
+    let e = puts-top (c .before .before .before .before .before .before .before .before .before .before .before .before .before .class-of .result .back + length (before-part (c .before .before .before .before .before .before .before .before .before .before .before .before .before .before .before .before .before .args .parts .count))) (u .put .stack) (c .before .before .before .before .tilde .ensures) a (omega (arith, back-small c, colons-size (c .before .before .before .before .before .before .before .before .before .before .before .before .before .before .before .before .before .args .parts .count))) in
     omega (arith, e, colons-size (c .before .before .before .before .before .before .before .before .before .before .before .before .before .before .before .before .before .args .parts .count), c .before .before .before .before .before .before .before .before .before .before .before .tilde-size .ensures)
 
 add-again : tie.Need-add-again
 add-again c = search (needs, back-small c, gap c, gap-small c)
 
 again-requires : tie.Need-again-requires
-again-requires c κs = (c .before .before .before .before .tilde .ensures .put .clean, again-room (gap c) (omega (arith, c .before .before .before .before .before .before .before .before .before .before .before .before .before .class-of .ensures .inside, c .before .before .before .before .before .before .before .before .before .before .before .before .shorter .ensures)) (back-there c) (gap-small c) (back-small c) (omega (arith, c .before .before .before .before .before .before .before .before .before .before .before .before .shorter .ensures)))
+again-requires c κs = (c .before .before .before .before .tilde .ensures .put .stack, again-room (gap c) (omega (arith, c .before .before .before .before .before .before .before .before .before .before .before .before .before .class-of .ensures .inside, c .before .before .before .before .before .before .before .before .before .before .before .before .shorter .ensures)) (back-there c) (gap-small c) (back-small c) (omega (arith, c .before .before .before .before .before .before .before .before .before .before .before .before .shorter .ensures)))
 
 add-moved-2 : tie.Need-add-moved-2
 add-moved-2 c = search (needs, c .before .before .before .before .before .before .before .before .before .before .before .before .before .before .before .before .before .before .before .before .pre .0 .3 .1 .place, c .before .before .before .before .before .before .before .before .before .before .before .before .before .before .before .before .before .before .before .before .pre .0 .3 .1 .source)

@@ -54,7 +54,7 @@ recorded-requires c κs =
     let a = c .before .before .before .before .before .before .before .before .before .before .before .before .before .before .before .before .before .before .before .before .before in
     let u = c .before .before .before .before .before .before .before .before .before .before .cut .ensures in
     let v = c .before .before .before .before .before .put .ensures in
-    ((a .pre .0 .0, (a .pre .0 .1 .0, holds-puts v (holds-cuts u (a .pre .0 .1 .1)))), omega (arith, puts-least (u .cut .clean) v, u .cut .top-is, a .pre .1, c .before .before .before .before .before .before .before .before .before .before .before .before .before .before .before .before .if2 .taken))
+    ((a .pre .0 .0, (a .pre .0 .1 .0, holds-puts v (holds-cuts u (a .pre .0 .1 .1)))), omega (arith, puts-least (u .cut .stack) v, u .cut .top-is, a .pre .1, c .before .before .before .before .before .before .before .before .before .before .before .before .before .before .before .before .if2 .taken))
 
 same-length : tie.Need-same-length
 same-length c = search needs

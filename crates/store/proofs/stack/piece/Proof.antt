@@ -16,7 +16,7 @@ shift-requires : tie.Need-shift-requires
 shift-requires c κs =
     let s = c .before .before .before .before in
     let a = s .args in
-    let r : a .top + a .d + length (a .word .now) + 1 ≤ 65536 = slot-room (a .low) (a .d) (a .word .now) (a .x) (s .pre .0) (s .pre .1 .0) (s .pre .1 .1) (c .before .if1 .taken) in
+    let r : a .top + a .d + length (a .word .now) + 1 ≤ 51200 = slot-room (a .low) (a .d) (a .word .now) (a .x) (s .pre .0) (s .pre .1 .0) (s .pre .1 .1) (c .before .if1 .taken) in
     (omega arith, (omega arith, inr (omega arith)))
 
 add-at : tie.Need-add-at

@@ -43,7 +43,7 @@ piece-requires c κs =
     let s = c .before .before .before .before .before .before in
     let a = s .args in
     let l = c .before .before .before .loop in
-    (l .inv .1 .clean, (omega (arith, l .inv .1 .top-is), piece-fits (a .n) (a .d) (a .word .now) (s .pre .0) (s .pre .1 .0) (l .i) (omega arith) (l .inv .1) (s .pre .1 .1)))
+    (l .inv .1 .stack, (omega (arith, l .inv .1 .top-is), piece-fits (a .n) (a .d) (a .word .now) (s .pre .0) (s .pre .1 .0) (l .i) (omega arith) (l .inv .1) (s .pre .1 .1)))
 
 add-i : tie.Need-add-i Inv-loop μ-loop
 add-i c = search needs
@@ -59,7 +59,7 @@ loop-again c =
     (omega arith, piece-more (a .n) (a .d) (a .word .now) (s .pre .0) (s .pre .1 .0) (l .i) (omega arith) (l .inv .1) (c .before .before .piece .ensures))
 
 same-length : tie.Need-same-length Inv-loop μ-loop
-same-length c = omega (arith, c .before .loop .inv .1 .clean .size, c .before .before .before .before .pre .0 .size)
+same-length c = omega (arith, c .before .loop .inv .1 .stack .size, c .before .before .before .before .pre .0 .size)
 
 returns : tie.Need-returns Inv-loop μ-loop
 returns c =

@@ -1,80 +1,15 @@
--- `store::stack::same_part` meets its contract. Invariant: the two parts are one if they are one from i on; the measure is what is
--- left of n.
--- Assumes nothing.
-use mathlib.Core.Path.{_≡_, refl, sym, _∙_}
-use Prim.Native.Nat.{_≤_, _-_}
+-- `store::stack::same_part` meets its contract. Assumes nothing.
+use mathlib.Core.Path.{refl}
 use native.Mathlib.Omega.{arith}
 use borrow.Author.Needs.{needs}
-use lib.ListN.{take, drop, length-take}
-use Rattle.grammar.specs.Text.{same}
-use Rattle.store.proofs.Loops.{same-more, same-differ, same-end, part-at, in-part}
 use Rattle.store.proofs.stack.same_part.Statement.{statement}
 use Rattle.store.proofs.stack.same_part.Tie as tie
 
-abbrev Inv-loop : tie.InvT-loop
-Inv-loop text from store a n i₀ i = (i ≤ n) × (same (take n (drop from text)) (take n (drop a store)) ≡ same (drop i (take n (drop from text))) (drop i (take n (drop a store))))
+same-from-requires : tie.Need-same-from-requires
+same-from-requires c κs = (omega arith, (omega arith, (omega arith, refl)))
 
-abbrev μ-loop : tie.MeasureT-loop
-μ-loop text from store a n i₀ i = n - i
-
-loop-holds : tie.Need-loop-holds Inv-loop μ-loop
-loop-holds c = (omega arith, refl)
-
-add-if1 : tie.Need-add-if1 Inv-loop μ-loop
-add-if1 c = search needs
-
-shared-slice-read-if1 : tie.Need-shared-slice-read-if1 Inv-loop μ-loop
-shared-slice-read-if1 c = search needs
-
-add-if1-2 : tie.Need-add-if1-2 Inv-loop μ-loop
-add-if1-2 c = search needs
-
-shared-slice-read-if1-2 : tie.Need-shared-slice-read-if1-2 Inv-loop μ-loop
-shared-slice-read-if1-2 c = search needs
-
-returns : tie.Need-returns Inv-loop μ-loop
-returns c =
-    let s = c .before .before .before .before .before in
-    let a = s .args in
-    let l = c .before .before .before .before .loop in
-    sym (l .inv .1 ∙ same-differ (take (a .n) (drop (a .from) (a .text .now))) (take (a .n) (drop (a .a) (a .store .now))) (l .i) (in-part (a .text .now) (a .from) (a .n) (l .i) (omega arith) (omega arith)) (in-part (a .store .now) (a .a) (a .n) (l .i) (omega arith) (omega arith))
-    (λ e. c .if1 .taken (sym (part-at (a .text .now) (a .from) (a .n) (l .i) (omega arith)) ∙ e ∙ part-at (a .store .now) (a .a) (a .n) (l .i) (omega arith))))
-
-add-i : tie.Need-add-i Inv-loop μ-loop
-add-i c = search needs
-
-loop-less : tie.Need-loop-less Inv-loop μ-loop
-loop-less c = search needs
-
-loop-again : tie.Need-loop-again Inv-loop μ-loop
-loop-again c =
-    let s = c .before .before .before .before .before in
-    let a = s .args in
-    let l = c .before .before .before .before .loop in (
-      omega arith,
-      l .inv .1 ∙ same-more (take (a .n) (drop (a .from) (a .text .now))) (take (a .n) (drop (a .a) (a .store .now))) (l .i) (in-part (a .text .now) (a .from) (a .n) (l .i) (omega arith) (omega arith)) (in-part (a .store .now) (a .a) (a .n) (l .i) (omega arith) (omega arith))
-          (part-at (a .text .now) (a .from) (a .n) (l .i) (omega arith) ∙ c .if1 .left ∙ sym (part-at (a .store .now) (a .a) (a .n) (l .i) (omega arith))),
-    )
-
-returns-2 : tie.Need-returns-2 Inv-loop μ-loop
-returns-2 c =
-    let a = c .before .before .args in
-    let l = c .before .loop in
-    sym (l .inv .1 ∙ same-end (take (a .n) (drop (a .from) (a .text .now))) (take (a .n) (drop (a .a) (a .store .now))) (l .i) (simp length-take (omega arith)) (simp length-take (omega arith)))
+returns : tie.Need-returns
+returns c = search needs
 
 pub same-part-spec : {M : Type 1} → statement M
-same-part-spec =
-    tie.close
-    (tie.spec
-    Inv-loop
-    μ-loop
-    loop-holds
-    add-if1
-    shared-slice-read-if1
-    add-if1-2
-    shared-slice-read-if1-2
-    returns
-    add-i
-    loop-less
-    loop-again
-    returns-2)
+same-part-spec = tie.close (tie.spec same-from-requires returns)

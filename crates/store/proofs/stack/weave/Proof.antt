@@ -42,7 +42,7 @@ pieces-requires c κs =
     let s = c .before .before .before .before .before .before .before .before .before in
     let a = s .args in
     let h = c .before .before .before .room .ensures in (
-      h .clean,
+      h .stack,
       (
         omega (arith, h .long),
         weave-fits (a .n) (a .d) (s .pre .0) h (s .pre .1 .0) (s .pre .1 .1 .0) (a .word .now)

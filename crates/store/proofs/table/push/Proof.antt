@@ -1,18 +1,23 @@
 -- `store::table::push` meets its contract: the text is copied behind the others, and its end is written behind the others' ends.
 -- Assumes nothing.
 use mathlib.Core.Path.{refl}
-use borrow.Author.Needs.{needs}
+use Prim.Native.Nat.{_-_}
+use native.Mathlib.Omega.{arith}
+use lib.ListN.{drop, length-drop}
+use lib.Seq.{length-take-le}
 use Rattle.store.specs.Entries.{pushed}
 use borrow.Author.Needs.{needs}
 use Rattle.store.proofs.table.push.Statement.{statement}
 use Rattle.store.proofs.table.push.Tie as tie
-use Rattle.store.proofs.stack.copy.Reads as copy-reads
+
+sub-end : tie.Need-sub-end
+sub-end c = search needs
 
 add-end : tie.Need-add-end
 add-end c = search needs
 
-copy-requires : tie.Need-copy-requires
-copy-requires c κs = search needs
+copy-part-requires : tie.Need-copy-part-requires
+copy-part-requires c κs = search needs
 
 cast-ends : tie.Need-cast-ends
 cast-ends c = search needs
@@ -32,14 +37,17 @@ same-length-2 c = search needs
 returns : tie.Need-returns
 returns c l h =
     let s = c .before .before .before .before .before .before .before in
-    pushed h (s .args .text .now) (c .before .before .copy .last .0) _ (s .pre .1 .0) (s .pre .1 .1) (c .before .before .copy .ensures) refl
+    let a = s .args in
+    pushed h _ (a .to - a .from) (c .before .before .copy-part .last .0) _ (length-take-le (a .to - a .from) (drop (a .from) (a .text .now)) (simp length-drop (omega arith)))
+    (s .pre .1 .0) (s .pre .1 .1 .1 .1) (c .before .before .copy-part .kept .0) (c .before .before .copy-part .ensures) refl
 
 pub push-spec : {M : Type 1} → statement M
 push-spec =
     tie.close
     (tie.spec
+    sub-end
     add-end
-    copy-requires
+    copy-part-requires
     cast-ends
     mul-ends
     slice-write-ends

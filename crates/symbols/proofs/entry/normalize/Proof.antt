@@ -1,10 +1,15 @@
--- `symbols::entry::normalize` meets its contract: only the lengths of the work slices matter. Assumes nothing.
-use mathlib.Core.Path.{_∙_}
-use Rattle.names.specs.Told.{cleared-zero}
-use Rattle.symbols.specs.Answers.{cleared-normalized}
+-- `symbols::entry::normalize` meets its contract: the answer is told, and the work slices are cleared. Assumes nothing.
+use mathlib.Core.Path.{ap, _∙_}
+use native.Mathlib.Omega.{arith}
+use Rattle.store.specs.Stack.{zeros}
+use Rattle.names.specs.Outcome.{slices}
+use Rattle.symbols.specs.Answers.{told-normalizes}
 use borrow.Author.Needs.{needs}
 use Rattle.symbols.proofs.entry.normalize.Statement.{statement}
 use Rattle.symbols.proofs.entry.normalize.Tie as tie
+
+normalize-uncleared-requires : tie.Need-normalize-uncleared-requires
+normalize-uncleared-requires c κs = search needs
 
 clear-requires : tie.Need-clear-requires
 clear-requires c κs = search needs
@@ -14,15 +19,6 @@ clear-requires-2 c κs = search needs
 
 clear-ends-requires : tie.Need-clear-ends-requires
 clear-ends-requires c κs = search needs
-
-normalize-zeroed-requires : tie.Need-normalize-zeroed-requires
-normalize-zeroed-requires c κs =
-    let a = c .before .before .before .before .before .before .before .before .before .before .before .before .before .before .before .before .before .before .before .before .before .args in
-    cleared-zero {text = a .text .now} {store = a .store .now} {ends = a .ends .now} record {
-      text = c .before .before .before .before .before .before .before .before .before .before .before .before .before .before .clear .ensures;
-      store = c .before .before .before .before .before .before .before .before .before .before .clear2 .ensures;
-      ends = c .before .before .before .before .before .before .clear-ends .ensures;
-    } (a .out .now)
 
 same-length : tie.Need-same-length
 same-length c = search needs
@@ -39,21 +35,18 @@ same-length-4 c = search needs
 returns : tie.Need-returns
 returns c =
     let a = c .before .before .before .before .before .before .before .before .before .before .before .before .before .before .before .before .before .before .before .before .before .before .before .before .before .before .before .before .before .before .args in
-    c .before .before .before .before .before .before .before .before .normalize-zeroed .ensures
-    ∙ cleared-normalized {text = a .text .now} {store = a .store .now} {ends = a .ends .now} record {
-      text = c .before .before .before .before .before .before .before .before .before .before .before .before .before .before .before .before .before .before .before .before .before .before .before .clear .ensures;
-      store = c .before .before .before .before .before .before .before .before .before .before .before .before .before .before .before .before .before .before .before .clear2 .ensures;
-      ends = c .before .before .before .before .before .before .before .before .before .before .before .before .before .before .before .clear-ends .ensures;
-    } (a .s .now) (a .out .now)
+    let d = c .before .before .before .before .before .before .before .before .before .before .before .before .before .before .before .before .before .before .before .before .normalize-uncleared in
+    told-normalizes (a .s .now) (slices (a .out .now) (a .text .now) (a .store .now) (a .ends .now)) _ (d .ensures)
+    (c .before .before .before .before .before .before .before .before .before .before .clear .ensures ∙ ap zeros (omega (arith, d .kept))) (c .before .before .before .before .before .before .clear2 .ensures ∙ ap zeros (omega (arith, d .kept))) (c .before .before .clear-ends .ensures ∙ ap zeros (omega (arith, d .kept)))
 
 pub normalize-spec : {M : Type 1} → statement M
 normalize-spec =
     tie.close
     (tie.spec
+    normalize-uncleared-requires
     clear-requires
     clear-requires-2
     clear-ends-requires
-    normalize-zeroed-requires
     same-length
     same-length-2
     same-length-3

@@ -1,8 +1,5 @@
 -- `normal::symbol::plain` writes _Z and a source name. Assumes nothing.
-use mathlib.Core.List.{[], _∷_}
 use mathlib.Core.Path.{ap, subst, _∙_}
-use lib.ListN.{length}
-use Rattle.store.specs.Lists.{length-pad}
 use Rattle.normal.specs.States.{moved-to}
 use Rattle.normal.specs.Answers.{NameIs}
 use Rattle.normal.specs.declared.state.Writer.{Writer}
@@ -37,7 +34,7 @@ put-name-requires : tie.Need-put-name-requires
 put-name-requires c κs =
     let h = subst (NameIs (c .before .before .before .before .before .before .before .before .before .before .before .before .before .args .s .now) 2) (c .before .before .before .before .before .before .before .before .from .given .1) (c .before .before .before .before .before .before .before .before .before .before .source-name .ensures) in
     let e = ap (λ (q : Writer). q .out) (c .moved .ensures) ∙ ap (λ (q : Writer). q .out) (c .before .before .before .before .begin .ensures .0) in
-    (omega (arith, h .some), (h .inside, (omega (arith, h .inside), omega (arith, e, plain-size h, h .inside, ap length (c .before .before .before .before .begin .ensures .1), length-pad 65536 (95 ∷ 90 ∷ []) (omega arith)))))
+    (omega (arith, h .some), (h .inside, (omega (arith, h .inside), omega (arith, e, plain-size h, h .inside, c .before .before .before .before .begin .ensures .1 .size))))
 
 same-length : tie.Need-same-length
 same-length c = search needs

@@ -10,7 +10,8 @@ begin-requires c κs = search needs
 
 parts-requires : tie.Need-parts-requires
 parts-requires c κs =
-    let b = begun-by {s = c .before .before .before .before .before .before .before .before .before .before .args .s .now} {w = c .before .before .before .before .before .before .before .before .before .before .args .word .now} (c .before .before .before .before .before .before .before .before .before .before .pre) (c .before .before .before .before .begin .ensures) in
+    let q = c .before .before .before .before .before .before .before .before .before .before in
+    let b = begun-by (q .args .s .now) (q .args .word .now) (q .args .notes .now) (q .pre .0) (q .pre .1 .1) (c .before .before .before .before .begin .ensures) in
     (_, scoped-holds b)
 
 enum-known-next : tie.Need-enum-known-next
@@ -27,12 +28,14 @@ same-length-2 c = search needs
 
 returns : tie.Need-returns
 returns c =
-    let b = begun-by {s = c .before .before .before .before .before .before .before .before .before .before .before .before .before .before .before .before .before .args .s .now} {w = c .before .before .before .before .before .before .before .before .before .before .before .before .before .before .before .before .before .args .word .now} (c .before .before .before .before .before .before .before .before .before .before .before .before .before .before .before .before .before .pre) (c .before .before .before .before .before .before .before .before .before .before .before .begin .ensures) in
-    scoped-none b (c .before .before .before .before .before .before .parts .ensures) (c .before .before .before .before .before .before .before .before .before .before .before .before .before .before .before .before .before .args .constant) (c .enum-told .given .1)
+    let q = c .before .before .before .before .before .before .before .before .before .before .before .before .before .before .before .before .before in
+    let b = begun-by (q .args .s .now) (q .args .word .now) (q .args .notes .now) (q .pre .0) (q .pre .1 .1) (c .before .before .before .before .before .before .before .before .before .before .before .begin .ensures) in
+    scoped-none b (c .before .before .before .before .before .before .parts .ensures) (q .args .constant) (c .enum-told .given .1)
 
 tag-of-requires : tie.Need-tag-of-requires
 tag-of-requires c κs =
-    let b = begun-by {s = c .before .before .before .before .before .before .before .before .before .before .before .before .before .before .before .before .before .before .before .args .s .now} {w = c .before .before .before .before .before .before .before .before .before .before .before .before .before .before .before .before .before .before .before .args .word .now} (c .before .before .before .before .before .before .before .before .before .before .before .before .before .before .before .before .before .before .before .pre) (c .before .before .before .before .before .before .before .before .before .before .before .before .before .begin .ensures) in
+    let q = c .before .before .before .before .before .before .before .before .before .before .before .before .before .before .before .before .before .before .before in
+    let b = begun-by (q .args .s .now) (q .args .word .now) (q .args .notes .now) (q .pre .0) (q .pre .1 .1) (c .before .before .before .before .before .before .before .before .before .before .before .before .before .begin .ensures) in
     let t = scoped-ready b (c .before .before .before .before .before .before .before .before .parts .ensures) (c .before .before .next .given .1) in
     (_, (_, (t .state, t .holds)))
 
@@ -47,12 +50,14 @@ same-length-4 c = search needs
 
 returns-2 : tie.Need-returns-2
 returns-2 c =
-    let b = begun-by {s = c .before .before .before .before .before .before .before .before .before .before .before .before .before .before .before .before .before .before .before .before .before .before .args .s .now} {w = c .before .before .before .before .before .before .before .before .before .before .before .before .before .before .before .before .before .before .before .before .before .before .args .word .now} (c .before .before .before .before .before .before .before .before .before .before .before .before .before .before .before .before .before .before .before .before .before .before .pre) (c .before .before .before .before .before .before .before .before .before .before .before .before .before .before .before .before .begin .ensures) in
-    scoped-full b (c .before .before .before .before .before .before .before .before .before .before .before .parts .ensures) (c .before .before .before .before .before .next .given .1) (c .before .before .before .before .before .before .before .before .before .before .before .before .before .before .before .before .before .before .before .before .before .before .args .constant) (c .before .before .tag-of .ensures) (c .before .bare .ensures) (not-true _ (c .if1 .taken))
+    let q = c .before .before .before .before .before .before .before .before .before .before .before .before .before .before .before .before .before .before .before .before .before .before in
+    let b = begun-by (q .args .s .now) (q .args .word .now) (q .args .notes .now) (q .pre .0) (q .pre .1 .1) (c .before .before .before .before .before .before .before .before .before .before .before .before .before .before .before .before .begin .ensures) in
+    scoped-full b (c .before .before .before .before .before .before .before .before .before .before .before .parts .ensures) (c .before .before .before .before .before .next .given .1) (q .args .constant) (c .before .before .tag-of .ensures) (c .before .bare .ensures) (not-true _ (c .if1 .taken))
 
 close-requires : tie.Need-close-requires
 close-requires c κs =
-    let b = begun-by {s = c .before .before .before .before .before .before .before .before .before .before .before .before .before .before .before .before .before .before .before .before .before .before .before .args .s .now} {w = c .before .before .before .before .before .before .before .before .before .before .before .before .before .before .before .before .before .before .before .before .before .before .before .args .word .now} (c .before .before .before .before .before .before .before .before .before .before .before .before .before .before .before .before .before .before .before .before .before .before .before .pre) (c .before .before .before .before .before .before .before .before .before .before .before .before .before .before .before .before .before .begin .ensures) in
+    let q = c .before .before .before .before .before .before .before .before .before .before .before .before .before .before .before .before .before .before .before .before .before .before .before in
+    let b = begun-by (q .args .s .now) (q .args .word .now) (q .args .notes .now) (q .pre .0) (q .pre .1 .1) (c .before .before .before .before .before .before .before .before .before .before .before .before .before .before .before .before .before .begin .ensures) in
     let t = scoped-ready b (c .before .before .before .before .before .before .before .before .before .before .before .before .parts .ensures) (c .before .before .before .before .before .before .next .given .1) in
     (scoped-room b (c .before .before .before .before .before .before .before .before .before .before .before .before .parts .ensures) (c .before .before .before .before .before .before .next .given .1), (_, (_, (t .state, t .holds))))
 
@@ -64,8 +69,9 @@ same-length-6 c = search needs
 
 returns-3 : tie.Need-returns-3
 returns-3 c =
-    let b = begun-by {s = c .before .before .before .before .before .before .before .before .before .before .before .before .before .before .before .before .before .before .before .before .before .before .before .before .before .before .args .s .now} {w = c .before .before .before .before .before .before .before .before .before .before .before .before .before .before .before .before .before .before .before .before .before .before .before .before .before .before .args .word .now} (c .before .before .before .before .before .before .before .before .before .before .before .before .before .before .before .before .before .before .before .before .before .before .before .before .before .before .pre) (c .before .before .before .before .before .before .before .before .before .before .before .before .before .before .before .before .before .before .before .before .begin .ensures) in
-    scoped-heads b (c .before .before .before .before .before .before .before .before .before .before .before .before .before .before .before .parts .ensures) (c .before .before .before .before .before .before .before .before .before .next .given .1) (c .before .before .before .before .before .before .before .before .before .before .before .before .before .before .before .before .before .before .before .before .before .before .before .before .before .before .args .constant) (c .before .before .before .before .before .before .tag-of .ensures) (c .before .before .before .before .before .bare .ensures) (not-false _ (c .before .before .before .before .if1 .left)) (c .before .before .close .ensures)
+    let q = c .before .before .before .before .before .before .before .before .before .before .before .before .before .before .before .before .before .before .before .before .before .before .before .before .before .before in
+    let b = begun-by (q .args .s .now) (q .args .word .now) (q .args .notes .now) (q .pre .0) (q .pre .1 .1) (c .before .before .before .before .before .before .before .before .before .before .before .before .before .before .before .before .before .before .before .before .begin .ensures) in
+    scoped-heads b (c .before .before .before .before .before .before .before .before .before .before .before .before .before .before .before .parts .ensures) (c .before .before .before .before .before .before .before .before .before .next .given .1) (q .args .constant) (c .before .before .before .before .before .before .tag-of .ensures) (c .before .before .before .before .before .bare .ensures) (not-false _ (c .before .before .before .before .if1 .left)) (c .before .before .close .ensures)
 
 pub scoped-spec : {M : Type 1} → statement M
 scoped-spec =

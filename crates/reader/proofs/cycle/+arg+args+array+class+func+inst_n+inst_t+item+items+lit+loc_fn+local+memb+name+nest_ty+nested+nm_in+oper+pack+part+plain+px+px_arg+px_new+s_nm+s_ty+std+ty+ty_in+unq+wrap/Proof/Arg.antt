@@ -5,7 +5,7 @@ use borrow.Author.Tests.{not-true, not-false}
 use Rattle.parser.specs.declared.state.Parser.{Parser}
 use Rattle.parser.specs.Holds.{refuses, keep}
 use Rattle.parser.specs.Laws.{by, less, sooner, holds-moved}
-use Rattle.parser.specs.Adds.{ready-moved, puts-from, clean-by}
+use Rattle.parser.specs.Adds.{ready-moved, puts-from, stack-by}
 use Rattle.parser.specs.Halves.{wrote-one}
 use Rattle.grammar.specs.Places.{starts-inside}
 use Rattle.reader.specs.Opens.{call-moved}
@@ -59,7 +59,7 @@ pub slice-aggregate-put : (t : ℕ) → lts.Need-slice-aggregate-put (arg-calls 
 slice-aggregate-put t c = search needs
 
 pub put-requires : (t : ℕ) → lts.Need-put-requires (arg-calls t) (arg-at t) arg.Post
-put-requires t c κs = (clean-by (c .before .moved .ensures) (c .before .before .before .before .before .before .before .before .before .before .before .before .before .before .before .pre .1 .1 .text), omega arith)
+put-requires t c κs = (stack-by (c .before .moved .ensures) (c .before .before .before .before .before .before .before .before .before .before .before .before .before .before .before .pre .1 .1 .text), omega arith)
 
 pub same-length-4 : (t : ℕ) → lts.Need-same-length-4 (arg-calls t) (arg-at t) arg.Post
 same-length-4 t c = search needs

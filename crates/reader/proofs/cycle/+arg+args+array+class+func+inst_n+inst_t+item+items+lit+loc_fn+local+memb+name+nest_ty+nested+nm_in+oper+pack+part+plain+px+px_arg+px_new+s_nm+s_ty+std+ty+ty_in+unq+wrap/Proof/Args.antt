@@ -5,7 +5,7 @@ use borrow.Author.Tests.{not-true, not-false}
 use Rattle.parser.specs.declared.state.Parser.{Parser}
 use Rattle.parser.specs.Holds.{refuses}
 use Rattle.parser.specs.Laws.{by, holds-puts}
-use Rattle.parser.specs.Adds.{clean-by}
+use Rattle.parser.specs.Adds.{stack-by}
 use Rattle.parser.specs.Wraps.{stands-puts}
 use mathlib.Core.List.{[], _∷_}
 use lib.ListN.{length-append}
@@ -42,7 +42,7 @@ pub slice-aggregate-put : (t : ℕ) → lts.Need-slice-aggregate-put (args-calls
 slice-aggregate-put t c = search needs
 
 pub put-requires : (t : ℕ) → lts.Need-put-requires (args-calls t) (args-at t) args.Post
-put-requires t c κs = (clean-by (c .before .enter .ensures) (clean-by (c .before .before .moved .ensures) (c .before .before .before .before .before .before .before .before .before .before .before .pre .1 .1 .text)), omega arith)
+put-requires t c κs = (stack-by (c .before .enter .ensures) (stack-by (c .before .before .moved .ensures) (c .before .before .before .before .before .before .before .before .before .before .before .pre .1 .1 .text)), omega arith)
 
 pub items-requires : (t : ℕ) → lts.Need-items-requires (args-calls t) (args-at t) args.Post
 items-requires t c κs =

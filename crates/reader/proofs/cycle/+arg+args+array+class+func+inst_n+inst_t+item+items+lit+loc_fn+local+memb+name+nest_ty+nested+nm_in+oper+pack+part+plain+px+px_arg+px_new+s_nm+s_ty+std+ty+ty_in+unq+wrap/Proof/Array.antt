@@ -56,7 +56,7 @@ put-requires t c κs =
     (w .wrote .holds .text, omega arith)
 
 pub put-part-requires : (t : ℕ) → lts.Need-put-part-requires (array-calls t) (array-at t) array.Post
-put-part-requires t c κs = (c .before .before .before .put .ensures .put .clean, (omega (arith, c .before .before .before .before .before .before .before .before .before .before .before .before .before .before .before .before .before .before .before .before .before .before2 .ensures .0), (omega (arith, c .before .before .before .before .before .before .before .before .before .before .before .before .before .before .before .before .before .before .before .before .if1 .left), omega (arith, c .before .before .before .before .before .before .before .before .before .before .before .before .before .before .before .before .before .before .before .before .if1 .left, c .before .before .before .before .before .before .before .before .before .before .before .before .before .before .before .before .before .before .before .before .before .before .before .before .before .before .pre .1 .1 .source))))
+put-part-requires t c κs = (c .before .before .before .put .ensures .put .stack, (omega (arith, c .before .before .before .before .before .before .before .before .before .before .before .before .before .before .before .before .before .before .before .before .before .before2 .ensures .0), (omega (arith, c .before .before .before .before .before .before .before .before .before .before .before .before .before .before .before .before .before .before .before .before .if1 .left), omega (arith, c .before .before .before .before .before .before .before .before .before .before .before .before .before .before .before .before .before .before .before .before .if1 .left, c .before .before .before .before .before .before .before .before .before .before .before .before .before .before .before .before .before .before .before .before .before .before .before .before .before .before .pre .1 .1 .source))))
 
 pub slice-aggregate-put-2 : (t : ℕ) → lts.Need-slice-aggregate-put-2 (array-calls t) (array-at t) array.Post
 slice-aggregate-put-2 t c = search needs

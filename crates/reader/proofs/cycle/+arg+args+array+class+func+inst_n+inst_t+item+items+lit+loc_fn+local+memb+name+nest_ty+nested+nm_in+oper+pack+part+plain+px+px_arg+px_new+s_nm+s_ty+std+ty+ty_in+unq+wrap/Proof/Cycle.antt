@@ -102,6 +102,7 @@ use Rattle.parser.proofs.leaf.qualifiers.Reads as qualifiers-reads
 use Rattle.parser.proofs.leaf.std_ahead.Reads as std-ahead-reads
 use Rattle.parser.proofs.leaf.structor.Reads as structor-reads
 use Rattle.parser.proofs.literal.literal.Reads as literal-reads
+use Rattle.parser.proofs.leaf.digit_ahead.Reads as digit-ahead-reads
 use Rattle.parser.proofs.memory.clear_args.Reads as clear-args-reads
 use Rattle.parser.proofs.memory.cut.Reads as cut-reads
 use Rattle.parser.proofs.memory.given.Reads as given-reads
@@ -482,7 +483,7 @@ abbrev pub pack-calls : ℕ → pack-lts.Claims
 pack-calls t = (peek-reads.Asked, peek-reads.Learnt, moved-reads.Asked, moved-reads.Learnt, pack-ends-reads.Asked, pack-ends-reads.Learnt, joined-size-reads.Asked, joined-size-reads.Learnt, given-reads.Asked, given-reads.Learnt, sum-reads.Asked, sum-reads.Learnt, comma-reads.Asked, comma-reads.Learnt, pack-opens-reads.Asked, pack-opens-reads.Learnt, arg-below t, arg.Post)
 
 abbrev pub part-calls : ℕ → part-lts.Claims
-part-calls t = (template-param-reads.Asked, template-param-reads.Learnt, unq-below t, unq.Post)
+part-calls t = (template-param-reads.Asked, template-param-reads.Learnt, digit-ahead-reads.Asked, digit-ahead-reads.Learnt, source-name-reads.Asked, source-name-reads.Learnt, unq-below t, unq.Post)
 
 abbrev pub plain-calls : ℕ → plain-lts.Claims
 plain-calls t = (unq-below t, unq.Post, here-reads.Asked, here-reads.Learnt, push-sub-reads.Asked, push-sub-reads.Learnt, inst-n-below t, inst-n.Post)

@@ -24,11 +24,11 @@ unfolding name-instance name-args set-args set-templated onto
 name-instance-is x σ = refl
 
 pub clear-args-requires : (t : ℕ) → lts.Need-clear-args-requires (inst-n-calls t) (inst-n-at t) inst-n.Post
-clear-args-requires t c κs = (_, (_, c .before .before .before .before .before .before .pre .1 .0))
+clear-args-requires t c κs = search needs
 
 pub args-requires : (t : ℕ) → lts.Need-args-requires (inst-n-calls t) (inst-n-at t) inst-n.Post
-args-requires t c κs = let e = c .before .before .before .before .before .before .before .clear-args .ensures .0 in
-    (omega (arith, c .before .before .before .before .before .before .before .before .before .before .before .before .before .before .pre .0, ap (λ (q : Parser). q .at) e), (_, c .before .before .before .before .before .before .before .clear-args .ensures .1 _ _ _ (c .before .before .before .before .before .before .before .before .before .before .before .before .before .before .pre .1 .0 .1)))
+args-requires t c κs = let e = c .before .before .before .clear-args .ensures .0 in
+    (omega (arith, c .before .before .before .before .before .before .before .before .pre .0, ap (λ (q : Parser). q .at) e), (_, c .before .before .before .clear-args .ensures .1 _ _ _ (c .before .before .before .before .before .before .before .before .pre .1 .0 .1)))
 
 pub enum-known-got : (t : ℕ) → lts.Need-enum-known-got (inst-n-calls t) (inst-n-at t) inst-n.Post
 enum-known-got t c = search needs
@@ -46,38 +46,38 @@ pub same-length-3 : (t : ℕ) → lts.Need-same-length-3 (inst-n-calls t) (inst-
 same-length-3 t c = search needs
 
 pub returns : (t : ℕ) → lts.Need-returns (inst-n-calls t) (inst-n-at t) inst-n.Post
-returns t c = λ base from x σ h l. by (name-instance-is x σ) (refused-on _ (c .enum-told .given .1) (c .before .before .before .before .before .before .before .before .args2 .ensures _ (c .before .before .before .before .before .before .before .before .before .before .before .before .before .before .before .before .clear-args .ensures .1 _ _ σ (h .holds))))
+returns t c = λ base from x σ h l. by (name-instance-is x σ) (refused-on _ (c .enum-told .given .1) (c .before .before .before .before .before .before .before .before .args2 .ensures _ (c .before .before .before .before .before .before .before .before .before .before .before .before .clear-args .ensures .1 _ _ σ (h .holds))))
 
 pub with-templated-requires : (t : ℕ) → lts.Need-with-templated-requires (inst-n-calls t) (inst-n-at t) inst-n.Post
 with-templated-requires t c κs = search needs
 
 pub add-recorded : (t : ℕ) → lts.Need-add-recorded (inst-n-calls t) (inst-n-at t) inst-n.Post
-add-recorded t c = let h = c .before .before .before .before .before .before .before .before .before .before .before .before .before .before .before .before .before .before .before .before .before .clear-args .ensures .1 _ _ _ (c .before .before .before .before .before .before .before .before .before .before .before .before .before .before .before .before .before .before .before .before .before .before .before .before .before .before .before .before .pre .1 .0 .1) in
+add-recorded t c = let h = c .before .before .before .before .before .before .before .before .before .before .before .before .before .before .before .before .before .clear-args .ensures .1 _ _ _ (c .before .before .before .before .before .before .before .before .before .before .before .before .before .before .before .before .before .before .before .before .before .before .pre .1 .0 .1) in
     let w = got (c .before .before .before .before .before .got .given .1) (c .before .before .before .before .before .before .before .before .before .before .before .before .before .args2 .ensures _ h) .wrote in
-    let a = c .before .before .before .before .before .before .before .before .before .before .before .before .before .before .before .before .before .before .before .before .before .before .before .before .before .before .before .before .pre .1 .1 .0 in
+    let a = c .before .before .before .before .before .before .before .before .before .before .before .before .before .before .before .before .before .before .before .before .before .before .pre .1 .1 .0 in
     let b = w .size in
     let d = w .short in
     search needs
 
 pub recorded-requires : (t : ℕ) → lts.Need-recorded-requires (inst-n-calls t) (inst-n-at t) inst-n.Post
-recorded-requires t c κs = let h = c .before .before .before .before .before .before .before .before .before .before .before .before .before .before .before .before .before .before .before .before .before .clear-args .ensures .1 _ _ _ (c .before .before .before .before .before .before .before .before .before .before .before .before .before .before .before .before .before .before .before .before .before .before .before .before .before .before .before .before .pre .1 .0 .1) in
+recorded-requires t c κs = let h = c .before .before .before .before .before .before .before .before .before .before .before .before .before .before .before .before .before .clear-args .ensures .1 _ _ _ (c .before .before .before .before .before .before .before .before .before .before .before .before .before .before .before .before .before .before .before .before .before .before .pre .1 .0 .1) in
     let w = got (c .before .before .before .before .before .got .given .1) (c .before .before .before .before .before .before .before .before .before .before .before .before .before .args2 .ensures _ h) .wrote in
-    let i = wrote-least (h .text) w (omega arith) (c .before .before .before .before .before .before .before .before .before .before .before .before .before .before .before .before .before .before .before .before .before .before .before .before .before .before .before .before .args .x) (omega (arith, c .before .before .before .before .before .before .before .before .before .before .before .before .before .before .before .before .before .before .before .before .before .before .before .before .before .before .before .before .pre .1 .1 .1, ap (λ (q : Parser). q .top) (c .before .before .before .before .before .before .before .before .before .before .before .before .before .before .before .before .before .before .before .before .before .clear-args .ensures .0))) in
+    let i = wrote-least (h .text) w (omega arith) (c .before .before .before .before .before .before .before .before .before .before .before .before .before .before .before .before .before .before .before .before .before .before .args .x) (omega (arith, c .before .before .before .before .before .before .before .before .before .before .before .before .before .before .before .before .before .before .before .before .before .before .pre .1 .1 .1, ap (λ (q : Parser). q .top) (c .before .before .before .before .before .before .before .before .before .before .before .before .before .before .before .before .before .clear-args .ensures .0))) in
     ((_, (_, by-state (c .with-templated .ensures) (holds-templated (w .holds) true))), omega (arith, i, ap (λ (q : Parser). q .top) (c .with-templated .ensures)))
 
 pub same-length-4 : (t : ℕ) → lts.Need-same-length-4 (inst-n-calls t) (inst-n-at t) inst-n.Post
 same-length-4 t c = search needs
 
 pub same-length-5 : (t : ℕ) → lts.Need-same-length-5 (inst-n-calls t) (inst-n-at t) inst-n.Post
-same-length-5 t c = omega (arith, c .before .before .before .before .recorded .kept, c .before .before .before .before .before .before .before .before .before .before .before .before .before .before .before .before .before .before .args2 .kept, c .before .before .before .before .before .before .before .before .before .before .before .before .before .before .before .before .before .before .before .before .before .before .before .before .before .before .clear-args .kept)
+same-length-5 t c = omega (arith, c .before .before .before .before .recorded .kept, c .before .before .before .before .before .before .before .before .before .before .before .before .before .before .before .before .before .before .args2 .kept)
 
 pub same-length-6 : (t : ℕ) → lts.Need-same-length-6 (inst-n-calls t) (inst-n-at t) inst-n.Post
-same-length-6 t c = omega (arith, c .before .before .before .before .recorded .kept, c .before .before .before .before .before .before .before .before .before .before .before .before .before .before .before .before .before .before .args2 .kept, c .before .before .before .before .before .before .before .before .before .before .before .before .before .before .before .before .before .before .before .before .before .before .before .before .before .before .clear-args .kept)
+same-length-6 t c = omega (arith, c .before .before .before .before .recorded .kept, c .before .before .before .before .before .before .before .before .before .before .before .before .before .before .before .before .before .before .args2 .kept)
 
 pub returns-2 : (t : ℕ) → lts.Need-returns-2 (inst-n-calls t) (inst-n-at t) inst-n.Post
 unfolding onto
-returns-2 t c = λ base from x σ h l. let e = c .before .before .before .before .before .before .before .before .before .before .before .before .before .before .before .before .before .before .before .before .before .before .before .before .before .before .clear-args .ensures .0 in
-    let u = stands-args h e (c .before .before .before .before .before .before .before .before .before .before .before .before .before .before .before .before .before .before .before .before .before .before .before .before .before .before .clear-args .ensures .1 _ _ σ (h .holds)) in
+returns-2 t c = λ base from x σ h l. let e = c .before .before .before .before .before .before .before .before .before .before .before .before .before .before .before .before .before .before .before .before .before .before .clear-args .ensures .0 in
+    let u = stands-args h e (c .before .before .before .before .before .before .before .before .before .before .before .before .before .before .before .before .before .before .before .before .before .before .clear-args .ensures .1 _ _ σ (h .holds)) in
     let g = got (c .before .before .before .before .before .before .before .before .before .before .got .given .1) (c .before .before .before .before .before .before .before .before .before .before .before .before .before .before .before .before .before .before .args2 .ensures _ (u .holds)) in
     by (name-instance-is x σ ∙ ap (onto (λ a v. recorded (x ++ a) (with-templated true v))) (g .is))
     (sooner (omega (arith, ap (λ (q : Parser). q .at) e))

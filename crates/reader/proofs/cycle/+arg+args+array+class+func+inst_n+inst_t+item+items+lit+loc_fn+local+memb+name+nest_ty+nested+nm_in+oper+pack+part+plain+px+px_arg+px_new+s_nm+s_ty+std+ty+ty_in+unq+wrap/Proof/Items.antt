@@ -91,7 +91,7 @@ pub unlisted-requires : (t : ℕ) → lts.Need-unlisted-requires (items-calls t)
 unlisted-requires t c κs = search needs
 
 pub same-length-7 : (t : ℕ) → lts.Need-same-length-7 (items-calls t) (items-at t) items.Post Inv-loop μ-loop
-same-length-7 t c = omega (arith, c .before .before .before .before .before .before .before .before .before .item .kept, spaced t (c .before .before .before .before .before .before .before .before .before .before .before .before .before) .puts .put .clean .size, c .before .before .before .before .before .before .before .before .before .before .before .before .before .before .before .before .before .before .before .before .before .before .before .before .before .pre .1 .1 .text .size)
+same-length-7 t c = omega (arith, c .before .before .before .before .before .before .before .before .before .item .kept, spaced t (c .before .before .before .before .before .before .before .before .before .before .before .before .before) .puts .put .stack .size, c .before .before .before .before .before .before .before .before .before .before .before .before .before .before .before .before .before .before .before .before .before .before .before .before .before .pre .1 .1 .text .size)
 
 pub same-length-8 : (t : ℕ) → lts.Need-same-length-8 (items-calls t) (items-at t) items.Post Inv-loop μ-loop
 same-length-8 t c = search needs

@@ -68,7 +68,7 @@ instance-at {f} {x} {s} {m} {m'} {p} {r} {d} {base} {from} {t} {σ} {to} h w l i
 -- ---------------------------------------------------------------- room on the stack
 
 -- what a leaf keeps is more than what a reading at a depth does
-pub narrow : {s s' base : Text} {from : ℕ} {m m' : Memory} {p : Parser} {r : Read} {f : Result Text} {σ : State} → Holds s m p σ → Refines 49152 (p .depth) s' base from m' r f → Refines (keep (p .depth)) (p .depth) s' base from m' r f
+pub narrow : {s s' base : Text} {from : ℕ} {m m' : Memory} {p : Parser} {r : Read} {f : Result Text} {σ : State} → Holds s m p σ → Refines 34816 (p .depth) s' base from m' r f → Refines (keep (p .depth)) (p .depth) s' base from m' r f
 narrow h u = less (omega (arith, h .deep)) u
 
 pub stood : {d : ℕ} {s base : Text} {from : ℕ} {m : Memory} {p : Parser} {n : ℕ} {t : Text} {σ : State} → Wrote (keep d) d s base from m p n t σ → Stands (keep d) d s base from m p n t σ

@@ -4,7 +4,7 @@ use mathlib.Core.Path.{sym, ap, _∙_}
 use borrow.Author.Tests.{not-true, not-false}
 use Rattle.grammar.specs.Text.{b}
 use Rattle.parser.specs.declared.state.Parser.{Parser}
-use Rattle.parser.specs.Adds.{clean-by}
+use Rattle.parser.specs.Adds.{stack-by}
 use Rattle.grammar.specs.Places.{starts-inside}
 use Rattle.reader.specs.LocFns.{fn-refused, fn-got, fn-bare, fn-items-ready, fn-items-refused, fn-listing, fn-long, fn-open, fn-given}
 use Prim.Native.Nat.{ℕ}
@@ -132,7 +132,7 @@ slice-aggregate-put-2 t c = search needs
 
 pub put-requires-2 : (t : ℕ) → lts.Need-put-requires-2 (loc-fn-calls t) (loc-fn-at t) loc-fn.Post
 unfolding b
-put-requires-2 t c κs = (clean-by (c .before .moved2 .ensures) (fn-listing (c .before .before .before .before .before .before .before .before .before .before .before .before .before .before .before .before .before .before .before .before .before .before .before .before .before .before .before .before .before .before .before .before .before .before .before .before .before .before .before .before .before .before .before .pre .1 .1) (c .before .before .before .before .before .before .before .before .before .before .before .before .before .before .before .before .before .before .before .before .before .before .before .before .before .before .before .before .before .before .before .before .before .before .before .name .ensures) (c .before .before .before .before .before .before .before .before .before .before .before .before .before .before .before .before .before .before .before .before .before .before .before .before .before .before .before .got .given .1) (sym (c .before .before .before .before .before .before .before .before .before .before .before .before .before .before .before .before .before .before .before .before .before .before .before .before .before .here .ensures) ∙ c .before .before .before .before .before .before .before .before .before .before .before .before .before .before .before .before .before .before .before .before .before .before .before .before .if1 .left) (c .before .before .before .before .before .before .before .before .before .before .before .before .before .before .before .before .before .before .before .before .before .put .ensures) (c .before .before .before .before .before .before .before .before .before .before .before .before .before .before .before .items .ensures) (c .before .before .before .before .before .before .before .list .given .1) .stands .holds .text), omega arith)
+put-requires-2 t c κs = (stack-by (c .before .moved2 .ensures) (fn-listing (c .before .before .before .before .before .before .before .before .before .before .before .before .before .before .before .before .before .before .before .before .before .before .before .before .before .before .before .before .before .before .before .before .before .before .before .before .before .before .before .before .before .before .before .pre .1 .1) (c .before .before .before .before .before .before .before .before .before .before .before .before .before .before .before .before .before .before .before .before .before .before .before .before .before .before .before .before .before .before .before .before .before .before .before .name .ensures) (c .before .before .before .before .before .before .before .before .before .before .before .before .before .before .before .before .before .before .before .before .before .before .before .before .before .before .before .got .given .1) (sym (c .before .before .before .before .before .before .before .before .before .before .before .before .before .before .before .before .before .before .before .before .before .before .before .before .before .here .ensures) ∙ c .before .before .before .before .before .before .before .before .before .before .before .before .before .before .before .before .before .before .before .before .before .before .before .before .if1 .left) (c .before .before .before .before .before .before .before .before .before .before .before .before .before .before .before .before .before .before .before .before .before .put .ensures) (c .before .before .before .before .before .before .before .before .before .before .before .before .before .before .before .items .ensures) (c .before .before .before .before .before .before .before .list .given .1) .stands .holds .text), omega arith)
 
 pub add-given : (t : ℕ) → lts.Need-add-given (loc-fn-calls t) (loc-fn-at t) loc-fn.Post
 unfolding b

@@ -6,7 +6,7 @@ use Rattle.grammar.specs.Text.{b}
 use Rattle.parser.specs.declared.state.Parser.{Parser}
 use Rattle.parser.specs.Holds.{refuses}
 use Rattle.parser.specs.Laws.{by}
-use Rattle.parser.specs.Adds.{clean-by}
+use Rattle.parser.specs.Adds.{stack-by}
 use Rattle.grammar.specs.Places.{starts-inside}
 use Rattle.reader.specs.Lits.{local-none, local-ready, local-refused, local-got, local-string, local-name-ready, local-name-refused, local-name-got, local-given}
 use Prim.Native.Nat.{ℕ}
@@ -63,7 +63,7 @@ slice-aggregate-put t c = search needs
 
 pub put-requires : (t : ℕ) → lts.Need-put-requires (local-calls t) (local-at t) local.Post
 unfolding b
-put-requires t c κs = (clean-by (c .before .moved2 .ensures) (local-got (c .before .before .before .before .before .before .before .before .before .before .before .before .before .before .before .before .before .before .before .before .before .before .before .before .before .pre .1 .1) (sym (c .before .before .before .before .before .before .before .before .before .before .before .before .before .before .before .before .before .before .before .before .here .ensures) ∙ not-false _ (c .before .before .before .before .before .before .before .before .before .before .before .before .before .before .before .before .before .before .before .if1 .left)) (c .before .before .before .before .before .before .before .before .before .before .before .before .before .before .before .moved .ensures) (c .before .before .before .before .before .before .before .before .before .before .before .before .before .before .loc-fn .ensures) (c .before .before .before .before .before .before .got .given .1) .wrote .holds .text), omega arith)
+put-requires t c κs = (stack-by (c .before .moved2 .ensures) (local-got (c .before .before .before .before .before .before .before .before .before .before .before .before .before .before .before .before .before .before .before .before .before .before .before .before .before .pre .1 .1) (sym (c .before .before .before .before .before .before .before .before .before .before .before .before .before .before .before .before .before .before .before .before .here .ensures) ∙ not-false _ (c .before .before .before .before .before .before .before .before .before .before .before .before .before .before .before .before .before .before .before .if1 .left)) (c .before .before .before .before .before .before .before .before .before .before .before .before .before .before .before .moved .ensures) (c .before .before .before .before .before .before .before .before .before .before .before .before .before .before .loc-fn .ensures) (c .before .before .before .before .before .before .got .given .1) .wrote .holds .text), omega arith)
 
 pub add-given : (t : ℕ) → lts.Need-add-given (local-calls t) (local-at t) local.Post
 add-given t c =

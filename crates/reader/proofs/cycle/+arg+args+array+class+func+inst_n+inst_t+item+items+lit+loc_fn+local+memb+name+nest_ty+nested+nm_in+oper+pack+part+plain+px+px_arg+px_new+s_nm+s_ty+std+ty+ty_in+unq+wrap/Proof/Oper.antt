@@ -3,7 +3,7 @@
 use Rattle.grammar.specs.Text.{b}
 use Rattle.parser.specs.Holds.{refuses}
 use Rattle.parser.specs.Laws.{by, got}
-use Rattle.parser.specs.Adds.{clean-by, puts-at}
+use Rattle.parser.specs.Adds.{stack-by, puts-at}
 use Rattle.parser.specs.Wraps.{picked-at, picked-none}
 use Rattle.reader.specs.Opers.{operator-short, operator-no-c, operator-no-v, oper-word, oper-holds, oper-refused, oper-typed}
 use Prim.Native.Nat.{ℕ}
@@ -41,7 +41,7 @@ pub enum-known-w : (t : ℕ) → lts.Need-enum-known-w (oper-calls t) (oper-at t
 enum-known-w t c = search needs
 
 pub word-requires : (t : ℕ) → lts.Need-word-requires (oper-calls t) (oper-at t) oper.Post
-word-requires t c κs = (clean-by (c .before .before .before .before .before .moved .ensures) (c .before .before .before .before .before .before .before .before .before .before .before .before .before .pre .1 .1 .text), picked-at (c .before .before .before .before .operator-name .ensures) (c .before .before .w .given .1) .1)
+word-requires t c κs = (stack-by (c .before .before .before .before .before .moved .ensures) (c .before .before .before .before .before .before .before .before .before .before .before .before .before .pre .1 .1 .text), picked-at (c .before .before .before .before .operator-name .ensures) (c .before .before .w .given .1) .1)
 
 pub same-length : (t : ℕ) → lts.Need-same-length (oper-calls t) (oper-at t) oper.Post
 same-length t c = search needs
@@ -60,7 +60,7 @@ slice-aggregate-put t c = search needs
 
 pub put-requires : (t : ℕ) → lts.Need-put-requires (oper-calls t) (oper-at t) oper.Post
 unfolding b
-put-requires t c κs = (clean-by (c .before .before .before .before .before .before .before .moved .ensures) (c .before .before .before .before .before .before .before .before .before .before .before .before .before .before .before .pre .1 .1 .text), omega arith)
+put-requires t c κs = (stack-by (c .before .before .before .before .before .before .before .moved .ensures) (c .before .before .before .before .before .before .before .before .before .before .before .before .before .before .before .pre .1 .1 .text), omega arith)
 
 pub ty-requires : (t : ℕ) → lts.Need-ty-requires (oper-calls t) (oper-at t) oper.Post
 unfolding b

@@ -152,7 +152,7 @@ pub enum-told-2 : (t : ℕ) → lts.Need-enum-told-2 (pack-calls t) (pack-at t) 
 enum-told-2 t c = search needs
 
 pub same-length-7 : (t : ℕ) → lts.Need-same-length-7 (pack-calls t) (pack-at t) pack.Post Inv-loop μ-loop
-same-length-7 t c = omega (arith, c .before .before .before .before .before .before .before .before .arg .kept, c .before .before .before .before .before .before .before .before .before .before .before .before .before .before .before .before .comma .ensures .put .clean .size, c .before .before .before .before .before .before .before .before .before .before .before .before .before .before .before .before .before .before .before .before .before .before .before .before .before .before .before .before .pre .1 .1 .text .size)
+same-length-7 t c = omega (arith, c .before .before .before .before .before .before .before .before .arg .kept, c .before .before .before .before .before .before .before .before .before .before .before .before .before .before .before .before .comma .ensures .put .stack .size, c .before .before .before .before .before .before .before .before .before .before .before .before .before .before .before .before .before .before .before .before .before .before .before .before .before .before .before .before .pre .1 .1 .text .size)
 
 pub same-length-8 : (t : ℕ) → lts.Need-same-length-8 (pack-calls t) (pack-at t) pack.Post Inv-loop μ-loop
 same-length-8 t c = omega (arith, c .before .before .before .before .before .before .before .before .arg .kept, c .before .before .before .before .before .before .before .before .before .before .before .before .before .before .before .before .before .before .before .before .before .before .before .loop .inv .store-same)

@@ -18,12 +18,12 @@ use Rattle.reader.proofs.cycle.+arg+args+array+class+func+inst_n+inst_t
 use Rattle.reader.proofs.cycle.+arg+args+array+class+func+inst_n+inst_t+item+items+lit+loc_fn+local+memb+name+nest_ty+nested+nm_in+oper+pack+part+plain+px+px_arg+px_new+s_nm+s_ty+std+ty+ty_in+unq+wrap.Proof.Cycle.{px-arg-at, px-arg-calls}
 
 pub clear-args-requires : (t : ℕ) → lts.Need-clear-args-requires (px-arg-calls t) (px-arg-at t) px-arg.Post
-clear-args-requires t c κs = (c .before .before .before .before .before .before .args .s .now, (c .before .before .before .before .before .before .args .text .now, c .before .before .before .before .before .before .pre .1 .0))
+clear-args-requires t c κs = search needs
 
 pub args-requires : (t : ℕ) → lts.Need-args-requires (px-arg-calls t) (px-arg-at t) px-arg.Post
 args-requires t c κs =
-    let k = c .before .before .before .before .before .before .before .clear-args .ensures in
-    (omega (arith, c .before .before .before .before .before .before .before .before .before .before .before .before .before .before .pre .0, ap (λ (r : Parser). r .at) (k .0)), (with-args [] (c .before .before .before .before .before .before .before .before .before .before .before .before .before .before .pre .1 .0 .0), k .1 _ _ (c .before .before .before .before .before .before .before .before .before .before .before .before .before .before .pre .1 .0 .0) (c .before .before .before .before .before .before .before .before .before .before .before .before .before .before .pre .1 .0 .1)))
+    let k = c .before .before .before .clear-args .ensures in
+    (omega (arith, c .before .before .before .before .before .before .before .before .pre .0, ap (λ (r : Parser). r .at) (k .0)), (with-args [] (c .before .before .before .before .before .before .before .before .pre .1 .0 .0), k .1 _ _ (c .before .before .before .before .before .before .before .before .pre .1 .0 .0) (c .before .before .before .before .before .before .before .before .pre .1 .0 .1)))
 
 pub enum-known-got : (t : ℕ) → lts.Need-enum-known-got (px-arg-calls t) (px-arg-at t) px-arg.Post
 enum-known-got t c = search needs
@@ -45,7 +45,7 @@ same-length-3 t c = search needs
 
 pub returns : (t : ℕ) → lts.Need-returns (px-arg-calls t) (px-arg-at t) px-arg.Post
 returns t c base from ps σ h =
-    parts-by (args-is ps σ) (unread-on (After ps) (c .before .enum-told .given .1) (c .unread .ensures) (c .before .before .before .before .before .before .before .before .before .args2 .ensures (with-args [] σ) (c .before .before .before .before .before .before .before .before .before .before .before .before .before .before .before .before .before .clear-args .ensures .1 _ _ σ (h .stands .holds))))
+    parts-by (args-is ps σ) (unread-on (After ps) (c .before .enum-told .given .1) (c .unread .ensures) (c .before .before .before .before .before .before .before .before .before .args2 .ensures (with-args [] σ) (c .before .before .before .before .before .before .before .before .before .before .before .before .before .clear-args .ensures .1 _ _ σ (h .stands .holds))))
 
 pub same-length-4 : (t : ℕ) → lts.Need-same-length-4 (px-arg-calls t) (px-arg-at t) px-arg.Post
 same-length-4 t c = search needs
@@ -58,25 +58,25 @@ same-length-6 t c = search needs
 
 pub returns-2 : (t : ℕ) → lts.Need-returns-2 (px-arg-calls t) (px-arg-at t) px-arg.Post
 returns-2 t c base from ps σ h =
-    let k = c .before .before .before .before .before .before .before .before .before .before .before .before .before .before .before .before .before .before .before .clear-args .ensures in
+    let k = c .before .before .before .before .before .before .before .before .before .before .before .before .before .before .before .clear-args .ensures in
     let a = got (c .before .before .before .got .given .1) (c .before .before .before .before .before .before .before .before .before .before .before .args2 .ensures (with-args [] σ) (k .1 _ _ σ (h .stands .holds))) in
     let z : length (ps .texts) ≡ 0 = omega (arith, h .count, c .if1 .taken) in
     parts-by (args-is ps σ ∙ then-ok (After ps) (a .is) ∙ after-none ps (a .said) (a .state) z) unparted
 
 pub sum-requires : (t : ℕ) → lts.Need-sum-requires (px-arg-calls t) (px-arg-at t) px-arg.Post
 sum-requires t c κs =
-    let k = c .before .before .before .before .before .before .before .before .before .before .before .before .before .before .before .before .before .before .before .clear-args .ensures in
-    let h = k .1 _ _ (c .before .before .before .before .before .before .before .before .before .before .before .before .before .before .before .before .before .before .before .before .before .before .before .before .before .before .pre .1 .0 .0) (c .before .before .before .before .before .before .before .before .before .before .before .before .before .before .before .before .before .before .before .before .before .before .before .before .before .before .pre .1 .0 .1) in
-    let a = got (c .before .before .before .got .given .1) (c .before .before .before .before .before .before .before .before .before .before .before .args2 .ensures (with-args [] (c .before .before .before .before .before .before .before .before .before .before .before .before .before .before .before .before .before .before .before .before .before .before .before .before .before .before .pre .1 .0 .0)) h) in
-    (c .before .before .before .before .before .before .before .before .before .before .before .before .before .before .before .before .before .before .before .before .before .before .before .before .before .before .pre .1 .1 .0, omega (arith, a .wrote .size, a .wrote .short))
+    let k = c .before .before .before .before .before .before .before .before .before .before .before .before .before .before .before .clear-args .ensures in
+    let h = k .1 _ _ (c .before .before .before .before .before .before .before .before .before .before .before .before .before .before .before .before .before .before .before .before .pre .1 .0 .0) (c .before .before .before .before .before .before .before .before .before .before .before .before .before .before .before .before .before .before .before .before .pre .1 .0 .1) in
+    let a = got (c .before .before .before .got .given .1) (c .before .before .before .before .before .before .before .before .before .before .before .args2 .ensures (with-args [] (c .before .before .before .before .before .before .before .before .before .before .before .before .before .before .before .before .before .before .before .before .pre .1 .0 .0)) h) in
+    (c .before .before .before .before .before .before .before .before .before .before .before .before .before .before .before .before .before .before .before .before .pre .1 .1 .0, omega (arith, a .wrote .size, a .wrote .short))
 
 pub push-sub-requires : (t : ℕ) → lts.Need-push-sub-requires (px-arg-calls t) (px-arg-at t) px-arg.Post
 push-sub-requires t c κs =
-    let k = c .before .before .before .before .before .before .before .before .before .before .before .before .before .before .before .before .before .before .before .before .before .before .before .clear-args .ensures in
-    let h = k .1 _ _ (c .before .before .before .before .before .before .before .before .before .before .before .before .before .before .before .before .before .before .before .before .before .before .before .before .before .before .before .before .before .before .pre .1 .0 .0) (c .before .before .before .before .before .before .before .before .before .before .before .before .before .before .before .before .before .before .before .before .before .before .before .before .before .before .before .before .before .before .pre .1 .0 .1) in
-    let a = got (c .before .before .before .before .before .before .before .got .given .1) (c .before .before .before .before .before .before .before .before .before .before .before .before .before .before .before .args2 .ensures (with-args [] (c .before .before .before .before .before .before .before .before .before .before .before .before .before .before .before .before .before .before .before .before .before .before .before .before .before .before .before .before .before .before .pre .1 .0 .0)) h) in (
-      (c .before .before .before .before .before .before .before .before .before .before .before .before .before .before .before .before .before .before .before .before .before .before .before .before .before .before .before .before .before .before .args .s .now, (a .state, a .wrote .holds)),
-      omega (arith, c .before .before .before .sum .ensures, wrote-least (h .text) (a .wrote) (omega arith) (c .before .before .before .before .before .before .before .before .before .before .before .before .before .before .before .before .before .before .before .before .before .before .before .before .before .before .before .before .before .before .args .parts .n) (omega (arith, c .before .before .before .before .before .before .before .before .before .before .before .before .before .before .before .before .before .before .before .before .before .before .before .before .before .before .before .before .before .before .pre .1 .1 .1 .1, ap (λ (r : Parser). r .top) (k .0)))),
+    let k = c .before .before .before .before .before .before .before .before .before .before .before .before .before .before .before .before .before .before .before .clear-args .ensures in
+    let h = k .1 _ _ (c .before .before .before .before .before .before .before .before .before .before .before .before .before .before .before .before .before .before .before .before .before .before .before .before .pre .1 .0 .0) (c .before .before .before .before .before .before .before .before .before .before .before .before .before .before .before .before .before .before .before .before .before .before .before .before .pre .1 .0 .1) in
+    let a = got (c .before .before .before .before .before .before .before .got .given .1) (c .before .before .before .before .before .before .before .before .before .before .before .before .before .before .before .args2 .ensures (with-args [] (c .before .before .before .before .before .before .before .before .before .before .before .before .before .before .before .before .before .before .before .before .before .before .before .before .pre .1 .0 .0)) h) in (
+      (c .before .before .before .before .before .before .before .before .before .before .before .before .before .before .before .before .before .before .before .before .before .before .before .before .args .s .now, (a .state, a .wrote .holds)),
+      omega (arith, c .before .before .before .sum .ensures, wrote-least (h .text) (a .wrote) (omega arith) (c .before .before .before .before .before .before .before .before .before .before .before .before .before .before .before .before .before .before .before .before .before .before .before .before .args .parts .n) (omega (arith, c .before .before .before .before .before .before .before .before .before .before .before .before .before .before .before .before .before .before .before .before .before .before .before .before .pre .1 .1 .1 .1, ap (λ (r : Parser). r .top) (k .0)))),
     )
 
 pub enum-known-kept : (t : ℕ) → lts.Need-enum-known-kept (px-arg-calls t) (px-arg-at t) px-arg.Post
@@ -92,14 +92,14 @@ pub same-length-7 : (t : ℕ) → lts.Need-same-length-7 (px-arg-calls t) (px-ar
 same-length-7 t c = search needs
 
 pub same-length-8 : (t : ℕ) → lts.Need-same-length-8 (px-arg-calls t) (px-arg-at t) px-arg.Post
-same-length-8 t c = omega (arith, c .before .before .before .before .before .before .before .before .before .before .before .before .before .before .before .before .before .before .before .before .before .before .before .before .before .before .before .before .before .before .before .clear-args .kept, c .before .before .before .before .before .before .before .before .before .before .before .before .before .before .before .before .before .before .before .before .before .before .before .args2 .kept, c .before .before .before .before .before .before .before .push-sub .kept)
+same-length-8 t c = omega (arith, c .before .before .before .before .before .before .before .before .before .before .before .before .before .before .before .before .before .before .before .before .before .before .before .args2 .kept, c .before .before .before .before .before .before .before .push-sub .kept)
 
 pub same-length-9 : (t : ℕ) → lts.Need-same-length-9 (px-arg-calls t) (px-arg-at t) px-arg.Post
-same-length-9 t c = omega (arith, c .before .before .before .before .before .before .before .before .before .before .before .before .before .before .before .before .before .before .before .before .before .before .before .before .before .before .before .before .before .before .before .clear-args .kept, c .before .before .before .before .before .before .before .before .before .before .before .before .before .before .before .before .before .before .before .before .before .before .before .args2 .kept, c .before .before .before .before .before .before .before .push-sub .kept)
+same-length-9 t c = omega (arith, c .before .before .before .before .before .before .before .before .before .before .before .before .before .before .before .before .before .before .before .before .before .before .before .args2 .kept, c .before .before .before .before .before .before .before .push-sub .kept)
 
 pub returns-3 : (t : ℕ) → lts.Need-returns-3 (px-arg-calls t) (px-arg-at t) px-arg.Post
 returns-3 t c base from ps σ h =
-    let k = c .before .before .before .before .before .before .before .before .before .before .before .before .before .before .before .before .before .before .before .before .before .before .before .before .before .before .before .before .before .before .before .clear-args .ensures in
+    let k = c .before .before .before .before .before .before .before .before .before .before .before .before .before .before .before .before .before .before .before .before .before .before .before .before .before .before .before .clear-args .ensures in
     let a = got (c .before .before .before .before .before .before .before .before .before .before .before .before .before .before .before .got .given .1) (c .before .before .before .before .before .before .before .before .before .before .before .before .before .before .before .before .before .before .before .before .before .before .before .args2 .ensures (with-args [] σ) (k .1 _ _ σ (h .stands .holds))) in
     let z : 0 < length (ps .texts) = omega (arith, h .count, c .before .before .before .before .before .before .before .before .before .before .before .before .if1 .left) in
     let v = argued-parts h (k .0) (a .wrote) z (c .before .before .before .before .before .before .before .before .before .before .before .sum .result) _ (c .before .before .before .before .before .before .before .before .before .before .before .sum .ensures) refl in
@@ -114,23 +114,23 @@ with-templated-requires t c κs = search needs
 
 pub sum-requires-2 : (t : ℕ) → lts.Need-sum-requires-2 (px-arg-calls t) (px-arg-at t) px-arg.Post
 sum-requires-2 t c κs =
-    let k = c .before .before .before .before .before .before .before .before .before .before .before .before .before .before .before .before .before .before .before .before .before .before .before .before .before .before .before .before .before .before .before .before .before .clear-args .ensures in
-    let h = k .1 _ _ (c .before .before .before .before .before .before .before .before .before .before .before .before .before .before .before .before .before .before .before .before .before .before .before .before .before .before .before .before .before .before .before .before .before .before .before .before .before .before .before .before .pre .1 .0 .0) (c .before .before .before .before .before .before .before .before .before .before .before .before .before .before .before .before .before .before .before .before .before .before .before .before .before .before .before .before .before .before .before .before .before .before .before .before .before .before .before .before .pre .1 .0 .1) in
-    let a = got (c .before .before .before .before .before .before .before .before .before .before .before .before .before .before .before .before .before .got .given .1) (c .before .before .before .before .before .before .before .before .before .before .before .before .before .before .before .before .before .before .before .before .before .before .before .before .before .args2 .ensures (with-args [] (c .before .before .before .before .before .before .before .before .before .before .before .before .before .before .before .before .before .before .before .before .before .before .before .before .before .before .before .before .before .before .before .before .before .before .before .before .before .before .before .before .pre .1 .0 .0)) h) in
-    (omega (arith, c .before .before .before .before .before .before .before .before .before .before .before .before .before .before .before .before .before .before .before .before .before .before .before .before .before .before .before .before .before .before .before .before .before .before .before .before .before .before .before .before .pre .1 .1 .0, c .before .before .before .before .before .before .before .before .before .before .before .before .before .before .before .before .before .before .before .before .before .before .before .before .before .before .before .before .before .before .before .before .before .before .before .before .before .before .before .before .pre .1 .1 .1 .0), omega (arith, a .wrote .size, a .wrote .short))
+    let k = c .before .before .before .before .before .before .before .before .before .before .before .before .before .before .before .before .before .before .before .before .before .before .before .before .before .before .before .before .before .clear-args .ensures in
+    let h = k .1 _ _ (c .before .before .before .before .before .before .before .before .before .before .before .before .before .before .before .before .before .before .before .before .before .before .before .before .before .before .before .before .before .before .before .before .before .before .pre .1 .0 .0) (c .before .before .before .before .before .before .before .before .before .before .before .before .before .before .before .before .before .before .before .before .before .before .before .before .before .before .before .before .before .before .before .before .before .before .pre .1 .0 .1) in
+    let a = got (c .before .before .before .before .before .before .before .before .before .before .before .before .before .before .before .before .before .got .given .1) (c .before .before .before .before .before .before .before .before .before .before .before .before .before .before .before .before .before .before .before .before .before .before .before .before .before .args2 .ensures (with-args [] (c .before .before .before .before .before .before .before .before .before .before .before .before .before .before .before .before .before .before .before .before .before .before .before .before .before .before .before .before .before .before .before .before .before .before .pre .1 .0 .0)) h) in
+    (omega (arith, c .before .before .before .before .before .before .before .before .before .before .before .before .before .before .before .before .before .before .before .before .before .before .before .before .before .before .before .before .before .before .before .before .before .before .pre .1 .1 .0, c .before .before .before .before .before .before .before .before .before .before .before .before .before .before .before .before .before .before .before .before .before .before .before .before .before .before .before .before .before .before .before .before .before .before .pre .1 .1 .1 .0), omega (arith, a .wrote .size, a .wrote .short))
 
 pub same-length-10 : (t : ℕ) → lts.Need-same-length-10 (px-arg-calls t) (px-arg-at t) px-arg.Post
-same-length-10 t c = omega (arith, c .before .before .before .before .before .before .before .before .before .before .before .before .before .before .before .before .before .before .before .before .before .before .before .before .before .before .before .before .before .before .before .before .before .before .clear-args .kept, c .before .before .before .before .before .before .before .before .before .before .before .before .before .before .before .before .before .before .before .before .before .before .before .before .before .before .args2 .kept, c .before .before .before .before .before .before .before .before .before .before .push-sub .kept)
+same-length-10 t c = omega (arith, c .before .before .before .before .before .before .before .before .before .before .before .before .before .before .before .before .before .before .before .before .before .before .before .before .before .before .args2 .kept, c .before .before .before .before .before .before .before .before .before .before .push-sub .kept)
 
 pub same-length-11 : (t : ℕ) → lts.Need-same-length-11 (px-arg-calls t) (px-arg-at t) px-arg.Post
-same-length-11 t c = omega (arith, c .before .before .before .before .before .before .before .before .before .before .before .before .before .before .before .before .before .before .before .before .before .before .before .before .before .before .before .before .before .before .before .before .before .before .clear-args .kept, c .before .before .before .before .before .before .before .before .before .before .before .before .before .before .before .before .before .before .before .before .before .before .before .before .before .before .args2 .kept, c .before .before .before .before .before .before .before .before .before .before .push-sub .kept)
+same-length-11 t c = omega (arith, c .before .before .before .before .before .before .before .before .before .before .before .before .before .before .before .before .before .before .before .before .before .before .before .before .before .before .args2 .kept, c .before .before .before .before .before .before .before .before .before .before .push-sub .kept)
 
 pub same-length-12 : (t : ℕ) → lts.Need-same-length-12 (px-arg-calls t) (px-arg-at t) px-arg.Post
-same-length-12 t c = omega (arith, c .before .before .before .before .before .before .before .before .before .before .before .before .before .before .before .before .before .before .before .before .before .before .before .before .before .before .before .before .before .before .before .before .before .before .clear-args .kept, c .before .before .before .before .before .before .before .before .before .before .before .before .before .before .before .before .before .before .before .before .before .before .before .before .before .before .args2 .kept, c .before .before .before .before .before .before .before .before .before .before .push-sub .kept)
+same-length-12 t c = omega (arith, c .before .before .before .before .before .before .before .before .before .before .before .before .before .before .before .before .before .before .before .before .before .before .before .before .before .before .args2 .kept, c .before .before .before .before .before .before .before .before .before .before .push-sub .kept)
 
 pub returns-4 : (t : ℕ) → lts.Need-returns-4 (px-arg-calls t) (px-arg-at t) px-arg.Post
 returns-4 t c base from ps σ h =
-    let k = c .before .before .before .before .before .before .before .before .before .before .before .before .before .before .before .before .before .before .before .before .before .before .before .before .before .before .before .before .before .before .before .before .before .before .clear-args .ensures in
+    let k = c .before .before .before .before .before .before .before .before .before .before .before .before .before .before .before .before .before .before .before .before .before .before .before .before .before .before .before .before .before .before .clear-args .ensures in
     let a = got (c .before .before .before .before .before .before .before .before .before .before .before .before .before .before .before .before .before .before .got .given .1) (c .before .before .before .before .before .before .before .before .before .before .before .before .before .before .before .before .before .before .before .before .before .before .before .before .before .before .args2 .ensures (with-args [] σ) (k .1 _ _ σ (h .stands .holds))) in
     let z : 0 < length (ps .texts) = omega (arith, h .count, c .before .before .before .before .before .before .before .before .before .before .before .before .before .before .before .if1 .left) in
     let v = argued-parts h (k .0) (a .wrote) z (c .before .before .before .before .before .before .before .before .before .before .before .before .before .before .sum .result) (c .sum2 .result) (c .before .before .before .before .before .before .before .before .before .before .before .before .before .before .sum .ensures) (c .sum2 .ensures) in

@@ -12,7 +12,7 @@ use Rattle.grammar.specs.Grammar.{reading, ⟨unqualified-name⟩, std-ahead, s
 use Rattle.grammar.specs.Agree.{moved}
 use Rattle.grammar.specs.Steps.{at-code-yes, at-code-no}
 use Rattle.parser.specs.Laws.{by, got, refused-on}
-use Rattle.parser.specs.Adds.{clean-by, puts-at}
+use Rattle.parser.specs.Adds.{stack-by, puts-at}
 use Rattle.parser.specs.Runs.{need-here}
 use Rattle.reader.proofs.cycle.+arg+args+array+class+func+inst_n+inst_t+item+items+lit+loc_fn+local+memb+name+nest_ty+nested+nm_in+oper+pack+part+plain+px+px_arg+px_new+s_nm+s_ty+std+ty+ty_in+unq+wrap.Proof.LawsJoin.{kept, push-refused, stands-top, instance-at}
 use Rattle.reader.specs.Standing.{given-as, word-holds, word-joined}
@@ -62,7 +62,7 @@ pub slice-aggregate-put : (t : ℕ) → lts.Need-slice-aggregate-put (std-calls 
 slice-aggregate-put t c = search needs
 
 pub put-requires : (t : ℕ) → lts.Need-put-requires (std-calls t) (std-at t) std.Post
-put-requires t c κs = (clean-by (c .before .moved .ensures) (c .before .before .before .before .before .before .before .pre .1 .0 .1 .text), omega arith)
+put-requires t c κs = (stack-by (c .before .moved .ensures) (c .before .before .before .before .before .before .before .pre .1 .0 .1 .text), omega arith)
 
 pub unq-requires : (t : ℕ) → lts.Need-unq-requires (std-calls t) (std-at t) std.Post
 unq-requires t c κs = (omega (arith, c .before .before .before .before .before .before .before .before .before .before .before .before .before .pre .0, puts-at (c .before .before .before .before .before .before .before .moved .ensures) (c .before .before .before .before .before .put .ensures)), (_, word-holds (c .before .before .before .before .before .before .before .moved .ensures) (c .before .before .before .before .before .put .ensures) (c .before .before .before .before .before .before .before .before .before .before .before .before .before .pre .1 .0 .1) (std-inside _ _ (c .before .before .before .before .before .before .before .before .before .before .before .before .before .pre .1 .1))))

@@ -8,7 +8,7 @@ use Rattle.grammar.specs.Grammar.{reading, ⟨template-param⟩, type-inner, ne
 use Rattle.grammar.specs.Steps.{from-text, same-from, inner-end, inner-letter, inner-A, inner-F, inner-M, inner-D, inner-u, inner-N, inner-T, inner-S, inner-class, inner-wrapper, inner-4}
 use Rattle.parser.specs.Holds.{refuses, keep}
 use Rattle.parser.specs.Laws.{by, less, sooner}
-use Rattle.parser.specs.Adds.{ready-moved, reads-moved, clean-by}
+use Rattle.parser.specs.Adds.{ready-moved, reads-moved, stack-by}
 use Rattle.parser.specs.Wraps.{picked-at}
 use Rattle.reader.specs.Opens.{at-of, call-moved}
 use Rattle.reader.specs.Arrays.{byte-at, byte-is, byte-inside, no-byte}
@@ -44,7 +44,7 @@ pub enum-known-w : (t : ℕ) → lts.Need-enum-known-w (ty-in-calls t) (ty-in-at
 enum-known-w t c = search needs
 
 pub word-requires : (t : ℕ) → lts.Need-word-requires (ty-in-calls t) (ty-in-at t) ty-in.Post
-word-requires t c κs = (clean-by (c .before .before .before .before .before .moved .ensures) (c .before .before .before .before .before .before .before .before .before .before .before .before .before .before .pre .1 .1 .text), picked-at (c .before .before .before .before .builtin .ensures) (c .before .before .w .given .1) .1)
+word-requires t c κs = (stack-by (c .before .before .before .before .before .moved .ensures) (c .before .before .before .before .before .before .before .before .before .before .before .before .before .before .pre .1 .1 .text), picked-at (c .before .before .before .before .builtin .ensures) (c .before .before .w .given .1) .1)
 
 pub same-length : (t : ℕ) → lts.Need-same-length (ty-in-calls t) (ty-in-at t) ty-in.Post
 same-length t c = search needs
@@ -77,7 +77,7 @@ pub source-name-requires : (t : ℕ) → lts.Need-source-name-requires (ty-in-ca
 source-name-requires t c κs =
     let h = c .before .before .before .before .before .before .before .before .before .before .before .before .before .before .pre .1 .1 in
     let l = byte-inside h (c .before .before .before .before .before .before .before .before .before .peek .ensures) (c .before .before .before .before .before .before .before .c .given .1) in
-    (omega (arith, at-of (c .before .before .before .before .before .moved .ensures), l), (h .source, clean-by (c .before .before .before .before .before .moved .ensures) (h .text)))
+    (omega (arith, at-of (c .before .before .before .before .before .moved .ensures), l), (h .source, stack-by (c .before .before .before .before .before .moved .ensures) (h .text)))
 
 pub nest-ty-requires : (t : ℕ) → lts.Need-nest-ty-requires (ty-in-calls t) (ty-in-at t) ty-in.Post
 nest-ty-requires t c κs = (omega (arith, c .before .before .before .before .before .before .before .before .before .before .before .before .before .before .before .before .pre .0), c .before .before .before .before .before .before .before .before .before .before .before .before .before .before .before .before .pre .1)
@@ -157,7 +157,7 @@ pub returns-7 : (t : ℕ) → lts.Need-returns-7 (ty-in-calls t) (ty-in-at t) ty
 returns-7 t c = λ σ h.
     let l = byte-inside h (c .before .before .before .before .before .before .before .before .before .before .before .before .peek .ensures) (c .before .before .before .before .before .before .before .before .before .before .c .given .1) in
     by (from-text (type-inner reading) σ (byte-is h (c .before .before .before .before .before .before .before .before .before .before .before .before .peek .ensures) 117 (c .before .before .before .before .before .before .before .before .before .before .c .given .1) (c .before .before .before .before .match3 .keys6)) (inner-u _ σ))
-    (less (omega (arith, h .deep)) (sooner (omega arith) (call-moved (λ _. 49152) (c .before .before .before .before .before .before .before .before .moved .ensures) (c .before .before .source-name .ensures _ _) h (omega (arith, l)))))
+    (less (omega (arith, h .deep)) (sooner (omega arith) (call-moved (λ _. 34816) (c .before .before .before .before .before .before .before .before .moved .ensures) (c .before .before .source-name .ensures _ _) h (omega (arith, l)))))
 
 pub same-length-13 : (t : ℕ) → lts.Need-same-length-13 (ty-in-calls t) (ty-in-at t) ty-in.Post
 same-length-13 t c = search needs

@@ -4,7 +4,7 @@ use mathlib.Core.Path.{refl, ap}
 use Rattle.grammar.specs.Text.{b}
 use Rattle.grammar.specs.NameSteps.{unqualified-C, unqualified-D, unqualified-C-4, unqualified-D-4}
 use Rattle.parser.specs.declared.state.Parser.{Parser}
-use Rattle.parser.specs.Adds.{clean-by}
+use Rattle.parser.specs.Adds.{stack-by}
 use Rattle.reader.specs.Heads.{either, digit-not, digit-in}
 use Rattle.reader.specs.Opers.{unq-ready, unq-end, unq-short, unq-structor, unq-U, unq-digit, unq-operator}
 use Prim.Native.Nat.{ℕ}
@@ -49,7 +49,7 @@ slice-aggregate-put t c = search needs
 
 pub put-requires : (t : ℕ) → lts.Need-put-requires (unq-calls t) (unq-at t) unq.Post
 unfolding b
-put-requires t c κs = (clean-by (c .before .moved2 .ensures) (clean-by (c .before .before .before .before .before .before .before .before .before .moved .ensures) (c .before .before .before .before .before .before .before .before .before .before .before .before .before .before .before .pre .1 .1 .text)), omega arith)
+put-requires t c κs = (stack-by (c .before .moved2 .ensures) (stack-by (c .before .before .before .before .before .before .before .before .before .moved .ensures) (c .before .before .before .before .before .before .before .before .before .before .before .before .before .before .before .pre .1 .1 .text)), omega arith)
 
 pub add-if2 : (t : ℕ) → lts.Need-add-if2 (unq-calls t) (unq-at t) unq.Post
 add-if2 t c = search needs
@@ -68,7 +68,7 @@ slice-aggregate-put-2 t c = search needs
 
 pub put-requires-2 : (t : ℕ) → lts.Need-put-requires-2 (unq-calls t) (unq-at t) unq.Post
 unfolding b
-put-requires-2 t c κs = (clean-by (c .before .moved3 .ensures) (clean-by (c .before .before .before .before .before .before .before .before .before .moved .ensures) (c .before .before .before .before .before .before .before .before .before .before .before .before .before .before .before .pre .1 .1 .text)), omega arith)
+put-requires-2 t c κs = (stack-by (c .before .moved3 .ensures) (stack-by (c .before .before .before .before .before .before .before .before .before .moved .ensures) (c .before .before .before .before .before .before .before .before .before .before .before .before .before .before .before .pre .1 .1 .text)), omega arith)
 
 pub add-moved-3 : (t : ℕ) → lts.Need-add-moved-3 (unq-calls t) (unq-at t) unq.Post
 add-moved-3 t c = search needs
@@ -77,7 +77,7 @@ pub moved-requires-4 : (t : ℕ) → lts.Need-moved-requires-4 (unq-calls t) (un
 moved-requires-4 t c κs = search needs
 
 pub unnamed-type-name-requires : (t : ℕ) → lts.Need-unnamed-type-name-requires (unq-calls t) (unq-at t) unq.Post
-unnamed-type-name-requires t c κs = clean-by (c .moved4 .ensures) (clean-by (c .before .before .before .before .before .before .before .moved .ensures) (c .before .before .before .before .before .before .before .before .before .before .before .before .before .pre .1 .1 .text))
+unnamed-type-name-requires t c κs = stack-by (c .moved4 .ensures) (stack-by (c .before .before .before .before .before .before .before .moved .ensures) (c .before .before .before .before .before .before .before .before .before .before .before .before .before .pre .1 .1 .text))
 
 pub source-name-requires : (t : ℕ) → lts.Need-source-name-requires (unq-calls t) (unq-at t) unq.Post
 source-name-requires t c κs =

@@ -1,14 +1,13 @@
--- `symbols::entry::normalize_zeroed` meets its contract, test by test. Assumes nothing.
-use mathlib.Core.Path.{refl, sym, ap, _∙_}
+-- `symbols::entry::normalize_uncleared` meets its contract, test by test. Assumes nothing.
+use mathlib.Core.Path.{sym, _∙_}
 use native.Mathlib.Omega.{arith}
 use borrow.Author.Tests.{not-true, not-false}
-use Rattle.store.specs.Stack.{zeros}
 use Rattle.names.specs.Outcome.{slices}
-use Rattle.names.specs.Told.{again, front-inside}
+use Rattle.names.specs.Told.{front-inside}
 use Rattle.symbols.specs.Answers.{fit-long, front-refuses, front-short, reading-refuses, reading-accepts}
 use borrow.Author.Needs.{needs}
-use Rattle.symbols.proofs.entry.normalize_zeroed.Statement.{statement}
-use Rattle.symbols.proofs.entry.normalize_zeroed.Tie as tie
+use Rattle.symbols.proofs.entry.normalize_uncleared.Statement.{statement}
+use Rattle.symbols.proofs.entry.normalize_uncleared.Tie as tie
 
 behind-front-requires : tie.Need-behind-front-requires
 behind-front-requires c κs = search needs
@@ -23,18 +22,20 @@ refused-requires : tie.Need-refused-requires
 refused-requires c κs = search needs
 
 returns : tie.Need-returns
-returns c = front-refuses (c .before .before .before .behind-front .ensures) _ (c .before .enum-told2 .given .1) (c .refused .ensures) (c .before .before .before .before .before .before .before .before .before .pre)
+returns c =
+    let a = c .before .before .before .before .before .before .before .before .before .args in
+    front-refuses (c .before .before .before .behind-front .ensures) (slices (a .out .now) (a .text .now) (a .store .now) (a .ends .now)) (c .before .enum-told2 .given .1) (c .refused .ensures)
 
 work-fits-requires : tie.Need-work-fits-requires
 work-fits-requires c κs = search needs
 
 returns-2 : tie.Need-returns-2
-returns-2 c = front-short (c .before .before .before .before .behind-front .ensures) (c .before .before .enum-told .given .1) _ (sym (c .before .work-fits .ensures) ∙ not-true _ (c .if1 .taken)) (c .before .before .before .before .before .before .before .before .before .before .pre)
+returns-2 c =
+    let a = c .before .before .before .before .before .before .before .before .before .before .args in
+    front-short (c .before .before .before .before .behind-front .ensures) (c .before .before .enum-told .given .1) (slices (a .out .now) (a .text .now) (a .store .now) (a .ends .now)) (sym (c .before .work-fits .ensures) ∙ not-true _ (c .if1 .taken))
 
 accepted-requires : tie.Need-accepted-requires
-accepted-requires c κs =
-    let z = c .before .before .before .before .before .before .before .before .before .before .before .before .before .pre in
-    (fit-long _ (sym (c .before .before .before .before .work-fits .ensures) ∙ not-false _ (c .before .before .before .if1 .left)), record { text = z .text; store = z .store; ends = z .ends })
+accepted-requires c κs = fit-long _ (sym (c .before .before .before .before .work-fits .ensures) ∙ not-false _ (c .before .before .before .if1 .left))
 
 same-length : tie.Need-same-length
 same-length c = search needs
@@ -55,12 +56,8 @@ write-within-requires : tie.Need-write-within-requires
 write-within-requires c κs =
     let a = c .before .before .before .before .before .before .before .before .before .before .before .before .before .before .before .before .before .before .before .before .before .before .before .before .args in
     let l = fit-long (slices (a .out .now) (a .text .now) (a .store .now) (a .ends .now)) (sym (c .before .before .before .before .before .before .before .before .before .before .before .before .before .before .before .work-fits .ensures) ∙ not-false _ (c .before .before .before .before .before .before .before .before .before .before .before .before .before .before .if1 .left)) in
-    let h = c .before .before .before .before .before .before .before .before .before .before .accepted .ensures in
-    let e = again (a .text .now) _ (h .text) in
-    let f = again (a .ends .now) _ (h .ends) in (
-      front-inside (c .before .before .before .before .before .before .before .before .before .before .before .before .before .before .before .before .before .before .behind-front .ensures) (c .before .before .before .before .before .before .before .before .before .before .before .before .before .before .before .before .enum-told .given .1) .1,
-      ((omega (arith, l .text, e), h .text ∙ ap zeros (sym e)), (omega (arith, l .ends, f), h .ends ∙ ap zeros (sym f))),
-    )
+    let k = c .before .before .before .before .before .before .before .before .before .before .accepted .kept in
+    (front-inside (c .before .before .before .before .before .before .before .before .before .before .before .before .before .before .before .before .before .before .behind-front .ensures) (c .before .before .before .before .before .before .before .before .before .before .before .before .before .before .before .before .enum-told .given .1) .1, (omega (arith, l .store, k), omega (arith, l .ends, k)))
 
 same-length-4 : tie.Need-same-length-4
 same-length-4 c = search needs
@@ -78,10 +75,10 @@ returns-4 : tie.Need-returns-4
 returns-4 c =
     let a = c .before .before .before .before .before .before .before .before .before .before .before .before .before .before .before .before .before .before .before .before .before .before .before .before .before .before .before .before .before .before .before .args in
     reading-accepts (c .before .before .before .before .before .before .before .before .before .before .before .before .before .before .before .before .before .before .before .before .before .before .before .before .before .behind-front .ensures) (c .before .before .before .before .before .before .before .before .before .before .before .before .before .before .before .before .before .before .before .before .before .before .before .enum-told .given .1) (slices (a .out .now) (a .text .now) (a .store .now) (a .ends .now))
-    (sym (c .before .before .before .before .before .before .before .before .before .before .before .before .before .before .before .before .before .before .before .before .before .before .work-fits .ensures) ∙ not-false _ (c .before .before .before .before .before .before .before .before .before .before .before .before .before .before .before .before .before .before .before .before .before .if1 .left)) (c .before .before .before .before .before .before .before .before .before .before .before .before .before .before .before .before .before .accepted .ensures) _ (c .before .before .before .before .before .before .before .before .before .before .if2 .left) (c .before .before .before .before .before .before .write-within .ensures) refl
+    (sym (c .before .before .before .before .before .before .before .before .before .before .before .before .before .before .before .before .before .before .before .before .before .before .work-fits .ensures) ∙ not-false _ (c .before .before .before .before .before .before .before .before .before .before .before .before .before .before .before .before .before .before .before .before .before .if1 .left)) (c .before .before .before .before .before .before .before .before .before .before .before .before .before .before .before .before .before .accepted .ensures) (c .before .before .before .before .before .before .before .before .before .before .if2 .left) (c .before .before .before .before .before .before .write-within .ensures)
 
-pub normalize-zeroed-spec : {M : Type 1} → statement M
-normalize-zeroed-spec =
+pub normalize-uncleared-spec : {M : Type 1} → statement M
+normalize-uncleared-spec =
     tie.close
     (tie.spec
     behind-front-requires
