@@ -3,6 +3,7 @@
 //!     bench list FILE             compares the library with the Rust, and writes the library's listing
 //!     bench time FILE ROUND       one pass of each, the first another one in each round: `contender nanoseconds`
 //!     bench count FILE..          one pass of each over each file, to be counted from outside: `contender file`
+//!     bench clearing              what clearing costs, by the lengths of the work slices
 //!     bench read FILE CONTENDER   how many symbols of the file it reads, and how many of these get the library's name
 use std::io::Write;
 
@@ -81,13 +82,19 @@ impl Lines {
         Lines { lent: Lent::new("names"), lines: Vec::with_capacity(LINES + 65536), listing: vec![0; 65536] }
     }
 
-    /// How many bytes the listing of the lines has.
-    fn list(&mut self) -> usize {
+    fn add(&mut self, symbol: &Symbol) {
+        self.lines.extend(symbol.bytes());
+        self.lines.push(b'\n');
+    }
+
+    /// How many bytes the listing of the lines has; each part of it is shown.
+    fn list(&mut self, mut show: impl FnMut(&[u8])) -> usize {
         let Lent { entry, out, text, store, ends } = &mut self.lent;
         let (mut from, mut sum) = (0, 0);
         while from < self.lines.len() {
             let mut written = 0;
             from += entry.list(&self.lines[from..], &mut self.listing, out, text, store, ends, &mut written);
+            show(&self.listing[..written]);
             sum += written;
         }
         self.lines.clear();
@@ -120,13 +127,12 @@ fn pass_library(bench: &mut Bench, symbols: &[Symbol]) -> usize {
 fn pass_listing(bench: &mut Bench, symbols: &[Symbol]) -> usize {
     let mut sum = 0;
     for symbol in symbols {
-        bench.lines.lines.extend(symbol.bytes());
-        bench.lines.lines.push(b'\n');
+        bench.lines.add(symbol);
         if LINES < bench.lines.lines.len() {
-            sum += bench.lines.list();
+            sum += bench.lines.list(|_| ());
         }
     }
-    sum + bench.lines.list()
+    sum + bench.lines.list(|_| ())
 }
 
 /// As many calls that are refused before anything is read: what clearing costs.
@@ -227,7 +233,9 @@ fn check_normal_symbol(bench: &mut Bench, symbol: &Symbol) {
 fn list(file: &str) {
     let mut bench = Bench::new();
     let mut listing = b"code,bytes,name\n".to_vec();
+    let header = listing.len();
     for symbol in symbols_of(file) {
+        bench.lines.add(&symbol);
         let name = bench.names.name(symbol.bytes());
         if !agrees(&name, &itanium::demangle(&symbol.text)) {
             different(&symbol);
@@ -241,6 +249,9 @@ fn list(file: &str) {
         listing.extend(text);
         listing.push(b'\n');
     }
+    let mut lines: Vec<u8> = vec![];
+    bench.lines.list(|part| lines.extend(part));
+    assert!(lines == listing[header..], "the function for listings writes something else");
     std::io::stdout().write_all(&listing).unwrap();
 }
 
@@ -307,12 +318,30 @@ fn read(file: &str, contender: &str) {
     println!("{read} {same}");
 }
 
+/// Calls that are refused before anything is read, with a `text` of its least length, of the one it had once, of a smaller one and with none.
+fn clearing() {
+    for length in [65536, 51200, 34816, 0] {
+        let mut lent = Lent::new("names");
+        lent.text = vec![0; length];
+        let mut least = i64::MAX;
+        for _ in 0..60 {
+            let before = nanoseconds();
+            for _ in 0..2000 {
+                std::hint::black_box(lent.call(b""));
+            }
+            least = least.min(nanoseconds() - before);
+        }
+        println!("{:7} bytes: {:5} ns, the least of 60 rounds", length + lent.store.len() + 2 * lent.ends.len(), least / 2000);
+    }
+}
+
 fn main() {
     let args: Vec<String> = std::env::args().skip(1).collect();
     match args[0].as_str() {
         "list" => list(&args[1]),
         "time" => time(&args[1], args[2].parse().unwrap()),
         "count" => count(&args[1..]),
+        "clearing" => clearing(),
         "read" => read(&args[1], &args[2]),
         other => panic!("{other}: not known"),
     }

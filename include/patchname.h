@@ -25,7 +25,7 @@ extern "C" {
 #define PATCHNAME_STORE_LENGTH 65536
 #define PATCHNAME_ENDS_LENGTH 2048
 
-/* What a call returns. Where more than one refusal would fit, the first in this order is told: 1, 2, 3, 14, then 4 and 7 to 11 as the reading
+/* What a call for one symbol returns, and what stands first in a line of a listing. Where more than one refusal would fit, the first in this order is told: 1, 2, 3, 14, then 4 and 7 to 11 as the reading
  * first meets them, 5, 6, 13, 12. */
 enum patchname_number {
     PATCHNAME_OK = 0,                     /* the result is in `out` */
@@ -58,7 +58,7 @@ enum patchname_number {
  * With any other number *bytes is 0, and all of `out` is as it was. A name can be empty.
  *
  * What a caller owes: each pointer and its length are a slice of memory that the caller may read, and, but for the symbol, write. No two of the
- * slices overlap, and none has *bytes in it. No pointer is null, where its length is 0 either; but then it need not point to any memory. `ends`
+ * slices overlap, and none has *bytes in it. No pointer is null, not even where its length is 0; but then it need not point to any memory. `ends`
  * and `bytes` are aligned as their types are. A work slice may be shorter than its least length, or empty: that is refused with 14.
  */
 uint8_t patchname_demangle(
@@ -76,7 +76,7 @@ uint8_t patchname_demangle(
 #define PATCHNAME_NORMALIZE_ENDS_LENGTH 24576
 
 /* The normal symbol of a catalogue symbol: two of them have the same normal symbol exactly when they have the same name. Parameters, what is
- * returned and what a caller owes are those of `patchname_demangle`, but for the least length of `ends`. Only here 6 and 13 are returned. */
+ * returned and what a caller owes are those of `patchname_demangle`, but for the least length of `ends`. 6 and 13 are told of normal symbols only. */
 uint8_t patchname_normalize(
     const uint8_t *symbol, size_t symbol_length,
     uint8_t *out, size_t out_length,
@@ -90,17 +90,24 @@ uint8_t patchname_normalize(
 
 /* The listing of many symbols, which is faster than a call for each: the work slices are cleared once for all of them.
  *
- * input, input_length     symbols, one a line, each line ended by a line feed. Bytes behind the last line feed are left alone.
+ * input, input_length     symbols, one a line, each ended by a line feed. Bytes behind the last line feed are not taken: where they are a symbol, the
+ *                         caller adds a line feed.
  * out, out_length         where the listing goes: for each line of `input`, in its order, the number, a comma, the length, a comma, the name and a
- *                         line feed. The length is that of the name, and 0 with any other number than 0, where there is no name.
- * name, name_length       a work slice more, of PATCHNAME_NAME_BYTES at least, for one name at a time.
- * text, store, ends       as for `patchname_demangle`.
- * written                 where the length of the listing goes.
+ *                         line feed. With another number than 0 the length is 0 and there is no name. No other line stands in front.
+ * name, name_length       one more work slice, of PATCHNAME_NAME_BYTES at least, for one name or normal symbol at a time.
+ * text, store, ends       work slices, as for `patchname_demangle`.
+ * written                 where the length of the listing goes; its value before the call doesn't matter.
  *
- * Returned is how many bytes of `input` were taken: the lines at its front whose listing fits into `out`. Call it again with the rest. With an
- * output of PATCHNAME_LINE_BYTES and a complete line it is never 0; with a work slice below its least length it is always 0. The first *written
- * bytes of `out` are the listing, and those behind them are as they were. All work slices, `name` too, end all zero. Lines of any bytes and any
- * length get a line. What a caller owes is as for `patchname_demangle`. */
+ * Returned is how many bytes of `input` were taken: the lines at its front whose listing fits into `out`. Lines of any bytes and any length get a
+ * line; 12 and 14 never stand in one. The first *written bytes of `out` are the listing, and those behind them are as they were. All work slices,
+ * `name` too, end all zero. Call it again with the rest, until 0 is returned.
+ *
+ * 0 is returned, and *written is 0, where `input` has no line feed, where the first line's listing is longer than `out`, which is never so with
+ * PATCHNAME_LINE_BYTES, and where a work slice is below its least length.
+ *
+ * What a caller owes: each pointer and its length are a slice of memory that the caller may read, and, but for the input, write. No two of the
+ * slices overlap, and none has *written in it. No pointer is null, not even where its length is 0. `ends` and `written` are aligned as their types
+ * are. */
 size_t patchname_list_names(
     const uint8_t *input, size_t input_length,
     uint8_t *out, size_t out_length,

@@ -279,12 +279,11 @@ impl Tried<'_> {
             for out in [all + 1, all, all - 1, some, some.saturating_sub(1), 0] {
                 self.list(stretch, out, library::NAME, least);
             }
-            for (name, (_, work)) in [(library::NAME + 5, works(least)), (library::NAME - 1, works(least)), (0, works(least))]
-                .into_iter()
-                .flat_map(|(name, all)| all.into_iter().map(move |work| (name, work)))
-                .step_by(5)
-            {
-                self.list(stretch, all, name, work);
+            for name in [library::NAME + 5, library::NAME - 1, 0] {
+                self.list(stretch, all, name, least);
+            }
+            for (_, work) in works(least) {
+                self.list(stretch, all, library::NAME, work);
             }
             from = end;
         }

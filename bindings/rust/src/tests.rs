@@ -243,8 +243,13 @@ fn listing_with_little_output() {
 #[test]
 fn listing_leaves_the_memory_zero() {
     let mut demangler = Demangler::new();
+    demangler.out.fill(7);
+    demangler.text.fill(7);
+    demangler.store.fill(7);
+    demangler.ends.fill(7);
     let mut out = vec![0; 3 * LINE_BYTES];
-    demangler.list_normal_symbols(b"_Z1fP1aPS_\n_Z1f1aIiE1b\n_ZN1a1bEi\n", &mut out);
+    let listed = demangler.list_normal_symbols(b"_Z1fP1aPS_\n_Z1f1aIiE1b\n_ZN1a1bEi\n", &mut out);
+    assert_eq!(listed.taken, 33);
     assert!(demangler.out.iter().chain(demangler.text.iter()).chain(demangler.store.iter()).all(|&x| x == 0));
     assert!(demangler.ends.iter().all(|&x| x == 0));
 }

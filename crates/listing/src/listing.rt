@@ -17,6 +17,9 @@ ghost use Rattle.listing.specs.Lines.{Goes};
 ghost use Rattle.listing.specs.Kinds.{Sized};
 ghost use Rattle.listing.specs.Entry.{taken-lines};
 
+// The least length of the slice for a name or a normal symbol; those of the others are the entries'.
+pub const NAME: usize = 16384;
+
 // What is listed of a symbol: its name, or its normal symbol.
 pub enum Kind {
     Names,
@@ -183,7 +186,7 @@ fn least_ends(kind: Kind) -> usize
 fn long_enough(kind: Kind, name: usize, text: usize, store: usize, ends: usize) -> bool
     ensures { λ r. ⌜ r ≡ sized kind name text store ends ⌝ }
 {
-    if name < 16384 {
+    if name < NAME {
         return false;
     }
     if text < symbol::TEXT {

@@ -15,7 +15,7 @@ use Rattle.parser.specs.States.{raised-to, moved-to}
 use Rattle.parser.specs.Holds.{Memory, mem, window, Holds, Ready, Reads, Refines, Stands, Puts}
 use Rattle.parser.specs.Laws.{by-state, holds-text, holds-moved, sooner}
 
--- the text t was put on the stack in parts, and the state has the new top; the newest 49,152 bytes, at least, are there
+-- the text t was put on the stack in parts, and the state has the new top; the newest 34,816 bytes, at least, are there
 pub record Adds (text text' : Text) (p p' : Parser) (t : Text) : Type 0 where
   pub same : p' ≡ raised-to p (p' .top)
   pub stack : Stack text' (p' .top)

@@ -12,7 +12,6 @@ use lib.Seq.{take-take, drop-drop, length-take-le}
 use Rattle.grammar.specs.Text.{Text, if_then_else_, choose, same}
 use Rattle.grammar.specs.Reader.{State, Result, ok, refused, Reader, onto, refuse, set-subs, set-args, bytes-of, fits, push-sub, push-arg, give, recorded}
 use Rattle.grammar.specs.Grammar.{last}
-use Rattle.store.specs.Stack.{Stack}
 use Rattle.store.specs.Table.{Entries}
 use Rattle.store.specs.Lists.{drop-take, part-of, first-back, first-other, second-lent, second-back, second-other}
 use Rattle.store.specs.Tails.{newest-is, top-size, put-tail, whole}

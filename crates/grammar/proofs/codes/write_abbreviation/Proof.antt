@@ -1,4 +1,4 @@
--- `grammar::codes::write_abbreviation` meets its contract: the byte string is the words of the tables of abbreviations. Assumes nothing.
+-- `grammar::codes::write_abbreviation` meets its contract: the byte string is the words of the table of abbreviations. Assumes nothing.
 use mathlib.Core.Path.{refl}
 use borrow.Author.Needs.{needs}
 use Rattle.grammar.proofs.Lookups.{right}

@@ -1,4 +1,4 @@
--- `grammar::codes::write_operator` meets its contract: the byte string is the words of the tables of operators. Assumes nothing.
+-- `grammar::codes::write_operator` meets its contract: the byte string is the words of the table of operators. Assumes nothing.
 use mathlib.Core.Path.{refl}
 use borrow.Author.Needs.{needs}
 use Rattle.grammar.proofs.Lookups.{right}

@@ -1,6 +1,5 @@
 -- `grammar::text::copy_part` meets its contract: in blocks where both slices go on far enough. Assumes nothing.
 use native.Mathlib.Omega.{arith}
-use mathlib.Core.Path.{_∙_}
 use lib.ListN.{drop, length-drop}
 use lib.Seq.{length-take-le}
 use Prim.Native.Nat.{_-_}

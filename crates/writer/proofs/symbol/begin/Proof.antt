@@ -1,4 +1,4 @@
--- `normal::symbol::begin` writes the first bytes of a symbol. Assumes nothing.
+-- `writer::symbol::begin` writes the first bytes of a symbol. Assumes nothing.
 use Rattle.store.specs.Fronts.{front-none, front-paste}
 use borrow.Author.Needs.{needs}
 use native.Mathlib.Omega.{arith}

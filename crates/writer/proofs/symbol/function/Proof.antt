@@ -1,4 +1,4 @@
--- `normal::symbol::function` writes the name of a function. Assumes nothing.
+-- `writer::symbol::function` writes the name of a function. Assumes nothing.
 use mathlib.Core.Path.{sym, _∙_}
 use borrow.Author.Tests.{not-true, not-false}
 use Rattle.grammar.specs.Places.{starts-inside}

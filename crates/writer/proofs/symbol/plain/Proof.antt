@@ -1,4 +1,4 @@
--- `normal::symbol::plain` writes _Z and a source name. Assumes nothing.
+-- `writer::symbol::plain` writes _Z and a source name. Assumes nothing.
 use mathlib.Core.Path.{ap, subst, _∙_}
 use Rattle.normal.specs.States.{moved-to}
 use Rattle.normal.specs.Answers.{NameIs}

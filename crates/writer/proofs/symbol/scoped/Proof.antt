@@ -1,4 +1,4 @@
--- `normal::symbol::scoped` writes a nested name behind _ZN or _ZNK. Assumes nothing.
+-- `writer::symbol::scoped` writes a nested name behind _ZN or _ZNK. Assumes nothing.
 use borrow.Author.Tests.{not-true, not-false}
 use Rattle.writer.specs.Symbols.{begun-by, scoped-holds, scoped-none, scoped-ready, scoped-room, scoped-full, scoped-heads}
 use borrow.Author.Needs.{needs}

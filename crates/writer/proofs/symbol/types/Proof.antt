@@ -1,4 +1,4 @@
--- `normal::symbol::types`: the loop's invariant is that the reading of the types is that of those left, from the state now held. The measure
+-- `writer::symbol::types`: the loop's invariant is that the reading of the types is that of those left, from the state now held. The measure
 -- is the bytes left. Assumes nothing.
 use Prim.Native.Nat.{_-_}
 use lib.ListN.{length}

@@ -1,4 +1,4 @@
--- `normal::symbol::write_symbol` writes the normal symbol of a catalogue symbol. Assumes nothing.
+-- `writer::symbol::write_symbol` writes the normal symbol of a catalogue symbol. Assumes nothing.
 use mathlib.Core.Bool.{true, false≢true}
 use mathlib.Core.Logic.{⊎-elim}
 use mathlib.Core.Path.{_≡_, sym, _∙_}
