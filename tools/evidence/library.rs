@@ -1,37 +1,22 @@
 //! The C functions of libpatchname.a, with what a call of each has to be lent.
 
-pub type Function = unsafe extern "C" fn(
-    *const u8, usize, *mut u8, usize, *mut u8, usize, *mut u8, usize, *mut u16, usize, *mut usize,
-) -> u8;
-
-// An extern block can't use the type above, and both functions have it.
+// The type and the functions that have it: an extern block can't use the type.
 macro_rules! functions {
-    ($($name:ident),*) => {
+    ($type:ident $parameters:tt -> $result:ty: $($name:ident),*) => {
+        pub type $type = unsafe extern "C" fn $parameters -> $result;
         unsafe extern "C" {
-            $(fn $name(
-                s: *const u8, s_len: usize, out: *mut u8, out_len: usize, text: *mut u8, text_len: usize,
-                store: *mut u8, store_len: usize, ends: *mut u16, ends_len: usize, bytes: *mut usize,
-            ) -> u8;)*
+            $(fn $name $parameters -> $result;)*
         }
     };
 }
-functions!(patchname_demangle, patchname_normalize);
-
-pub type Lister = unsafe extern "C" fn(
-    *const u8, usize, *mut u8, usize, *mut u8, usize, *mut u8, usize, *mut u8, usize, *mut u16, usize, *mut usize,
-) -> usize;
-
-macro_rules! listers {
-    ($($name:ident),*) => {
-        unsafe extern "C" {
-            $(fn $name(
-                input: *const u8, input_len: usize, out: *mut u8, out_len: usize, name: *mut u8, name_len: usize,
-                text: *mut u8, text_len: usize, store: *mut u8, store_len: usize, ends: *mut u16, ends_len: usize, written: *mut usize,
-            ) -> usize;)*
-        }
-    };
-}
-listers!(patchname_list_names, patchname_list_normal_symbols);
+functions!(Function(
+    symbol: *const u8, symbol_length: usize, out: *mut u8, out_length: usize, text: *mut u8, text_length: usize,
+    store: *mut u8, store_length: usize, ends: *mut u16, ends_length: usize, bytes: *mut usize
+) -> u8: patchname_demangle, patchname_normalize);
+functions!(Lister(
+    input: *const u8, input_length: usize, out: *mut u8, out_length: usize, name: *mut u8, name_length: usize,
+    text: *mut u8, text_length: usize, store: *mut u8, store_length: usize, ends: *mut u16, ends_length: usize, written: *mut usize
+) -> usize: patchname_list_names, patchname_list_normal_symbols);
 
 /// The least length of the slice for one name, of either listing.
 #[allow(dead_code)]

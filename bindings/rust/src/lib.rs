@@ -35,39 +35,23 @@ const NORMALIZE_ENDS_LENGTH: usize = 24576;
 
 // A slice is a pointer and a length; include/patchname.h says what a caller owes. Slices of Rust fulfil it: they are never null, and those
 // that can be written overlap nothing.
-type Entry = unsafe extern "C" fn(
-    *const u8, usize, *mut u8, usize, *mut u8, usize, *mut u8, usize, *mut u16, usize, *mut usize,
-) -> u8;
-
-// An extern block can't use the type above, and both functions have it.
+// The type and the functions that have it: an extern block can't use the type.
 macro_rules! functions {
-    ($($name:ident),*) => {
+    ($type:ident $parameters:tt -> $result:ty: $($name:ident),*) => {
+        type $type = unsafe extern "C" fn $parameters -> $result;
         extern "C" {
-            $(fn $name(
-                symbol: *const u8, symbol_length: usize, out: *mut u8, out_length: usize, text: *mut u8, text_length: usize,
-                store: *mut u8, store_length: usize, ends: *mut u16, ends_length: usize, bytes: *mut usize,
-            ) -> u8;)*
+            $(fn $name $parameters -> $result;)*
         }
     };
 }
-functions!(patchname_demangle, patchname_normalize);
-
-type Lister = unsafe extern "C" fn(
-    *const u8, usize, *mut u8, usize, *mut u8, usize, *mut u8, usize, *mut u8, usize, *mut u16, usize, *mut usize,
-) -> usize;
-
-macro_rules! listers {
-    ($($name:ident),*) => {
-        extern "C" {
-            $(fn $name(
-                input: *const u8, input_length: usize, out: *mut u8, out_length: usize, name: *mut u8, name_length: usize,
-                text: *mut u8, text_length: usize, store: *mut u8, store_length: usize, ends: *mut u16, ends_length: usize,
-                written: *mut usize,
-            ) -> usize;)*
-        }
-    };
-}
-listers!(patchname_list_names, patchname_list_normal_symbols);
+functions!(Entry(
+    symbol: *const u8, symbol_length: usize, out: *mut u8, out_length: usize, text: *mut u8, text_length: usize,
+    store: *mut u8, store_length: usize, ends: *mut u16, ends_length: usize, bytes: *mut usize
+) -> u8: patchname_demangle, patchname_normalize);
+functions!(Lister(
+    input: *const u8, input_length: usize, out: *mut u8, out_length: usize, name: *mut u8, name_length: usize,
+    text: *mut u8, text_length: usize, store: *mut u8, store_length: usize, ends: *mut u16, ends_length: usize, written: *mut usize
+) -> usize: patchname_list_names, patchname_list_normal_symbols);
 
 /// What a call is lent for work. The contents don't matter before it, and are zero after it.
 struct Work<'a> {
