@@ -4,24 +4,6 @@ use Rattle.patchname.specs.Exports.{told}
 use Rattle.patchname.proofs.patchname_demangle.Statement.{statement}
 use Rattle.patchname.proofs.patchname_demangle.Tie as tie
 
-demangle-requires : tie.Need-demangle-requires
-demangle-requires c κs = search needs
-
-tell-requires : tie.Need-tell-requires
-tell-requires c κs = search needs
-
-same-length : tie.Need-same-length
-same-length c = search needs
-
-same-length-2 : tie.Need-same-length-2
-same-length-2 c = search needs
-
-same-length-3 : tie.Need-same-length-3
-same-length-3 c = search needs
-
-same-length-4 : tie.Need-same-length-4
-same-length-4 c = search needs
-
 returns : tie.Need-returns
 returns c = told (c .before .before .before .before .before .before .before .before .before .before .demangle .result) (c .tell .ensures) (c .before .before .before .before .before .before .before .before .before .before .demangle .ensures)
 
@@ -29,10 +11,10 @@ pub patchname-demangle-spec : {M : Type 1} → statement M
 patchname-demangle-spec =
     tie.close
     (tie.spec
-    demangle-requires
-    tell-requires
-    same-length
-    same-length-2
-    same-length-3
-    same-length-4
+    (λ c κs. search needs)
+    (λ c κs. search needs)
+    (λ c. search needs)
+    (λ c. search needs)
+    (λ c. search needs)
+    (λ c. search needs)
     returns)

@@ -8,15 +8,6 @@ use Rattle.console.specs.Kept.{puts}
 use Rattle.console.proofs.lines.keep_part.Statement.{statement}
 use Rattle.console.proofs.lines.keep_part.Tie as tie
 
-copy-requires : tie.Need-copy-requires
-copy-requires c κs = search needs
-
-add-result : tie.Need-add-result
-add-result c = search needs
-
-same-length : tie.Need-same-length
-same-length c = search needs
-
 returns : tie.Need-returns
 returns c =
     let a = c .before .before .before .before .before .before .before .args in
@@ -30,12 +21,6 @@ copy-requires-2 c κs =
     let a = c .before .before .before .before .before .args in
     omega (arith, length-take-le (a .left) (a .part .now) (omega arith))
 
-add-result-2 : tie.Need-add-result-2
-add-result-2 c = search needs
-
-same-length-2 : tie.Need-same-length-2
-same-length-2 c = search needs
-
 returns-2 : tie.Need-returns-2
 returns-2 c =
     let a = c .before .before .before .before .before .before .before .before .args in
@@ -46,12 +31,12 @@ pub keep-part-spec : {M : Type 1} → statement M
 keep-part-spec =
     tie.close
     (tie.spec
-    copy-requires
-    add-result
-    same-length
+    (λ c κs. search needs)
+    (λ c. search needs)
+    (λ c. search needs)
     returns
     slice-aggregate-copy
     copy-requires-2
-    add-result-2
-    same-length-2
+    (λ c. search needs)
+    (λ c. search needs)
     returns-2)

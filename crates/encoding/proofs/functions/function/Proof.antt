@@ -9,33 +9,9 @@ use borrow.Author.Needs.{needs}
 use Rattle.encoding.proofs.functions.function.Statement.{statement}
 use Rattle.encoding.proofs.functions.function.Tie as tie
 
-slice-aggregate-put : tie.Need-slice-aggregate-put
-slice-aggregate-put c = search needs
-
-put-requires : tie.Need-put-requires
-put-requires c κs = search needs
-
 items-requires : tie.Need-items-requires
 unfolding b
 items-requires c κs = (_, holds-puts (c .before .before .before .before .before .put .ensures) (c .before .before .before .before .before .before .before .before .before .before .before .before .pre .0 .1))
-
-enum-known-list : tie.Need-enum-known-list
-enum-known-list c = search needs
-
-enum-told : tie.Need-enum-told
-enum-told c = search needs
-
-refused-requires : tie.Need-refused-requires
-refused-requires c κs = search needs
-
-same-length : tie.Need-same-length
-same-length c = search needs
-
-same-length-2 : tie.Need-same-length-2
-same-length-2 c = search needs
-
-same-length-3 : tie.Need-same-length-3
-same-length-3 c = search needs
 
 returns : tie.Need-returns
 unfolding b
@@ -53,12 +29,6 @@ cut-requires c κs =
     let h = c .before .before .before .before .before .before .before .before .before .before .before .before .before .before .before .before .before .before .before .before .before .before .before .before .before .before .pre .0 .1 in
     let v = subst (LoneVoid _ _ _ _ _) (c .before .if1 .taken) (c .before .before .lone-void .ensures) in
     (list (c .before .before .before .before .before .before .before .before .before .before .before .before .before .before .before .before .before .before .before .put .ensures) (c .before .before .before .before .before .before .before .before .before .before .before .before .before .items .ensures) h (c .before .before .before .before .before .list .given .1) .stands .holds .text, omega (arith, void-room (c .before .before .before .before .before .before .before .before .before .before .before .before .before .before .before .before .before .before .before .put .ensures) (c .before .before .before .before .before .before .before .before .before .before .before .before .before .items .ensures) h (c .before .before .before .before .before .list .given .1) v))
-
-slice-aggregate-put-2 : tie.Need-slice-aggregate-put-2
-slice-aggregate-put-2 c = search needs
-
-put-requires-2 : tie.Need-put-requires-2
-put-requires-2 c κs = search needs
 
 add-qualified : tie.Need-add-qualified
 add-qualified c = omega (arith, c .before .before .before .before .before .before .before .before .before .before .before .before .before .before .before .before .before .before .before .before .before .before .before .before .before .before .before .before .before .before .before .before .before .before .before .pre .1 .0)
@@ -81,23 +51,11 @@ returns-2 c base at t σ h =
     let v = subst (LoneVoid _ _ _ _ _) (c .before .before .before .before .before .before .before .before .before .before .before .before .before .if1 .taken) (c .before .before .before .before .before .before .before .before .before .before .before .before .before .before .lone-void .ensures) in
     void-given (c .before .before .before .before .before .before .before .before .before .before .before .before .before .before .before .before .before .before .before .before .before .before .before .before .before .before .before .before .before .before .before .put .ensures) (c .before .before .before .before .before .before .before .before .before .before .before .before .before .before .before .before .before .before .before .before .before .before .before .before .before .items .ensures) (c .before .before .before .before .before .before .before .before .before .before .before .before .before .before .before .before .before .before .before .before .before .before .before .before .before .before .before .before .before .before .before .before .before .before .before .before .before .before .args .from) (c .before .before .before .before .before .before .before .before .before .before .before .before .before .before .before .before .before .before .before .before .before .before .before .before .before .before .before .before .before .before .before .before .before .before .before .before .before .before .args .to) h (c .before .before .before .before .before .before .before .before .before .before .before .before .before .before .before .before .before .before .before .before .before .before .before .before .before .before .before .before .before .before .before .before .before .before .before .before .before .before .pre .1 .0) (c .before .before .before .before .before .before .before .before .before .before .before .before .before .before .before .before .before .list .given .1) v (c .before .before .before .before .before .before .before .before .before .before .before .cut .ensures) (c .before .before .before .before .before .before .put2 .ensures) (c .before .before .qualified .ensures)
 
-same-length-7 : tie.Need-same-length-7
-same-length-7 c = search needs
-
-same-length-8 : tie.Need-same-length-8
-same-length-8 c = search needs
-
-same-length-9 : tie.Need-same-length-9
-same-length-9 c = search needs
-
 returns-3 : tie.Need-returns-3
 unfolding b
 returns-3 c base at t σ h =
     let v = subst (LoneVoid _ _ _ _ _) (c .before .if1 .left) (c .before .before .lone-void .ensures) in
     list-long (c .before .before .before .before .before .before .before .before .before .before .before .before .before .before .before .before .before .before .before .put .ensures) (c .before .before .before .before .before .before .before .before .before .before .before .before .before .items .ensures) (c .before .before .before .before .before .before .before .before .before .before .before .before .before .before .before .before .before .before .before .before .before .before .before .before .before .before .args .from) (c .before .before .before .before .before .before .before .before .before .before .before .before .before .before .before .before .before .before .before .before .before .before .before .before .before .before .args .to) h (c .before .before .before .before .before .before .before .before .before .before .before .before .before .before .before .before .before .before .before .before .before .before .before .before .before .before .pre .1 .0) (c .before .before .before .before .before .list .given .1) v (c .if2 .taken)
-
-slice-aggregate-put-3 : tie.Need-slice-aggregate-put-3
-slice-aggregate-put-3 c = search needs
 
 put-requires-3 : tie.Need-put-requires-3
 unfolding b
@@ -118,9 +76,6 @@ same-length-10 c = omega (arith, c .before .before .qualified2 .kept, c .before 
 same-length-11 : tie.Need-same-length-11
 same-length-11 c = omega (arith, c .before .before .before .before .before .before .before .before .before .before .before .before .before .before .before .before .before .before .before .before .before .before .items .kept)
 
-same-length-12 : tie.Need-same-length-12
-same-length-12 c = search needs
-
 returns-4 : tie.Need-returns-4
 unfolding b
 returns-4 c base at t σ h =
@@ -131,36 +86,36 @@ pub function-spec : {M : Type 1} → statement M
 function-spec =
     tie.close
     (tie.spec
-    slice-aggregate-put
-    put-requires
+    (λ c. search needs)
+    (λ c κs. search needs)
     items-requires
-    enum-known-list
-    enum-told
-    refused-requires
-    same-length
-    same-length-2
-    same-length-3
+    (λ c. search needs)
+    (λ c. search needs)
+    (λ c κs. search needs)
+    (λ c. search needs)
+    (λ c. search needs)
+    (λ c. search needs)
     returns
     lone-void-requires
     cut-requires
-    slice-aggregate-put-2
-    put-requires-2
+    (λ c. search needs)
+    (λ c κs. search needs)
     add-qualified
     qualified-requires
     same-length-4
     same-length-5
     same-length-6
     returns-2
-    same-length-7
-    same-length-8
-    same-length-9
+    (λ c. search needs)
+    (λ c. search needs)
+    (λ c. search needs)
     returns-3
-    slice-aggregate-put-3
+    (λ c. search needs)
     put-requires-3
     add-qualified-2
     add-qualified-3
     qualified-requires-2
     same-length-10
     same-length-11
-    same-length-12
+    (λ c. search needs)
     returns-4)

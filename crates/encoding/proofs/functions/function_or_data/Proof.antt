@@ -6,32 +6,8 @@ use borrow.Author.Needs.{needs}
 use Rattle.encoding.proofs.functions.function_or_data.Statement.{statement}
 use Rattle.encoding.proofs.functions.function_or_data.Tie as tie
 
-name-requires : tie.Need-name-requires
-name-requires c κs = search needs
-
-enum-known-got : tie.Need-enum-known-got
-enum-known-got c = search needs
-
-enum-told : tie.Need-enum-told
-enum-told c = search needs
-
-same-length : tie.Need-same-length
-same-length c = search needs
-
-same-length-2 : tie.Need-same-length-2
-same-length-2 c = search needs
-
-same-length-3 : tie.Need-same-length-3
-same-length-3 c = search needs
-
 returns : tie.Need-returns
 returns c = λ σ h. name-refused (c .before .before .before .before .before .before .before .before .name .ensures) h (c .enum-told .given .1)
-
-with-cv-requires : tie.Need-with-cv-requires
-with-cv-requires c κs = search needs
-
-ended-requires : tie.Need-ended-requires
-ended-requires c κs = search needs
 
 qualified-requires : tie.Need-qualified-requires
 qualified-requires c κs =
@@ -39,15 +15,6 @@ qualified-requires c κs =
     let f = name-fits (c .before .before .before .before .before .before .before .before .before .before .before .before .before .before .name .ensures) (c .before .before .before .before .before .before .before .before .before .before .before .before .before .before .before .before .before .before .before .before .before .before .pre .1) (c .before .before .before .before .before .before .got .given .1) (c .before .before .before .with-cv .ensures) in
     let h = name-holds (c .before .before .before .before .before .before .before .before .before .before .before .before .before .before .name .ensures) (c .before .before .before .before .before .before .before .before .before .before .before .before .before .before .before .before .before .before .before .before .before .before .pre .1) (c .before .before .before .before .before .before .got .given .1) (c .before .before .before .with-cv .ensures) in
     (h .text, (omega (arith, f .1), y))
-
-same-length-4 : tie.Need-same-length-4
-same-length-4 c = search needs
-
-same-length-5 : tie.Need-same-length-5
-same-length-5 c = search needs
-
-same-length-6 : tie.Need-same-length-6
-same-length-6 c = search needs
 
 returns-2 : tie.Need-returns-2
 returns-2 c = λ σ h. name-over (c .before .before .before .before .before .before .before .before .before .before .before .before .before .before .before .before .before .name .ensures) h (c .before .before .before .before .before .before .before .before .before .got .given .1) (c .before .before .before .before .before .before .with-cv .ensures) (sym (c .before .before .before .before .before .ended .ensures) ∙ c .before .before .before .before .if1 .taken) (c .before .before .qualified .ensures)
@@ -62,12 +29,6 @@ template-function-requires c κs =
 same-length-7 : tie.Need-same-length-7
 same-length-7 c = omega (arith, c .before .before .before .before .before .before .template-function .kept, c .before .before .before .before .before .before .before .before .before .before .before .before .before .before .before .before .before .before .before .before .before .before .before .before .name .kept)
 
-same-length-8 : tie.Need-same-length-8
-same-length-8 c = search needs
-
-same-length-9 : tie.Need-same-length-9
-same-length-9 c = search needs
-
 returns-3 : tie.Need-returns-3
 returns-3 c = λ σ h. name-templated (c .before .before .before .before .before .before .before .before .before .before .before .before .before .before .before .before .before .before .before .before .before .before .before .before .name .ensures) h (c .before .before .before .before .before .before .before .before .before .before .before .before .before .before .before .before .got .given .1) (c .before .before .before .before .before .before .before .before .before .before .before .before .before .with-cv .ensures) (sym (c .before .before .before .before .before .before .before .before .before .before .before .before .ended .ensures) ∙ c .before .before .before .before .before .before .before .before .before .before .before .if1 .left) (c .before .before .before .before .before .before .before .before .before .before .if2 .taken) (c .before .before .before .before .before .before .template-function .ensures)
 
@@ -81,12 +42,6 @@ function-requires c κs =
 same-length-10 : tie.Need-same-length-10
 same-length-10 c = omega (arith, c .before .before .before .before .before .before .function .kept, c .before .before .before .before .before .before .before .before .before .before .before .before .before .before .before .before .before .before .before .before .before .before .before .before .name .kept)
 
-same-length-11 : tie.Need-same-length-11
-same-length-11 c = search needs
-
-same-length-12 : tie.Need-same-length-12
-same-length-12 c = search needs
-
 returns-4 : tie.Need-returns-4
 returns-4 c = λ σ h. name-plain (c .before .before .before .before .before .before .before .before .before .before .before .before .before .before .before .before .before .before .before .before .before .before .before .before .name .ensures) h (c .before .before .before .before .before .before .before .before .before .before .before .before .before .before .before .before .got .given .1) (c .before .before .before .before .before .before .before .before .before .before .before .before .before .with-cv .ensures) (sym (c .before .before .before .before .before .before .before .before .before .before .before .before .ended .ensures) ∙ c .before .before .before .before .before .before .before .before .before .before .before .if1 .left) (c .before .before .before .before .before .before .before .before .before .before .if2 .left) (c .before .before .before .before .before .before .function .ensures)
 
@@ -94,27 +49,27 @@ pub function-or-data-spec : {M : Type 1} → statement M
 function-or-data-spec =
     tie.close
     (tie.spec
-    name-requires
-    enum-known-got
-    enum-told
-    same-length
-    same-length-2
-    same-length-3
+    (λ c κs. search needs)
+    (λ c. search needs)
+    (λ c. search needs)
+    (λ c. search needs)
+    (λ c. search needs)
+    (λ c. search needs)
     returns
-    with-cv-requires
-    ended-requires
+    (λ c κs. search needs)
+    (λ c κs. search needs)
     qualified-requires
-    same-length-4
-    same-length-5
-    same-length-6
+    (λ c. search needs)
+    (λ c. search needs)
+    (λ c. search needs)
     returns-2
     template-function-requires
     same-length-7
-    same-length-8
-    same-length-9
+    (λ c. search needs)
+    (λ c. search needs)
     returns-3
     function-requires
     same-length-10
-    same-length-11
-    same-length-12
+    (λ c. search needs)
+    (λ c. search needs)
     returns-4)

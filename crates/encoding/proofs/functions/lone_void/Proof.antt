@@ -14,16 +14,10 @@ returns-2 c = void-other (c .before .before .before .before .args .s .now) (c .b
 returns-3 : tie.Need-returns-3
 returns-3 c = void-before (c .before .before .before .before .before .before .args .s .now) (c .before .before .before .before .before .before .args .text .now) (c .before .before .before .before .before .before .args .p) (c .if3 .taken)
 
-slice-aggregate-same : tie.Need-slice-aggregate-same
-slice-aggregate-same c = search needs
-
-same-requires : tie.Need-same-requires
-same-requires c κs = search needs
-
 returns-4 : tie.Need-returns-4
 unfolding b
 returns-4 c = void-alone (c .before .before .before .before .before .before .before .before .args .s .now) (c .before .before .before .before .before .before .before .before .args .text .now) (c .before .before .before .before .before .before .before .before .args .p) (c .before .before .before .before .before .if1 .left) (c .before .before .before .before .if2 .left) (c .before .before .if3 .left) (c .same .ensures)
 
 pub lone-void-spec : {M : Type 1} → statement M
 lone-void-spec =
-    tie.close (tie.spec returns returns-2 returns-3 slice-aggregate-same same-requires returns-4)
+    tie.close (tie.spec returns returns-2 returns-3 (λ c. search needs) (λ c κs. search needs) returns-4)

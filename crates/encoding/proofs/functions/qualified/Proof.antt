@@ -21,12 +21,6 @@ loop-holds c = qualifying-start (c .before .before .args .s .now) (c .before .be
 shared-slice-read-qualifier : tie.Need-shared-slice-read-qualifier Inv-loop μ-loop
 shared-slice-read-qualifier c = omega (arith, c .before .before .before .before .before .pre .1 .1 .1)
 
-qualifier-requires : tie.Need-qualifier-requires Inv-loop μ-loop
-qualifier-requires c κs = search needs
-
-enum-known-w : tie.Need-enum-known-w Inv-loop μ-loop
-enum-known-w c = search needs
-
 put-word-requires : tie.Need-put-word-requires Inv-loop μ-loop
 put-word-requires c κs = (c .before .before .before .before .before .before .before .loop .inv .adds .stack, picked-at (c .before .before .before .before .qualifier .ensures) (c .before .before .w .given .1) .1)
 
@@ -35,9 +29,6 @@ sub-sum c = omega (arith, picked-at (c .before .before .before .before .before .
 
 sum-requires : tie.Need-sum-requires Inv-loop μ-loop
 sum-requires c κs = (omega (arith, c .before .before .before .before .before .before .before .before .before .before .before .loop .inv .size-is), omega (arith, picked-at (c .before .before .before .before .before .before .before .before .qualifier .ensures) (c .before .before .before .before .before .before .w .given .1) .1))
-
-enum-told : tie.Need-enum-told Inv-loop μ-loop
-enum-told c = search needs
 
 add-at : tie.Need-add-at Inv-loop μ-loop
 add-at c = omega (arith, c .before .before .before .before .before .before .before .pre .1 .1 .1)
@@ -56,9 +47,6 @@ loop-again c =
     (λ w. rw (w .2, w .3, w .4) (qualifying-nothing i l h g (w .1 .given .1)))
     (c .match .came)
 
-given-requires : tie.Need-given-requires Inv-loop μ-loop
-given-requires c κs = search needs
-
 same-length : tie.Need-same-length Inv-loop μ-loop
 same-length c = omega (arith, c .before .before .loop .inv .adds .stack .size, c .before .before .before .before .before .pre .0 .size)
 
@@ -73,15 +61,15 @@ qualified-spec =
     μ-loop
     loop-holds
     shared-slice-read-qualifier
-    qualifier-requires
-    enum-known-w
+    (λ c κs. search needs)
+    (λ c. search needs)
     put-word-requires
     sub-sum
     sum-requires
-    enum-told
+    (λ c. search needs)
     add-at
     loop-less
     loop-again
-    given-requires
+    (λ c κs. search needs)
     same-length
     returns)

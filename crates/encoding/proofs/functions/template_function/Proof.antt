@@ -5,24 +5,6 @@ use borrow.Author.Needs.{needs}
 use Rattle.encoding.proofs.functions.template_function.Statement.{statement}
 use Rattle.encoding.proofs.functions.template_function.Tie as tie
 
-ty-requires : tie.Need-ty-requires
-ty-requires c κs = search needs
-
-enum-known-got : tie.Need-enum-known-got
-enum-known-got c = search needs
-
-enum-told : tie.Need-enum-told
-enum-told c = search needs
-
-same-length : tie.Need-same-length
-same-length c = search needs
-
-same-length-2 : tie.Need-same-length-2
-same-length-2 c = search needs
-
-same-length-3 : tie.Need-same-length-3
-same-length-3 c = search needs
-
 returns : tie.Need-returns
 returns c base at t σ h = type-refused (c .before .before .before .before .before .before .before .before .ty .ensures) (c .before .before .before .before .before .before .before .before .before .before .before .before .before .before .before .before .args .from) (c .before .before .before .before .before .before .before .before .before .before .before .before .before .before .before .before .args .to) h (c .enum-told .given .1)
 
@@ -47,12 +29,6 @@ function-requires c κs =
 same-length-4 : tie.Need-same-length-4
 same-length-4 c = omega (arith, c .before .before .before .before .before .before .function .kept, c .before .before .before .before .before .before .before .before .before .before .before .before .turned .kept, c .before .before .before .before .before .before .before .before .before .before .before .before .before .before .before .before .before .before .before .before .before .before .before .ty .kept)
 
-same-length-5 : tie.Need-same-length-5
-same-length-5 c = search needs
-
-same-length-6 : tie.Need-same-length-6
-same-length-6 c = search needs
-
 returns-2 : tie.Need-returns-2
 returns-2 c base at t σ h = type-returned (c .before .before .before .before .before .before .before .before .before .before .before .before .before .before .before .before .before .before .before .before .before .before .before .ty .ensures) (c .before .before .before .before .before .before .before .before .before .before .before .before .before .before .before .before .before .before .before .before .before .before .before .before .before .before .before .before .before .before .before .args .from) (c .before .before .before .before .before .before .before .before .before .before .before .before .before .before .before .before .before .before .before .before .before .before .before .before .before .before .before .before .before .before .before .args .to) h (c .before .before .before .before .before .before .before .before .before .before .before .before .before .before .before .before .before .before .before .before .before .before .before .before .before .before .before .before .before .before .before .pre .1 .0) (c .before .before .before .before .before .before .before .before .before .before .before .before .before .before .before .got .given .1) (c .before .before .before .before .before .before .before .before .before .before .before .before .turned .ensures .1) (c .before .before .before .before .before .before .function .ensures)
 
@@ -60,18 +36,18 @@ pub template-function-spec : {M : Type 1} → statement M
 template-function-spec =
     tie.close
     (tie.spec
-    ty-requires
-    enum-known-got
-    enum-told
-    same-length
-    same-length-2
-    same-length-3
+    (λ c κs. search needs)
+    (λ c. search needs)
+    (λ c. search needs)
+    (λ c. search needs)
+    (λ c. search needs)
+    (λ c. search needs)
     returns
     turned-requires
     add-function
     add-function-2
     function-requires
     same-length-4
-    same-length-5
-    same-length-6
+    (λ c. search needs)
+    (λ c. search needs)
     returns-2)

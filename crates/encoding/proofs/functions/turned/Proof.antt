@@ -23,37 +23,16 @@ again-room {text₁ = text₁} {p₁ = p₁} {c = c} {m = m} h i j l u v =
     let z = length-take-le c (drop (p₁ .top - (c + m + 1)) text₁) (simp length-drop (omega (arith, u .put .stack .size, u .put .stack .most))) in
     omega (arith, puts-top (c + m + 1) (u .put .stack) v (omega (arith, e)) (omega arith), z)
 
-slice-aggregate-put : tie.Need-slice-aggregate-put
-slice-aggregate-put c = search needs
-
-put-requires : tie.Need-put-requires
-put-requires c κs = search needs
-
-add-d : tie.Need-add-d
-add-d c = search needs
-
-add-d-2 : tie.Need-add-d-2
-add-d-2 c = search needs
-
 again-requires : tie.Need-again-requires
 again-requires c κs =
     let a = c .before .before .before .before .before .before .before in
     (c .before .before .before .put .ensures .put .stack, (omega arith, (omega (arith, puts-top (a .args .c + a .args .m) (a .pre .0) (c .before .before .before .put .ensures) (a .pre .1 .1 .1) (omega (arith, a .pre .1 .0, a .pre .1 .1 .0))), (omega (arith, a .pre .1 .0, a .pre .1 .1 .0), a .pre .1 .0))))
-
-add-n : tie.Need-add-n
-add-n c = search needs
-
-add-n-2 : tie.Need-add-n-2
-add-n-2 c = search needs
 
 cut-requires : tie.Need-cut-requires
 cut-requires c κs =
     let a = c .before .before .before .before .before .before .before .before .before .before .before in
     let u = c .before .before .before .before .before .before .before .put .ensures in
     (c .before .before .before .again .ensures .put .stack, omega (arith, again-room (a .pre .0) (a .pre .1 .0) (a .pre .1 .1 .0) (a .pre .1 .1 .1) u (c .before .before .before .again .ensures)))
-
-same-length : tie.Need-same-length
-same-length c = search needs
 
 returns : tie.Need-returns
 unfolding b
@@ -70,13 +49,13 @@ pub turned-spec : {M : Type 1} → statement M
 turned-spec =
     tie.close
     (tie.spec
-    slice-aggregate-put
-    put-requires
-    add-d
-    add-d-2
+    (λ c. search needs)
+    (λ c κs. search needs)
+    (λ c. search needs)
+    (λ c. search needs)
     again-requires
-    add-n
-    add-n-2
+    (λ c. search needs)
+    (λ c. search needs)
     cut-requires
-    same-length
+    (λ c. search needs)
     returns)

@@ -11,12 +11,6 @@ use borrow.Author.Needs.{needs}
 use Rattle.encoding.proofs.mangled.guard_variable.Statement.{statement}
 use Rattle.encoding.proofs.mangled.guard_variable.Tie as tie
 
-slice-aggregate-put : tie.Need-slice-aggregate-put
-slice-aggregate-put c = search needs
-
-put-requires : tie.Need-put-requires
-put-requires c κs = search needs
-
 sub-object : tie.Need-sub-object
 unfolding b
 sub-object c = omega (arith, ap length (starts-is (c .before .before .before .before .before .before .before .before .before .args .s .now) (71 ∷ 86 ∷ []) (c .before .before .before .before .before .before .before .before .before .pre .1 .0)))
@@ -25,34 +19,13 @@ part-object-start : tie.Need-part-object-start
 unfolding b
 part-object-start c = omega (arith, ap length (starts-is (c .before .before .before .before .before .before .before .before .before .args .s .now) (71 ∷ 86 ∷ []) (c .before .before .before .before .before .before .before .before .before .pre .1 .0)))
 
-part-object-end : tie.Need-part-object-end
-part-object-end c = search needs
-
 name-requires : tie.Need-name-requires
 unfolding b
 name-requires c κs = (_, guard-holds (c .before .before .before .before .before .before .before .before .before .before .before .before .before .args .s .now) (c .before .before .before .before .before .before .before .before .before .before .before .before .before .pre .0) (c .before .before .before .before .before .before .before .before .before .before .before .before .before .pre .1 .0) (second-lent 2 (c .before .before .before .before .before .before .before .before .before .before .before .before .before .args .s .now)) (c .before .before .before .before .before .before .before .before .before .before .before .before .before .pre .1 .1) (c .before .before .before .before .before .before .put .ensures))
 
-enum-known-got : tie.Need-enum-known-got
-enum-known-got c = search needs
-
-enum-told : tie.Need-enum-told
-enum-told c = search needs
-
-same-length : tie.Need-same-length
-same-length c = search needs
-
-same-length-2 : tie.Need-same-length-2
-same-length-2 c = search needs
-
-same-length-3 : tie.Need-same-length-3
-same-length-3 c = search needs
-
 returns : tie.Need-returns
 unfolding b
 returns c = guard-refused (c .before .before .before .before .before .before .before .before .before .before .before .before .before .before .before .before .before .before .before .before .before .before .args .s .now) (c .before .before .before .before .before .before .before .before .before .before .before .before .before .before .before .before .before .before .before .before .before .before .pre .0) (c .before .before .before .before .before .before .before .before .before .before .before .before .before .before .before .before .before .before .before .before .before .before .pre .1 .0) (second-lent 2 (c .before .before .before .before .before .before .before .before .before .before .before .before .before .before .before .before .before .before .before .before .before .before .args .s .now)) (c .before .before .before .before .before .before .before .before .before .before .before .before .before .before .before .before .before .before .before .before .before .before .pre .1 .1) (c .before .before .before .before .before .before .before .before .before .before .before .before .before .before .before .put .ensures) (c .before .before .before .before .before .before .before .before .name .ensures) (c .enum-told .given .1)
-
-moved-requires : tie.Need-moved-requires
-moved-requires c κs = search needs
 
 add-given : tie.Need-add-given
 unfolding b
@@ -60,17 +33,8 @@ add-given c =
     let w = guard-got (c .before .before .before .before .before .before .before .before .before .before .before .before .before .before .before .before .before .before .before .before .before .before .before .before .args .s .now) (c .before .before .before .before .before .before .before .before .before .before .before .before .before .before .before .before .before .before .before .before .before .before .before .before .pre .0) (c .before .before .before .before .before .before .before .before .before .before .before .before .before .before .before .before .before .before .before .before .before .before .before .before .pre .1 .0) (second-lent 2 (c .before .before .before .before .before .before .before .before .before .before .before .before .before .before .before .before .before .before .before .before .before .before .before .before .args .s .now)) (c .before .before .before .before .before .before .before .before .before .before .before .before .before .before .before .before .before .before .before .before .before .before .before .before .pre .1 .1) (c .before .before .before .before .before .before .before .before .before .before .before .before .before .before .before .before .before .put .ensures) (c .before .before .before .before .before .before .before .before .before .before .name .ensures) (c .before .before .got .given .1) .wrote in
     omega (arith, w .size, w .short)
 
-given-requires : tie.Need-given-requires
-given-requires c κs = search needs
-
 same-length-4 : tie.Need-same-length-4
 same-length-4 c = omega (arith, c .before .before .before .before .before .before .before .before .before .before .before .name .kept, c .before .before .before .before .before .before .before .before .before .before .before .before .before .before .before .before .before .before .put .kept)
-
-same-length-5 : tie.Need-same-length-5
-same-length-5 c = search needs
-
-same-length-6 : tie.Need-same-length-6
-same-length-6 c = search needs
 
 returns-2 : tie.Need-returns-2
 unfolding b
@@ -80,22 +44,22 @@ pub guard-variable-spec : {M : Type 1} → statement M
 guard-variable-spec =
     tie.close
     (tie.spec
-    slice-aggregate-put
-    put-requires
+    (λ c. search needs)
+    (λ c κs. search needs)
     sub-object
     part-object-start
-    part-object-end
+    (λ c. search needs)
     name-requires
-    enum-known-got
-    enum-told
-    same-length
-    same-length-2
-    same-length-3
+    (λ c. search needs)
+    (λ c. search needs)
+    (λ c. search needs)
+    (λ c. search needs)
+    (λ c. search needs)
     returns
-    moved-requires
+    (λ c κs. search needs)
     add-given
-    given-requires
+    (λ c κs. search needs)
     same-length-4
-    same-length-5
-    same-length-6
+    (λ c. search needs)
+    (λ c. search needs)
     returns-2)

@@ -8,17 +8,8 @@ use Rattle.encoding.proofs.mangled.label.Tie as tie
 returns : tie.Need-returns
 returns c = labels-short (c .before .before .args .s .now) (c .if1 .taken)
 
-shared-slice-read-if2 : tie.Need-shared-slice-read-if2
-shared-slice-read-if2 c = search needs
-
 returns-2 : tie.Need-returns-2
 returns-2 c = labels-other (c .before .before .before .before .args .s .now) (omega (arith, c .before .before .if1 .left)) (c .if2 .taken)
-
-shared-slice-read-label : tie.Need-shared-slice-read-label
-shared-slice-read-label c = search needs
-
-label-requires : tie.Need-label-requires
-label-requires c κs = search needs
 
 returns-3 : tie.Need-returns-3
 returns-3 c = labels-picked (c .before .before .before .before .before .before .args .s .now) (omega (arith, c .before .before .before .before .if1 .left)) (c .before .before .if2 .left) (c .label .ensures)
@@ -28,8 +19,8 @@ label-spec =
     tie.close
     (tie.spec
     returns
-    shared-slice-read-if2
+    (λ c. search needs)
     returns-2
-    shared-slice-read-label
-    label-requires
+    (λ c. search needs)
+    (λ c κs. search needs)
     returns-3)

@@ -18,20 +18,8 @@ Inv-loop s text₀ store ends at₀ p₀ n₀ t12 t13 text at p n = Clones s tex
 abbrev μ-loop : tie.MeasureT-loop
 μ-loop s text₀ store ends at₀ p₀ n₀ t12 t13 text at p n = length s - at
 
-new-requires : tie.Need-new-requires Inv-loop μ-loop
-new-requires c κs = search needs
-
 loop-holds : tie.Need-loop-holds Inv-loop μ-loop
 loop-holds c = clones-start (c .before .before .before .before .before .args .s .now) (stack-by (c .new .ensures) (least-text (c .before .before .before .before .before .pre .1)))
-
-slice-aggregate-starts-with : tie.Need-slice-aggregate-starts-with Inv-loop μ-loop
-slice-aggregate-starts-with c = search needs
-
-starts-with-requires : tie.Need-starts-with-requires Inv-loop μ-loop
-starts-with-requires c κs = search needs
-
-slice-aggregate-put : tie.Need-slice-aggregate-put Inv-loop μ-loop
-slice-aggregate-put c = search needs
 
 put-requires : tie.Need-put-requires Inv-loop μ-loop
 put-requires c κs = (c .before .before .before .before .before .loop .inv .adds .stack, omega arith)
@@ -55,9 +43,6 @@ sub-inner c = omega (arith, c .before .before .before .loop .inv .place)
 part-inner-start : tie.Need-part-inner-start Inv-loop μ-loop
 part-inner-start c = omega (arith, c .before .before .before .loop .inv .place)
 
-part-inner-end : tie.Need-part-inner-end Inv-loop μ-loop
-part-inner-end c = search needs
-
 encoding-requires : tie.Need-encoding-requires Inv-loop μ-loop
 unfolding b
 encoding-requires c κs =
@@ -66,12 +51,6 @@ encoding-requires c κs =
       omega (arith, ap length e, length-drop (c .before .before .before .before .before .before .before .loop .at) s, c .before .before .before .before .before .before .before .before .before .before .before .before .before .pre .0),
       (ap (λ t. starts t (b "GTt")) e ∙ sym (c .before .before .before .before .before .starts-with .ensures) ∙ c .before .before .before .before .if1 .left, clones-fresh (c .before .before .before .before .before .before .before .loop .inv) (c .before .before .before .before .before .before .before .before .new .ensures) (c .before .before .before .before .before .before .before .before .before .before .before .before .before .pre .1)),
     )
-
-enum-known-got : tie.Need-enum-known-got Inv-loop μ-loop
-enum-known-got c = search needs
-
-enum-told : tie.Need-enum-told Inv-loop μ-loop
-enum-told c = search needs
 
 same-length : tie.Need-same-length Inv-loop μ-loop
 same-length c = omega (arith, c .before .before .before .before .before .before .before .before .encoding .kept, c .before .before .before .before .before .before .before .before .before .before .before .before .before .before .before .before .loop .inv .adds .stack .size, least-text (c .before .before .before .before .before .before .before .before .before .before .before .before .before .before .before .before .before .before .before .before .before .before .pre .1) .size)
@@ -97,16 +76,10 @@ same-length-6 c = omega (arith, c .before .before .before .before .before .befor
 returns-2 : tie.Need-returns-2 Inv-loop μ-loop
 returns-2 c = clones-alone (c .before .before .before .before .before .before .before .before .before .before .before .before .before .before .before .before .before .before .loop .inv) (c .before .before .before .before .before .before .before .before .before .before .before .before .before .before .before .before .before .before .before .new .ensures) (second-lent (c .before .before .before .before .before .before .before .before .before .before .before .before .before .before .before .before .before .before .loop .at) (c .before .before .before .before .before .before .before .before .before .before .before .before .before .before .before .before .before .before .before .before .before .before .before .before .args .s .now)) (c .before .before .before .before .before .before .before .before .before .before .encoding .ensures) (c .if2 .taken) (c .before .before .got .given .1)
 
-moved-requires : tie.Need-moved-requires Inv-loop μ-loop
-moved-requires c κs = search needs
-
 sum-requires-2 : tie.Need-sum-requires-2 Inv-loop μ-loop
 sum-requires-2 c κs =
     let w = clones-got (c .before .before .before .before .before .before .before .before .before .before .before .before .before .before .before .before .before .before .before .loop .inv) (c .before .before .before .before .before .before .before .before .before .before .before .before .before .before .before .before .before .before .before .before .new .ensures) (second-lent (c .before .before .before .before .before .before .before .before .before .before .before .before .before .before .before .before .before .before .before .loop .at) (c .before .before .before .before .before .before .before .before .before .before .before .before .before .before .before .before .before .before .before .before .before .before .before .before .before .args .s .now)) (c .before .before .before .before .before .before .before .before .before .before .before .encoding .ensures) (c .before .before .before .got .given .1) .prints in
     (omega (arith, c .before .before .before .before .before .before .before .before .before .before .before .before .before .before .before .before .before .before .before .loop .inv .size-is), omega (arith, w .size, w .short))
-
-given-requires : tie.Need-given-requires Inv-loop μ-loop
-given-requires c κs = search needs
 
 same-length-7 : tie.Need-same-length-7 Inv-loop μ-loop
 same-length-7 c = omega (arith, c .before .before .before .before .before .before .before .before .before .before .before .before .before .encoding .kept, c .before .before .before .before .before .before .before .before .before .before .before .before .before .before .before .before .before .before .before .before .before .loop .inv .adds .stack .size, least-text (c .before .before .before .before .before .before .before .before .before .before .before .before .before .before .before .before .before .before .before .before .before .before .before .before .before .before .before .pre .1) .size)
@@ -126,11 +99,11 @@ mangled-name-spec =
     (tie.spec
     Inv-loop
     μ-loop
-    new-requires
+    (λ c κs. search needs)
     loop-holds
-    slice-aggregate-starts-with
-    starts-with-requires
-    slice-aggregate-put
+    (λ c. search needs)
+    (λ c κs. search needs)
+    (λ c. search needs)
     put-requires
     sum-requires
     add-at
@@ -138,10 +111,10 @@ mangled-name-spec =
     loop-again
     sub-inner
     part-inner-start
-    part-inner-end
+    (λ c. search needs)
     encoding-requires
-    enum-known-got
-    enum-told
+    (λ c. search needs)
+    (λ c. search needs)
     same-length
     same-length-2
     same-length-3
@@ -150,9 +123,9 @@ mangled-name-spec =
     same-length-5
     same-length-6
     returns-2
-    moved-requires
+    (λ c κs. search needs)
     sum-requires-2
-    given-requires
+    (λ c κs. search needs)
     same-length-7
     same-length-8
     same-length-9

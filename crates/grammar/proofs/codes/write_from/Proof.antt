@@ -10,18 +10,6 @@ use borrow.Author.Needs.{needs}
 use Rattle.grammar.proofs.codes.write_from.Statement.{statement}
 use Rattle.grammar.proofs.codes.write_from.Tie as tie
 
-sub-from : tie.Need-sub-from
-sub-from c = search needs
-
-sub-to : tie.Need-sub-to
-sub-to c = search needs
-
-copy-part-requires : tie.Need-copy-part-requires
-copy-part-requires c κs = search needs
-
-same-length : tie.Need-same-length
-same-length c = search needs
-
 returns : tie.Need-returns
 returns c =
     let s = c .before .before .before .before .before .before .before .before in
@@ -31,4 +19,4 @@ returns c =
     ∙ ap (λ (t : Text). take (s .args .at) (s .args .out .now) ++ t) (some-part w (s .args .start) (s .args .some .now) (s .pre .0) (s .pre .1 .0) (s .pre .1 .1 .0) (s .pre .1 .1 .1 .0))
 
 pub write-from-spec : {M : Type 1} → statement M
-write-from-spec = tie.close (tie.spec sub-from sub-to copy-part-requires same-length returns)
+write-from-spec = tie.close (tie.spec (λ c. search needs) (λ c. search needs) (λ c κs. search needs) (λ c. search needs) returns)

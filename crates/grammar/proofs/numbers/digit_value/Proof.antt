@@ -6,21 +6,6 @@ use borrow.Author.Needs.{needs}
 use Rattle.grammar.proofs.numbers.digit_value.Statement.{statement}
 use Rattle.grammar.proofs.numbers.digit_value.Tie as tie
 
-cast-result : tie.Need-cast-result
-cast-result c = search needs
-
-add-result : tie.Need-add-result
-add-result c = search needs
-
-cast-result-2 : tie.Need-cast-result-2
-cast-result-2 c = search needs
-
-add-result-2 : tie.Need-add-result-2
-add-result-2 c = search needs
-
-cast-result-3 : tie.Need-cast-result-3
-cast-result-3 c = search needs
-
 returns : tie.Need-returns
 unfolding if_then_else_ digit-value
 returns c = let k = c .before .before .args .c in rw (in-range 48 57 k (omega arith) (omega arith))
@@ -53,11 +38,11 @@ pub digit-value-spec : {M : Type 1} → statement M
 digit-value-spec =
     tie.close
     (tie.spec
-    cast-result
-    add-result
-    cast-result-2
-    add-result-2
-    cast-result-3
+    (λ c. search needs)
+    (λ c. search needs)
+    (λ c. search needs)
+    (λ c. search needs)
+    (λ c. search needs)
     returns
     returns-2
     returns-3

@@ -33,21 +33,12 @@ done {base} {s} {at} {value} {next} b e = (omega (arith, b .is ∙ ap (λ (t : T
 loop-holds : tie.Need-loop-holds Inv-loop μ-loop
 loop-holds c = record { fits = omega arith; within = omega arith; is = refl; ends = refl }
 
-shared-slice-read-digit-value : tie.Need-shared-slice-read-digit-value Inv-loop μ-loop
-shared-slice-read-digit-value c = search needs
-
-digit-value-requires : tie.Need-digit-value-requires Inv-loop μ-loop
-digit-value-requires c κs = search needs
-
 returns : tie.Need-returns Inv-loop μ-loop
 returns c =
     let l = c .before .before .before .before .loop in
     let a = c .before .before .before .before .before .before .args in
     let (v, n) = done (l .inv) (digits-stop (a .base) (a .s .now) (l .next) (omega arith) (omega (arith, c .before .digit-value .ensures))) in
     record { is = v; behind = n; inside = l .inv .within }
-
-shifted-requires : tie.Need-shifted-requires Inv-loop μ-loop
-shifted-requires c κs = search needs
 
 add-next : tie.Need-add-next Inv-loop μ-loop
 add-next c = omega arith
@@ -89,10 +80,10 @@ digits-spec =
     Inv-loop
     μ-loop
     loop-holds
-    shared-slice-read-digit-value
-    digit-value-requires
+    (λ c. search needs)
+    (λ c κs. search needs)
     returns
-    shifted-requires
+    (λ c κs. search needs)
     add-next
     loop-less
     loop-again

@@ -5,12 +5,6 @@ use native.Mathlib.Omega.{arith}
 use Rattle.grammar.proofs.numbers.shifted.Statement.{statement}
 use Rattle.grammar.proofs.numbers.shifted.Tie as tie
 
-sub-if1 : tie.Need-sub-if1
-sub-if1 c = search needs
-
-div-if1 : tie.Need-div-if1
-div-if1 c = search needs
-
 mul-result : tie.Need-mul-result
 mul-result c = omega (arith, le-div-iff-mul-le (c .before .pre) .0 (c .if1 .taken))
 
@@ -24,4 +18,4 @@ returns-2 : tie.Need-returns-2
 returns-2 c = omega (arith, div-lt-iff-lt-mul (c .before .pre) .0 (c .if1 .left))
 
 pub shifted-spec : {M : Type 1} → statement M
-shifted-spec = tie.close (tie.spec sub-if1 div-if1 mul-result add-result returns returns-2)
+shifted-spec = tie.close (tie.spec (λ c. search needs) (λ c. search needs) mul-result add-result returns returns-2)

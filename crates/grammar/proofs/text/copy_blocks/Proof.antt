@@ -18,29 +18,11 @@ abbrev μ-loop : tie.MeasureT-loop
 loop-holds : tie.Need-loop-holds Inv-loop μ-loop
 loop-holds c = (omega arith, (refl, blocks-none (c .before .before .args .out .now) (c .before .before .args .src .now) (c .before .before .args .at) (c .before .before .args .from)))
 
-add-copy-block : tie.Need-add-copy-block Inv-loop μ-loop
-add-copy-block c = search needs
-
-add-copy-block-2 : tie.Need-add-copy-block-2 Inv-loop μ-loop
-add-copy-block-2 c = search needs
-
-copy-block-requires : tie.Need-copy-block-requires Inv-loop μ-loop
-copy-block-requires c κs = search needs
-
-add-i : tie.Need-add-i Inv-loop μ-loop
-add-i c = search needs
-
-loop-less : tie.Need-loop-less Inv-loop μ-loop
-loop-less c = search needs
-
 loop-again : tie.Need-loop-again Inv-loop μ-loop
 loop-again c =
     let a = c .before .before .before .before .before .before .before .before .args in
     let l = c .before .before .before .before .before .loop in
     (omega arith, (omega (arith, l .inv .1 .0, c .before .before .copy-block .kept .0), blocks-more (a .out .now) (a .src .now) (a .at) (a .from) (l .i) (l .out) _ (omega (arith, l .inv .1 .0)) (omega arith) (l .inv .1 .1) (c .before .before .copy-block .ensures)))
-
-same-length : tie.Need-same-length Inv-loop μ-loop
-same-length c = search needs
 
 returns : tie.Need-returns Inv-loop μ-loop
 returns c =
@@ -55,11 +37,11 @@ copy-blocks-spec =
     Inv-loop
     μ-loop
     loop-holds
-    add-copy-block
-    add-copy-block-2
-    copy-block-requires
-    add-i
-    loop-less
+    (λ c. search needs)
+    (λ c. search needs)
+    (λ c κs. search needs)
+    (λ c. search needs)
+    (λ c. search needs)
     loop-again
-    same-length
+    (λ c. search needs)
     returns)

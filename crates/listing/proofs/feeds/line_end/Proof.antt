@@ -19,29 +19,11 @@ abbrev μ-loop : tie.MeasureT-loop
 loop-holds : tie.Need-loop-holds Inv-loop μ-loop
 loop-holds c = (c .before .pre, refl)
 
-sub-loop : tie.Need-sub-loop Inv-loop μ-loop
-sub-loop c = search needs
-
-no-feed-requires : tie.Need-no-feed-requires Inv-loop μ-loop
-no-feed-requires c κs = search needs
-
-before-requires : tie.Need-before-requires Inv-loop μ-loop
-before-requires c κs = search needs
-
 returns : tie.Need-returns Inv-loop μ-loop
 returns c = (c .before2 .ensures .0 ∙ sym (c .before .before .before .before .loop .inv .1), c .before2 .ensures .1)
 
-add-end : tie.Need-add-end Inv-loop μ-loop
-add-end c = search needs
-
-loop-less : tie.Need-loop-less Inv-loop μ-loop
-loop-less c = search needs
-
 loop-again : tie.Need-loop-again Inv-loop μ-loop
 loop-again c = (omega arith, c .before .before .before .loop .inv .1 ∙ c .before .no-feed .ensures (not-false _ (c .if1 .left)))
-
-before-requires-2 : tie.Need-before-requires-2 Inv-loop μ-loop
-before-requires-2 c κs = search needs
 
 returns-2 : tie.Need-returns-2 Inv-loop μ-loop
 returns-2 c = (c .before3 .ensures .0 ∙ sym (c .before .before .loop .inv .1), c .before3 .ensures .1)
@@ -53,12 +35,12 @@ line-end-spec =
     Inv-loop
     μ-loop
     loop-holds
-    sub-loop
-    no-feed-requires
-    before-requires
+    (λ c. search needs)
+    (λ c κs. search needs)
+    (λ c κs. search needs)
     returns
-    add-end
-    loop-less
+    (λ c. search needs)
+    (λ c. search needs)
     loop-again
-    before-requires-2
+    (λ c κs. search needs)
     returns-2)

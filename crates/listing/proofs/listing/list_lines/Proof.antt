@@ -7,30 +7,6 @@ use Rattle.listing.specs.Entry.{goes-lists}
 use Rattle.listing.proofs.listing.list_lines.Statement.{statement}
 use Rattle.listing.proofs.listing.list_lines.Tie as tie
 
-list-uncleared-requires : tie.Need-list-uncleared-requires
-list-uncleared-requires c κs = search needs
-
-clear-requires : tie.Need-clear-requires
-clear-requires c κs = search needs
-
-clear-requires-2 : tie.Need-clear-requires-2
-clear-requires-2 c κs = search needs
-
-same-length : tie.Need-same-length
-same-length c = search needs
-
-same-length-2 : tie.Need-same-length-2
-same-length-2 c = search needs
-
-same-length-3 : tie.Need-same-length-3
-same-length-3 c = search needs
-
-same-length-4 : tie.Need-same-length-4
-same-length-4 c = search needs
-
-same-length-5 : tie.Need-same-length-5
-same-length-5 c = search needs
-
 returns : tie.Need-returns
 returns c =
     let a = c .before .before .before .before .before .before .before .before .before .before .before .before .before .before .before .before .before .before .before .before .before .before .before .before .before .before .before .before .before .before .before .before .before .before .before .before .args in
@@ -48,12 +24,12 @@ pub list-lines-spec : {M : Type 1} → statement M
 list-lines-spec =
     tie.close
     (tie.spec
-    list-uncleared-requires
-    clear-requires
-    clear-requires-2
-    same-length
-    same-length-2
-    same-length-3
-    same-length-4
-    same-length-5
+    (λ c κs. search needs)
+    (λ c κs. search needs)
+    (λ c κs. search needs)
+    (λ c. search needs)
+    (λ c. search needs)
+    (λ c. search needs)
+    (λ c. search needs)
+    (λ c. search needs)
     returns)

@@ -13,12 +13,9 @@ returns-2 c = short-text _ _ _ _ _ (c .before .if1 .left) (c .if2 .taken)
 returns-3 : tie.Need-returns-3
 returns-3 c = short-store _ _ _ _ _ (c .before .before .if1 .left) (c .before .if2 .left) (c .if3 .taken)
 
-least-ends-requires : tie.Need-least-ends-requires
-least-ends-requires c κs = search needs
-
 returns-4 : tie.Need-returns-4
 returns-4 c =
     rw (c .least-ends .ensures) (long-others _ _ _ _ _ (c .before .before .before .if1 .left) (c .before .before .if2 .left) (c .before .if3 .left))
 
 pub long-enough-spec : {M : Type 1} → statement M
-long-enough-spec = tie.close (tie.spec returns returns-2 returns-3 least-ends-requires returns-4)
+long-enough-spec = tie.close (tie.spec returns returns-2 returns-3 (λ c κs. search needs) returns-4)

@@ -8,14 +8,8 @@ use Rattle.listing.specs.Printed.{heads}
 use Rattle.listing.proofs.listing.write_head.Statement.{statement}
 use Rattle.listing.proofs.listing.write_head.Tie as tie
 
-slice-write-out : tie.Need-slice-write-out
-slice-write-out c = search needs
-
 write-decimal-requires : tie.Need-write-decimal-requires
 write-decimal-requires c κs = (omega arith, (omega arith, simp length-set (omega arith)))
-
-sub-comma : tie.Need-sub-comma
-sub-comma c = search needs
 
 slice-write-out-2 : tie.Need-slice-write-out-2
 slice-write-out-2 c = let w = c .before .before .write-decimal in omega (arith, w .ensures .below, w .kept .0, length-set (c .before .before .before .before .before .args .out .now) 11 44)
@@ -45,9 +39,9 @@ pub write-head-spec : {M : Type 1} → statement M
 write-head-spec =
     tie.close
     (tie.spec
-    slice-write-out
+    (λ c. search needs)
     write-decimal-requires
-    sub-comma
+    (λ c. search needs)
     slice-write-out-2
     write-decimal-requires-2
     same-length

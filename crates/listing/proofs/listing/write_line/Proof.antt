@@ -11,15 +11,6 @@ use Rattle.listing.specs.Kinds.{short-answer-of}
 use Rattle.listing.proofs.listing.write_line.Statement.{statement}
 use Rattle.listing.proofs.listing.write_line.Tie as tie
 
-answer-requires : tie.Need-answer-requires
-answer-requires c κs = search needs
-
-number-in-requires : tie.Need-number-in-requires
-number-in-requires c κs = search needs
-
-bytes-in-requires : tie.Need-bytes-in-requires
-bytes-in-requires c κs = search needs
-
 slice-reshare-prefix-print-line : tie.Need-slice-reshare-prefix-print-line
 slice-reshare-prefix-print-line c = let a = c .before .before .before .before .before .before .before .before .before .before .before .before .before .before .before .before .before .before .before .before .before .before .args in omega (arith, short-answer-of (a .kind) (a .s .now))
 
@@ -32,21 +23,6 @@ print-line-requires c κs =
     let e = short-answer-of (a .kind) (a .s .now) in
     let k = length-take-le (c .before .before .bytes-in .result) (c .before .before .before .before .before .before .before .before .before .before .before .before .answer .last .1 .1 .0) (omega arith) in
     search needs
-
-same-length : tie.Need-same-length
-same-length c = search needs
-
-same-length-2 : tie.Need-same-length-2
-same-length-2 c = search needs
-
-same-length-3 : tie.Need-same-length-3
-same-length-3 c = search needs
-
-same-length-4 : tie.Need-same-length-4
-same-length-4 c = search needs
-
-same-length-5 : tie.Need-same-length-5
-same-length-5 c = search needs
 
 returns : tie.Need-returns
 unfolding listing-line
@@ -61,15 +37,15 @@ pub write-line-spec : {M : Type 1} → statement M
 write-line-spec =
     tie.close
     (tie.spec
-    answer-requires
-    number-in-requires
-    bytes-in-requires
+    (λ c κs. search needs)
+    (λ c κs. search needs)
+    (λ c κs. search needs)
     slice-reshare-prefix-print-line
     slice-aggregate-print-line
     print-line-requires
-    same-length
-    same-length-2
-    same-length-3
-    same-length-4
-    same-length-5
+    (λ c. search needs)
+    (λ c. search needs)
+    (λ c. search needs)
+    (λ c. search needs)
+    (λ c. search needs)
     returns)

@@ -8,24 +8,6 @@ use borrow.Author.Needs.{needs}
 use Rattle.names.proofs.entry.demangle.Statement.{statement}
 use Rattle.names.proofs.entry.demangle.Tie as tie
 
-demangle-uncleared-requires : tie.Need-demangle-uncleared-requires
-demangle-uncleared-requires c κs = search needs
-
-clear-requires : tie.Need-clear-requires
-clear-requires c κs = search needs
-
-same-length : tie.Need-same-length
-same-length c = search needs
-
-same-length-2 : tie.Need-same-length-2
-same-length-2 c = search needs
-
-same-length-3 : tie.Need-same-length-3
-same-length-3 c = search needs
-
-same-length-4 : tie.Need-same-length-4
-same-length-4 c = search needs
-
 returns : tie.Need-returns
 returns c =
     let a = c .before .before .before .before .before .before .before .before .before .before .before .before .before .before .before .before .before .before .before .before .before .before .before .before .before .before .before .before .args in
@@ -38,10 +20,10 @@ pub demangle-spec : {M : Type 1} → statement M
 demangle-spec =
     tie.close
     (tie.spec
-    demangle-uncleared-requires
-    clear-requires
-    same-length
-    same-length-2
-    same-length-3
-    same-length-4
+    (λ c κs. search needs)
+    (λ c κs. search needs)
+    (λ c. search needs)
+    (λ c. search needs)
+    (λ c. search needs)
+    (λ c. search needs)
     returns)

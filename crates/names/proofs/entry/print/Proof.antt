@@ -12,20 +12,8 @@ use Rattle.names.specs.Tells.{tells-refusal, tells-name, within-5, withi
 use Rattle.names.proofs.entry.print.Statement.{statement}
 use Rattle.names.proofs.entry.print.Tie as tie
 
-ended-requires : tie.Need-ended-requires
-ended-requires c κs = search needs
-
 returns : tie.Need-returns
 returns c store ends t σ h = tells-refusal (within-5 _ t σ (ap ended (h .rest) ∙ sym (c .before .ended .ensures) ∙ not-true _ (c .if1 .taken)))
-
-sub-from : tie.Need-sub-from
-sub-from c = search needs
-
-slots-requires : tie.Need-slots-requires
-slots-requires c κs = search needs
-
-sub-size : tie.Need-sub-size
-sub-size c = search needs
 
 returns-2 : tie.Need-returns-2
 returns-2 c store ends t σ h =
@@ -37,9 +25,6 @@ write-counted-requires c κs =
     let a = c .before .before .before .before .before .before .before .before in
     (c .before .before .slots .ensures .0, (omega (arith, a .pre), (a .pre .1 .0, omega (arith, c .before .if2 .left, newest-length (a .args .text .now) (a .args .p .top) (a .args .n) (a .pre .0) (a .pre .1 .0) (c .before .before .slots .ensures .0)))))
 
-same-length : tie.Need-same-length
-same-length c = search needs
-
 returns-3 : tie.Need-returns-3
 returns-3 c store ends t σ h =
     let e = printed-length h (c .before .before .before .before .before .slots .ensures .0) in
@@ -50,12 +35,12 @@ pub print-spec : {M : Type 1} → statement M
 print-spec =
     tie.close
     (tie.spec
-    ended-requires
+    (λ c κs. search needs)
     returns
-    sub-from
-    slots-requires
-    sub-size
+    (λ c. search needs)
+    (λ c κs. search needs)
+    (λ c. search needs)
     returns-2
     write-counted-requires
-    same-length
+    (λ c. search needs)
     returns-3)

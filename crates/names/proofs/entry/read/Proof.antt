@@ -9,27 +9,6 @@ use borrow.Author.Needs.{needs}
 use Rattle.names.proofs.entry.read.Statement.{statement}
 use Rattle.names.proofs.entry.read.Tie as tie
 
-mangled-name-requires : tie.Need-mangled-name-requires
-mangled-name-requires c κs = search needs
-
-enum-known-got : tie.Need-enum-known-got
-enum-known-got c = search needs
-
-enum-told : tie.Need-enum-told
-enum-told c = search needs
-
-unread-requires : tie.Need-unread-requires
-unread-requires c κs = search needs
-
-same-length : tie.Need-same-length
-same-length c = search needs
-
-same-length-2 : tie.Need-same-length-2
-same-length-2 c = search needs
-
-same-length-3 : tie.Need-same-length-3
-same-length-3 c = search needs
-
 returns : tie.Need-returns
 returns c = tells-unread (c .before .before .before .before .before .before .before .before .before .before .before .before .before .before .before .before .before .before .args .out .now) (c .before .before .before .before .before .before .before .before .before .mangled-name .ensures) (c .before .enum-told .given .1) (c .unread .ensures)
 
@@ -37,18 +16,6 @@ print-requires : tie.Need-print-requires
 print-requires c κs =
     let h = was-read (c .before .before .before .before .before .before .before .before .before .before .before .mangled-name .ensures) (c .before .before .before .got .given .1) .1 .1 .1 in
     (printed-fits h, (printed-top h, h .place))
-
-same-length-4 : tie.Need-same-length-4
-same-length-4 c = search needs
-
-same-length-5 : tie.Need-same-length-5
-same-length-5 c = search needs
-
-same-length-6 : tie.Need-same-length-6
-same-length-6 c = search needs
-
-same-length-7 : tie.Need-same-length-7
-same-length-7 c = search needs
 
 returns-2 : tie.Need-returns-2
 unfolding mangled-name
@@ -60,17 +27,17 @@ pub read-spec : {M : Type 1} → statement M
 read-spec =
     tie.close
     (tie.spec
-    mangled-name-requires
-    enum-known-got
-    enum-told
-    unread-requires
-    same-length
-    same-length-2
-    same-length-3
+    (λ c κs. search needs)
+    (λ c. search needs)
+    (λ c. search needs)
+    (λ c κs. search needs)
+    (λ c. search needs)
+    (λ c. search needs)
+    (λ c. search needs)
     returns
     print-requires
-    same-length-4
-    same-length-5
-    same-length-6
-    same-length-7
+    (λ c. search needs)
+    (λ c. search needs)
+    (λ c. search needs)
+    (λ c. search needs)
     returns-2)

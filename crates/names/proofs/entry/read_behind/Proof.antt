@@ -11,29 +11,11 @@ use borrow.Author.Needs.{needs}
 use Rattle.names.proofs.entry.read_behind.Statement.{statement}
 use Rattle.names.proofs.entry.read_behind.Tie as tie
 
-sub-read : tie.Need-sub-read
-sub-read c = search needs
-
-part-read-start : tie.Need-part-read-start
-part-read-start c = search needs
-
-part-read-end : tie.Need-part-read-end
-part-read-end c = search needs
-
-slice-relend-prefix-read : tie.Need-slice-relend-prefix-read
-slice-relend-prefix-read c = search needs
-
 slice-aggregate-read : tie.Need-slice-aggregate-read
 slice-aggregate-read c = sym (length-take-le 51200 (c .before .before .before .before .before .before .before .before .args .text .now) (c .before .before .before .before .before .before .before .before .pre .1 .text))
 
-slice-relend-prefix-read-2 : tie.Need-slice-relend-prefix-read-2
-slice-relend-prefix-read-2 c = search needs
-
 slice-aggregate-read-2 : tie.Need-slice-aggregate-read-2
 slice-aggregate-read-2 c = sym (length-take-le 65536 (c .before .before .before .before .before .before .before .before .before .args .store .now) (c .before .before .before .before .before .before .before .before .before .pre .1 .store))
-
-slice-relend-prefix-read-3 : tie.Need-slice-relend-prefix-read-3
-slice-relend-prefix-read-3 c = search needs
 
 slice-aggregate-read-3 : tie.Need-slice-aggregate-read-3
 slice-aggregate-read-3 c = sym (length-take-le 2048 (c .before .before .before .before .before .before .before .before .before .before .args .ends .now) (c .before .before .before .before .before .before .before .before .before .before .pre .1 .ends))
@@ -50,18 +32,6 @@ read-requires c κs =
       },
     )
 
-same-length : tie.Need-same-length
-same-length c = search needs
-
-same-length-2 : tie.Need-same-length-2
-same-length-2 c = search needs
-
-same-length-3 : tie.Need-same-length-3
-same-length-3 c = search needs
-
-same-length-4 : tie.Need-same-length-4
-same-length-4 c = search needs
-
 returns : tie.Need-returns
 returns c =
     let a = c .before .before .before .before .before .before .before .before .before .before .before .before .before .before .before .before .before .before .before .args in
@@ -71,18 +41,18 @@ pub read-behind-spec : {M : Type 1} → statement M
 read-behind-spec =
     tie.close
     (tie.spec
-    sub-read
-    part-read-start
-    part-read-end
-    slice-relend-prefix-read
+    (λ c. search needs)
+    (λ c. search needs)
+    (λ c. search needs)
+    (λ c. search needs)
     slice-aggregate-read
-    slice-relend-prefix-read-2
+    (λ c. search needs)
     slice-aggregate-read-2
-    slice-relend-prefix-read-3
+    (λ c. search needs)
     slice-aggregate-read-3
     read-requires
-    same-length
-    same-length-2
-    same-length-3
-    same-length-4
+    (λ c. search needs)
+    (λ c. search needs)
+    (λ c. search needs)
+    (λ c. search needs)
     returns)

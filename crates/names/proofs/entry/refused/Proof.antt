@@ -5,12 +5,6 @@ use Rattle.names.specs.Printed.{refused-of}
 use Rattle.names.proofs.entry.refused.Statement.{statement}
 use Rattle.names.proofs.entry.refused.Tie as tie
 
-enum-known-front : tie.Need-enum-known-front
-enum-known-front c = search needs
-
-enum-known-front-2 : tie.Need-enum-known-front-2
-enum-known-front-2 c = search needs
-
 returns : tie.Need-returns
 returns c = sym (ap refused-of (c .before .front .given .1))
 
@@ -18,4 +12,4 @@ returns-2 : tie.Need-returns-2
 returns-2 c = sym (ap refused-of (c .before .front2 .given .1))
 
 pub refused-spec : {M : Type 1} → statement M
-refused-spec = tie.close (tie.spec enum-known-front enum-known-front-2 returns returns-2)
+refused-spec = tie.close (tie.spec (λ c. search needs) (λ c. search needs) returns returns-2)

@@ -5,12 +5,6 @@ use Rattle.names.specs.Printed.{unread-of}
 use Rattle.names.proofs.entry.unread.Statement.{statement}
 use Rattle.names.proofs.entry.unread.Tie as tie
 
-enum-known-got : tie.Need-enum-known-got
-enum-known-got c = search needs
-
-enum-known-got-2 : tie.Need-enum-known-got-2
-enum-known-got-2 c = search needs
-
 returns : tie.Need-returns
 returns c = sym (ap unread-of (c .before .got .given .1))
 
@@ -18,4 +12,4 @@ returns-2 : tie.Need-returns-2
 returns-2 c = sym (ap unread-of (c .before .got2 .given .1))
 
 pub unread-spec : {M : Type 1} → statement M
-unread-spec = tie.close (tie.spec enum-known-got enum-known-got-2 returns returns-2)
+unread-spec = tie.close (tie.spec (λ c. search needs) (λ c. search needs) returns returns-2)

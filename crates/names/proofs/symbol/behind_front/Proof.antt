@@ -9,27 +9,12 @@ use Rattle.names.proofs.symbol.behind_front.Tie as tie
 returns : tie.Need-returns
 returns c = front-1 _ (c .if1 .taken)
 
-has-high-requires : tie.Need-has-high-requires
-has-high-requires c κs = search needs
-
 returns-2 : tie.Need-returns-2
 returns-2 c = front-2 _ (c .before .before .if1 .left) (sym (c .before .has-high .ensures) ∙ c .if2 .taken)
-
-slice-aggregate-starts-with : tie.Need-slice-aggregate-starts-with
-slice-aggregate-starts-with c = search needs
-
-starts-with-requires : tie.Need-starts-with-requires
-starts-with-requires c κs = search needs
 
 returns-3 : tie.Need-returns-3
 unfolding b
 returns-3 c = front-z _ (c .before .before .before .before .before .if1 .left) (sym (c .before .before .before .before .has-high .ensures) ∙ c .before .before .before .if2 .left) (sym (c .before .starts-with .ensures) ∙ c .if3 .taken)
-
-slice-aggregate-starts-with-2 : tie.Need-slice-aggregate-starts-with-2
-slice-aggregate-starts-with-2 c = search needs
-
-starts-with-requires-2 : tie.Need-starts-with-requires-2
-starts-with-requires-2 c κs = search needs
 
 returns-4 : tie.Need-returns-4
 unfolding b
@@ -44,12 +29,12 @@ behind-front-spec =
     tie.close
     (tie.spec
     returns
-    has-high-requires
+    (λ c κs. search needs)
     returns-2
-    slice-aggregate-starts-with
-    starts-with-requires
+    (λ c. search needs)
+    (λ c κs. search needs)
     returns-3
-    slice-aggregate-starts-with-2
-    starts-with-requires-2
+    (λ c. search needs)
+    (λ c κs. search needs)
     returns-4
     returns-5)

@@ -20,18 +20,9 @@ Inv-loop out₀ text from to n at₀ i₀ out at i =
 abbrev μ-loop : tie.MeasureT-loop
 μ-loop out₀ text from to n at₀ i₀ out at i = n - i
 
-sub-n : tie.Need-sub-n Inv-loop μ-loop
-sub-n c = search needs
-
 loop-holds : tie.Need-loop-holds Inv-loop μ-loop
 unfolding without-slots each
 loop-holds c = (omega arith, (refl, (refl, refl)))
-
-add-c : tie.Need-add-c Inv-loop μ-loop
-add-c c = search needs
-
-shared-slice-read-c : tie.Need-shared-slice-read-c Inv-loop μ-loop
-shared-slice-read-c c = search needs
 
 slice-write-out : tie.Need-slice-write-out Inv-loop μ-loop
 slice-write-out c =
@@ -41,12 +32,6 @@ slice-write-out c =
 
 add-at : tie.Need-add-at Inv-loop μ-loop
 add-at c = search (needs, slice-write-out c)
-
-add-i : tie.Need-add-i Inv-loop μ-loop
-add-i c = search needs
-
-loop-less : tie.Need-loop-less Inv-loop μ-loop
-loop-less c = search needs
 
 loop-again : tie.Need-loop-again Inv-loop μ-loop
 loop-again c =
@@ -100,14 +85,14 @@ write-name-spec =
     (tie.spec
     Inv-loop
     μ-loop
-    sub-n
+    (λ c. search needs)
     loop-holds
-    add-c
-    shared-slice-read-c
+    (λ c. search needs)
+    (λ c. search needs)
     slice-write-out
     add-at
-    add-i
-    loop-less
+    (λ c. search needs)
+    (λ c. search needs)
     loop-again
     same-length
     returns)

@@ -9,9 +9,6 @@ use native.Mathlib.Omega.{arith}
 use Rattle.normal.proofs.lead.lead_of.Statement.{statement}
 use Rattle.normal.proofs.lead.lead_of.Tie as tie
 
-digit-value-requires : tie.Need-digit-value-requires
-digit-value-requires c κs = search needs
-
 returns : tie.Need-returns
 unfolding lead if_then_else_ digit
 returns c = let k = c .before .before .args .c in rw (lt-ltb (digit-value k) 10 (omega (arith, c .before .digit-value .ensures))) refl
@@ -41,9 +38,6 @@ returns-4 c =
       eq-eqb k 76 (c .if4 .taken),
     ) refl
 
-wrapper-requires : tie.Need-wrapper-requires
-wrapper-requires c κs = search needs
-
 returns-5 : tie.Need-returns-5
 unfolding lead if_then_else_ digit
 returns-5 c =
@@ -54,9 +48,6 @@ returns-5 c =
       ne-eqb k 78 (c .before .before .before .if3 .left),
       ne-eqb k 76 (c .before .before .if4 .left),
     ) (sym (a-wrapper _ _ (sym (c .before .wrapper .ensures) ∙ c .if5 .taken)))
-
-letter-requires : tie.Need-letter-requires
-letter-requires c κs = search needs
 
 returns-6 : tie.Need-returns-6
 unfolding lead if_then_else_ digit
@@ -86,13 +77,13 @@ pub lead-of-spec : {M : Type 1} → statement M
 lead-of-spec =
     tie.close
     (tie.spec
-    digit-value-requires
+    (λ c κs. search needs)
     returns
     returns-2
     returns-3
     returns-4
-    wrapper-requires
+    (λ c κs. search needs)
     returns-5
-    letter-requires
+    (λ c κs. search needs)
     returns-6
     returns-7)

@@ -22,9 +22,6 @@ loop-holds c = refl
 shared-slice-read-capital-byte : tie.Need-shared-slice-read-capital-byte Inv-loop μ-loop
 shared-slice-read-capital-byte c = omega arith
 
-capital-byte-requires : tie.Need-capital-byte-requires Inv-loop μ-loop
-capital-byte-requires c κs = search needs
-
 returns : tie.Need-returns Inv-loop μ-loop
 returns c =
     let l = c .before .before .before .before .loop in
@@ -57,7 +54,7 @@ capitals-spec =
     μ-loop
     loop-holds
     shared-slice-read-capital-byte
-    capital-byte-requires
+    (λ c κs. search needs)
     returns
     add-i
     loop-less

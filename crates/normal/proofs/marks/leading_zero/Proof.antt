@@ -10,14 +10,8 @@ use Rattle.normal.proofs.marks.leading_zero.Tie as tie
 returns : tie.Need-returns
 returns c = let a = c .before .args in rw (part-none (a .s .now) (a .from) (a .to) (omega arith)) refl
 
-sub-if2 : tie.Need-sub-if2
-sub-if2 c = search needs
-
 returns-2 : tie.Need-returns-2
 returns-2 c = let a = c .before .before .args in rw (part-more (a .s .now) (a .from) (a .to) (omega arith) (omega arith), part-none (a .s .now) (a .from + 1) (a .to) (omega arith)) refl
-
-shared-slice-read-result : tie.Need-shared-slice-read-result
-shared-slice-read-result c = search needs
 
 returns-3 : tie.Need-returns-3
 returns-3 c = let a = c .before .before .before .args in rw (part-more (a .s .now) (a .from) (a .to) (omega arith) (omega arith), part-more (a .s .now) (a .from + 1) (a .to) (omega arith) (omega arith)) refl
@@ -27,7 +21,7 @@ leading-zero-spec =
     tie.close
     (tie.spec
     returns
-    sub-if2
+    (λ c. search needs)
     returns-2
-    shared-slice-read-result
+    (λ c. search needs)
     returns-3)

@@ -13,9 +13,6 @@ returns : tie.Need-returns
 unfolding numeral
 returns c = let a = c .before .before .args in rw (part-none (a .s .now) (a .from) (a .to) (omega arith)) refl
 
-leading-zero-requires : tie.Need-leading-zero-requires
-leading-zero-requires c κs = search needs
-
 returns-2 : tie.Need-returns-2
 returns-2 c =
     let a = c .before .before .before .args in
@@ -27,5 +24,5 @@ numeral-spec =
     tie.close
     (tie.spec
     returns
-    leading-zero-requires
+    (λ c κs. search needs)
     returns-2)

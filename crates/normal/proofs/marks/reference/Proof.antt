@@ -10,15 +10,6 @@ use native.Mathlib.Omega.{arith}
 use Rattle.normal.proofs.marks.reference.Statement.{statement}
 use Rattle.normal.proofs.marks.reference.Tie as tie
 
-seq-id-requires : tie.Need-seq-id-requires
-seq-id-requires c κs = search needs
-
-slice-aggregate-starts-with : tie.Need-slice-aggregate-starts-with
-slice-aggregate-starts-with c = search needs
-
-starts-with-requires : tie.Need-starts-with-requires
-starts-with-requires c κs = search needs
-
 returns : tie.Need-returns
 returns c =
     let a = c .before .before .before .before .before .args in
@@ -72,9 +63,6 @@ returns-4 c =
     let q = sym (c .before .before .leading-zero .ensures) ∙ c .before .if3 .left in
     ref-right (a .s .now) (a .at) _ (d .behind) h p q 0 (omega (arith, index-none (run (digit 36) (drop (a .at) (a .s .now))) (omega (arith, d .behind))))
 
-add-t12 : tie.Need-add-t12
-add-t12 c = search needs
-
 returns-5 : tie.Need-returns-5
 returns-5 c =
     let a = c .before .before .before .before .before .before .before .before .before .before .before .before .args in
@@ -83,12 +71,6 @@ returns-5 c =
     let p = sym (c .before .before .before .before .before .before .capitals .ensures) ∙ not-false _ (c .before .before .before .before .before .if2 .left) in
     let q = sym (c .before .before .before .before .leading-zero .ensures) ∙ c .before .before .before .if3 .left in
     ref-right (a .s .now) (a .at) _ (d .behind) h p q 65536 (omega (arith, d .is, index-some (run (digit 36) (drop (a .at) (a .s .now))) (omega (arith, d .behind))))
-
-add-t14 : tie.Need-add-t14
-add-t14 c = search needs
-
-add-t15 : tie.Need-add-t15
-add-t15 c = search needs
 
 returns-6 : tie.Need-returns-6
 returns-6 c =
@@ -103,9 +85,9 @@ pub reference-spec : {M : Type 1} → statement M
 reference-spec =
     tie.close
     (tie.spec
-    seq-id-requires
-    slice-aggregate-starts-with
-    starts-with-requires
+    (λ c κs. search needs)
+    (λ c. search needs)
+    (λ c κs. search needs)
     returns
     capitals-requires
     returns-2
@@ -113,8 +95,8 @@ reference-spec =
     returns-3
     add-t11
     returns-4
-    add-t12
+    (λ c. search needs)
     returns-5
-    add-t14
-    add-t15
+    (λ c. search needs)
+    (λ c. search needs)
     returns-6)

@@ -8,9 +8,6 @@ use borrow.Author.Needs.{needs}
 use Rattle.normal.proofs.marks.signed_ok.Statement.{statement}
 use Rattle.normal.proofs.marks.signed_ok.Tie as tie
 
-numeral-requires : tie.Need-numeral-requires
-numeral-requires c κs = search needs
-
 returns : tie.Need-returns
 unfolding litOk
 returns c = rw (sym (c .before .numeral .ensures) ∙ not-true _ (c .if1 .taken)) refl
@@ -18,12 +15,6 @@ returns c = rw (sym (c .before .numeral .ensures) ∙ not-true _ (c .if1 .taken)
 returns-2 : tie.Need-returns-2
 unfolding litOk
 returns-2 c = rw (sym (c .before .before .numeral .ensures) ∙ not-false _ (c .before .if1 .left), not-true (c .before .before .before .before .args .minus) (c .if2 .taken)) refl
-
-slice-aggregate-is-word : tie.Need-slice-aggregate-is-word
-slice-aggregate-is-word c = search needs
-
-is-word-requires : tie.Need-is-word-requires
-is-word-requires c κs = search needs
 
 returns-3 : tie.Need-returns-3
 unfolding litOk b
@@ -37,9 +28,9 @@ pub signed-ok-spec : {M : Type 1} → statement M
 signed-ok-spec =
     tie.close
     (tie.spec
-    numeral-requires
+    (λ c κs. search needs)
     returns
     returns-2
-    slice-aggregate-is-word
-    is-word-requires
+    (λ c. search needs)
+    (λ c κs. search needs)
     returns-3)

@@ -10,21 +10,9 @@ returns : tie.Need-returns
 unfolding litOk
 returns c = rw (c .if1 .taken) refl
 
-slice-aggregate-is-word : tie.Need-slice-aggregate-is-word
-slice-aggregate-is-word c = search needs
-
-is-word-requires : tie.Need-is-word-requires
-is-word-requires c κs = search needs
-
 returns-2 : tie.Need-returns-2
 unfolding litOk b
 returns-2 c = rw (c .before .before .before .if1 .left, sym (c .before .is-word .ensures) ∙ c .if2 .taken) refl
-
-slice-aggregate-is-word-2 : tie.Need-slice-aggregate-is-word-2
-slice-aggregate-is-word-2 c = search needs
-
-is-word-requires-2 : tie.Need-is-word-requires-2
-is-word-requires-2 c κs = search needs
 
 returns-3 : tie.Need-returns-3
 unfolding litOk b
@@ -35,9 +23,9 @@ truth-ok-spec =
     tie.close
     (tie.spec
     returns
-    slice-aggregate-is-word
-    is-word-requires
+    (λ c. search needs)
+    (λ c κs. search needs)
     returns-2
-    slice-aggregate-is-word-2
-    is-word-requires-2
+    (λ c. search needs)
+    (λ c κs. search needs)
     returns-3)

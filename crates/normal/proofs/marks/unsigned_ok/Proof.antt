@@ -9,9 +9,6 @@ returns : tie.Need-returns
 unfolding litOk
 returns c = rw (c .if1 .taken) refl
 
-numeral-requires : tie.Need-numeral-requires
-numeral-requires c κs = search needs
-
 returns-2 : tie.Need-returns-2
 unfolding litOk
 returns-2 c = rw (c .before .if1 .left) (c .numeral .ensures)
@@ -21,5 +18,5 @@ unsigned-ok-spec =
     tie.close
     (tie.spec
     returns
-    numeral-requires
+    (λ c κs. search needs)
     returns-2)

@@ -13,15 +13,6 @@ use native.Mathlib.Omega.{arith}
 use Rattle.normal.proofs.marks.value.Statement.{statement}
 use Rattle.normal.proofs.marks.value.Tie as tie
 
-decimal-requires : tie.Need-decimal-requires
-decimal-requires c κs = search needs
-
-slice-aggregate-starts-with : tie.Need-slice-aggregate-starts-with
-slice-aggregate-starts-with c = search needs
-
-starts-with-requires : tie.Need-starts-with-requires
-starts-with-requires c κs = search needs
-
 returns : tie.Need-returns
 returns c =
     let a = c .before .before .before .before .before .args in
@@ -62,9 +53,9 @@ pub value-spec : {M : Type 1} → statement M
 value-spec =
     tie.close
     (tie.spec
-    decimal-requires
-    slice-aggregate-starts-with
-    starts-with-requires
+    (λ c κs. search needs)
+    (λ c. search needs)
+    (λ c κs. search needs)
     returns
     value-ok-requires
     returns-2

@@ -13,21 +13,6 @@ use borrow.Author.Needs.{needs}
 use Rattle.normal.proofs.marks.value_ok.Statement.{statement}
 use Rattle.normal.proofs.marks.value_ok.Tie as tie
 
-truth-ok-requires : tie.Need-truth-ok-requires
-truth-ok-requires c κs = search needs
-
-signed-ok-requires : tie.Need-signed-ok-requires
-signed-ok-requires c κs = search needs
-
-unsigned-ok-requires : tie.Need-unsigned-ok-requires
-unsigned-ok-requires c κs = search needs
-
-signed-ok-requires-2 : tie.Need-signed-ok-requires-2
-signed-ok-requires-2 c κs = search needs
-
-unsigned-ok-requires-2 : tie.Need-unsigned-ok-requires-2
-unsigned-ok-requires-2 c κs = search needs
-
 returns : tie.Need-returns
 unfolding valid-by withCode choose if_then_else_ litOk
 returns c = rw (c .before .match .keys1) (c .truth-ok .ensures)
@@ -58,11 +43,11 @@ pub value-ok-spec : {M : Type 1} → statement M
 value-ok-spec =
     tie.close
     (tie.spec
-    truth-ok-requires
-    signed-ok-requires
-    unsigned-ok-requires
-    signed-ok-requires-2
-    unsigned-ok-requires-2
+    (λ c κs. search needs)
+    (λ c κs. search needs)
+    (λ c κs. search needs)
+    (λ c κs. search needs)
+    (λ c κs. search needs)
     returns
     returns-2
     returns-3

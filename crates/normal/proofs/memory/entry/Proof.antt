@@ -6,12 +6,6 @@ use native.Mathlib.Omega.{arith}
 use Rattle.normal.proofs.memory.entry.Statement.{statement}
 use Rattle.normal.proofs.memory.entry.Tie as tie
 
-add-result : tie.Need-add-result
-add-result c = search needs
-
-mul-result : tie.Need-mul-result
-mul-result c = search needs
-
 shared-slice-read-result : tie.Need-shared-slice-read-result
 shared-slice-read-result c = let h = c .before .pre .1 .1 .1 .1 in omega (arith, notes-size h, h .few-entries, h .place, h .source)
 
@@ -25,8 +19,8 @@ pub entry-spec : {M : Type 1} → statement M
 entry-spec =
     tie.close
     (tie.spec
-    add-result
-    mul-result
+    (λ c. search needs)
+    (λ c. search needs)
     shared-slice-read-result
     cast-result
     returns)

@@ -9,15 +9,6 @@ use Rattle.normal.proofs.memory.newest.Tie as tie
 returns : tie.Need-returns
 returns c s o σ h = newest-none h (c .before .args .d) (c .if1 .taken)
 
-sub-result : tie.Need-sub-result
-sub-result c = search needs
-
-add-result : tie.Need-add-result
-add-result c = search needs
-
-mul-result : tie.Need-mul-result
-mul-result c = search needs
-
 shared-slice-read-result : tie.Need-shared-slice-read-result
 shared-slice-read-result c = let h = c .before .before .pre .1 .1 .1 in omega (arith, notes-size h, h .few-entries, h .place, h .source)
 
@@ -32,9 +23,9 @@ newest-spec =
     tie.close
     (tie.spec
     returns
-    sub-result
-    add-result
-    mul-result
+    (λ c. search needs)
+    (λ c. search needs)
+    (λ c. search needs)
     shared-slice-read-result
     cast-result
     returns-2)

@@ -22,9 +22,6 @@ loop-holds : tie.Need-loop-holds Inv-loop μ-loop
 unfolding rows-of nodes-in
 loop-holds c = let a = c .before .before .args in (omega arith, seek-empty (same-node (node (a .tag) (a .of) (part (a .s .now) (a .from) (a .to)))))
 
-mul-same-row : tie.Need-mul-same-row Inv-loop μ-loop
-mul-same-row c = search needs
-
 same-row-requires : tie.Need-same-row-requires Inv-loop μ-loop
 same-row-requires c κs =
     let l = c .before .loop in
@@ -36,12 +33,6 @@ returns c =
     let l = c .before .before .before .loop in
     let a = c .before .before .before .before .before .before .args in
     node-here (a .s .now) (a .notes .now) (l .i) (a .n) (omega arith) (same-node (node (a .tag) (a .of) (part (a .s .now) (a .from) (a .to)))) (l .inv .1) (sym (c .before .same-row .ensures) ∙ c .if1 .taken)
-
-add-i : tie.Need-add-i Inv-loop μ-loop
-add-i c = search needs
-
-loop-less : tie.Need-loop-less Inv-loop μ-loop
-loop-less c = search needs
 
 loop-again : tie.Need-loop-again Inv-loop μ-loop
 loop-again c =
@@ -64,10 +55,10 @@ node-place-spec =
     Inv-loop
     μ-loop
     loop-holds
-    mul-same-row
+    (λ c. search needs)
     same-row-requires
     returns
-    add-i
-    loop-less
+    (λ c. search needs)
+    (λ c. search needs)
     loop-again
     returns-2)

@@ -13,34 +13,13 @@ sub-seek c = omega (arith, notes-size (c .before .pre .1 .1 .1 .1 .1))
 part-seek-start : tie.Need-part-seek-start
 part-seek-start c = omega (arith, notes-size (c .before .before .pre .1 .1 .1 .1 .1))
 
-part-seek-end : tie.Need-part-seek-end
-part-seek-end c = search needs
-
 seek-requires : tie.Need-seek-requires
 seek-requires c κs =
     let h = c .before .before .before .pre .1 .1 .1 .1 .1 in
     simp (length-take, length-drop) (omega (arith, notes-size h, h .firsts-count, firsts-most h))
 
-cast-notes : tie.Need-cast-notes
-cast-notes c = search needs
-
-add-notes : tie.Need-add-notes
-add-notes c = search needs
-
-mul-notes : tie.Need-mul-notes
-mul-notes c = search needs
-
 slice-write-notes : tie.Need-slice-write-notes
 slice-write-notes c = let h = c .before .before .before .before .pre .1 .1 .1 .1 .1 in omega (arith, notes-size h, h .few-entries, h .place, h .source)
-
-add-entered : tie.Need-add-entered
-add-entered c = search needs
-
-entered-requires : tie.Need-entered-requires
-entered-requires c κs = search needs
-
-same-length : tie.Need-same-length
-same-length c = search needs
 
 returns : tie.Need-returns
 returns c s o σ h =
@@ -48,9 +27,6 @@ returns c s o σ h =
     let a = q .args in
     let f = c .before .before .seek in
     push-known h (a .d) (q .pre .0) (q .pre .1 .0) (f .result) (c .entered .result) (c .entered .ensures) (sought-firsts h (a .d) (f .result) (f .ensures) .found (c .before .if1 .taken))
-
-cast-notes-2 : tie.Need-cast-notes-2
-cast-notes-2 c = search needs
 
 add-notes-2 : tie.Need-add-notes-2
 add-notes-2 c = omega (arith, firsts-room (c .before .before .before .before .before .pre .1 .1 .1 .1 .1) (c .before .before .before .before .before .args .d) (c .before .before .before .before .before .pre .0) (c .before .before .before .before .before .pre .1 .0))
@@ -61,17 +37,8 @@ mul-notes-2 c = omega (arith, firsts-room (c .before .before .before .before .be
 slice-write-notes-2 : tie.Need-slice-write-notes-2
 slice-write-notes-2 c = let h = c .before .before .before .before .before .pre .1 .1 .1 .1 .1 in simp length-set (omega (arith, notes-size h, firsts-room h (c .before .before .before .before .before .args .d) (c .before .before .before .before .before .pre .0) (c .before .before .before .before .before .pre .1 .0)))
 
-add-entered-2 : tie.Need-add-entered-2
-add-entered-2 c = search needs
-
 add-entered-3 : tie.Need-add-entered-3
 add-entered-3 c = omega (arith, firsts-room (c .before .before .before .before .before .pre .1 .1 .1 .1 .1) (c .before .before .before .before .before .args .d) (c .before .before .before .before .before .pre .0) (c .before .before .before .before .before .pre .1 .0))
-
-entered-requires-2 : tie.Need-entered-requires-2
-entered-requires-2 c κs = search needs
-
-same-length-2 : tie.Need-same-length-2
-same-length-2 c = search needs
 
 returns-2 : tie.Need-returns-2
 returns-2 c s o σ h =
@@ -86,22 +53,22 @@ push-spec =
     (tie.spec
     sub-seek
     part-seek-start
-    part-seek-end
+    (λ c. search needs)
     seek-requires
-    cast-notes
-    add-notes
-    mul-notes
+    (λ c. search needs)
+    (λ c. search needs)
+    (λ c. search needs)
     slice-write-notes
-    add-entered
-    entered-requires
-    same-length
+    (λ c. search needs)
+    (λ c κs. search needs)
+    (λ c. search needs)
     returns
-    cast-notes-2
+    (λ c. search needs)
     add-notes-2
     mul-notes-2
     slice-write-notes-2
-    add-entered-2
+    (λ c. search needs)
     add-entered-3
-    entered-requires-2
-    same-length-2
+    (λ c κs. search needs)
+    (λ c. search needs)
     returns-2)

@@ -6,18 +6,6 @@ use native.Mathlib.Omega.{arith}
 use Rattle.normal.proofs.memory.put_byte.Statement.{statement}
 use Rattle.normal.proofs.memory.put_byte.Tie as tie
 
-slice-write-out : tie.Need-slice-write-out
-slice-write-out c = search needs
-
-add-written : tie.Need-add-written
-add-written c = search needs
-
-written-requires : tie.Need-written-requires
-written-requires c κs = search needs
-
-same-length : tie.Need-same-length
-same-length c = search needs
-
 returns : tie.Need-returns
 returns c = let a = c .before .before .args in puts-by (c .written .ensures) (wrote-one (a .out .now) (a .p .out) (a .c) (omega arith))
 
@@ -25,8 +13,8 @@ pub put-byte-spec : {M : Type 1} → statement M
 put-byte-spec =
     tie.close
     (tie.spec
-    slice-write-out
-    add-written
-    written-requires
-    same-length
+    (λ c. search needs)
+    (λ c. search needs)
+    (λ c κs. search needs)
+    (λ c. search needs)
     returns)

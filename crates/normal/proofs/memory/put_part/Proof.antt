@@ -7,30 +7,6 @@ use native.Mathlib.Omega.{arith}
 use Rattle.normal.proofs.memory.put_part.Statement.{statement}
 use Rattle.normal.proofs.memory.put_part.Tie as tie
 
-sub-copy : tie.Need-sub-copy
-sub-copy c = search needs
-
-part-copy-start : tie.Need-part-copy-start
-part-copy-start c = search needs
-
-part-copy-end : tie.Need-part-copy-end
-part-copy-end c = search needs
-
-copy-requires : tie.Need-copy-requires
-copy-requires c κs = search needs
-
-sub-written : tie.Need-sub-written
-sub-written c = search needs
-
-add-written : tie.Need-add-written
-add-written c = search needs
-
-written-requires : tie.Need-written-requires
-written-requires c κs = search needs
-
-same-length : tie.Need-same-length
-same-length c = search needs
-
 returns : tie.Need-returns
 returns c =
     let a = c .before .before .before .before .before .before .before .before .args in
@@ -43,12 +19,12 @@ pub put-part-spec : {M : Type 1} → statement M
 put-part-spec =
     tie.close
     (tie.spec
-    sub-copy
-    part-copy-start
-    part-copy-end
-    copy-requires
-    sub-written
-    add-written
-    written-requires
-    same-length
+    (λ c. search needs)
+    (λ c. search needs)
+    (λ c. search needs)
+    (λ c κs. search needs)
+    (λ c. search needs)
+    (λ c. search needs)
+    (λ c κs. search needs)
+    (λ c. search needs)
     returns)

@@ -9,27 +9,12 @@ use native.Mathlib.Omega.{arith}
 use Rattle.normal.proofs.memory.same_row.Statement.{statement}
 use Rattle.normal.proofs.memory.same_row.Tie as tie
 
-mul-if1 : tie.Need-mul-if1
-mul-if1 c = search needs
-
-shared-slice-read-if1 : tie.Need-shared-slice-read-if1
-shared-slice-read-if1 c = search needs
-
 cast-if1 : tie.Need-cast-if1
 cast-if1 c = omega (arith, c .shared-slice-known3 .given (c .before .before .before .args .at))
 
 returns : tie.Need-returns
 unfolding same-node
 returns c = let a = c .before .before .before .before .args in rw (ne-eqb (a .tag) (getD (a .notes .now) (a .at) 0) (c .if1 .taken)) refl
-
-add-if2 : tie.Need-add-if2
-add-if2 c = search needs
-
-mul-if2 : tie.Need-mul-if2
-mul-if2 c = search needs
-
-shared-slice-read-if2 : tie.Need-shared-slice-read-if2
-shared-slice-read-if2 c = search needs
 
 cast-if2 : tie.Need-cast-if2
 cast-if2 c = omega (arith, c .shared-slice-known4 .given (c .before .before .before .before .before .args .at + 1))
@@ -39,33 +24,6 @@ unfolding same-node
 returns-2 c =
     let a = c .before .before .before .before .before .before .args in
     rw (eq-eqb (a .tag) (getD (a .notes .now) (a .at) 0) (c .before .before .if1 .left), ne-eqb (a .of) (getD (a .notes .now) (a .at + 1) 0) (c .if2 .taken)) refl
-
-add-same-word : tie.Need-add-same-word
-add-same-word c = search needs
-
-mul-same-word : tie.Need-mul-same-word
-mul-same-word c = search needs
-
-shared-slice-read-same-word : tie.Need-shared-slice-read-same-word
-shared-slice-read-same-word c = search needs
-
-cast-same-word : tie.Need-cast-same-word
-cast-same-word c = search needs
-
-add-same-word-2 : tie.Need-add-same-word-2
-add-same-word-2 c = search needs
-
-mul-same-word-2 : tie.Need-mul-same-word-2
-mul-same-word-2 c = search needs
-
-shared-slice-read-same-word-2 : tie.Need-shared-slice-read-same-word-2
-shared-slice-read-same-word-2 c = search needs
-
-cast-same-word-2 : tie.Need-cast-same-word-2
-cast-same-word-2 c = search needs
-
-same-word-requires : tie.Need-same-word-requires
-same-word-requires c κs = search needs
 
 returns-3 : tie.Need-returns-3
 unfolding same-node
@@ -77,22 +35,22 @@ pub same-row-spec : {M : Type 1} → statement M
 same-row-spec =
     tie.close
     (tie.spec
-    mul-if1
-    shared-slice-read-if1
+    (λ c. search needs)
+    (λ c. search needs)
     cast-if1
     returns
-    add-if2
-    mul-if2
-    shared-slice-read-if2
+    (λ c. search needs)
+    (λ c. search needs)
+    (λ c. search needs)
     cast-if2
     returns-2
-    add-same-word
-    mul-same-word
-    shared-slice-read-same-word
-    cast-same-word
-    add-same-word-2
-    mul-same-word-2
-    shared-slice-read-same-word-2
-    cast-same-word-2
-    same-word-requires
+    (λ c. search needs)
+    (λ c. search needs)
+    (λ c. search needs)
+    (λ c. search needs)
+    (λ c. search needs)
+    (λ c. search needs)
+    (λ c. search needs)
+    (λ c. search needs)
+    (λ c κs. search needs)
     returns-3)

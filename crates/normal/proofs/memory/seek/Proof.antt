@@ -21,12 +21,6 @@ abbrev μ-loop : tie.MeasureT-loop
 loop-holds : tie.Need-loop-holds Inv-loop μ-loop
 loop-holds c = (omega arith, seek-empty (eqb (c .args .d)))
 
-mul-if1 : tie.Need-mul-if1 Inv-loop μ-loop
-mul-if1 c = search needs
-
-shared-slice-read-if1 : tie.Need-shared-slice-read-if1 Inv-loop μ-loop
-shared-slice-read-if1 c = search needs
-
 cast-if1 : tie.Need-cast-if1 Inv-loop μ-loop
 cast-if1 c = omega (arith, c .shared-slice-known .given (c .before .before .loop .i))
 
@@ -35,12 +29,6 @@ returns c =
     let l = c .before .before .before .loop in
     let a = c .before .before .before .before .args in
     first-here (eqb (a .d)) (a .numbers .now) (l .i) (a .n) (omega arith) (omega arith) (l .inv .1) (eq-eqb (a .d) (getD (a .numbers .now) (l .i) 0) (c .if1 .taken))
-
-add-i : tie.Need-add-i Inv-loop μ-loop
-add-i c = search needs
-
-loop-less : tie.Need-loop-less Inv-loop μ-loop
-loop-less c = search needs
 
 loop-again : tie.Need-loop-again Inv-loop μ-loop
 loop-again c =
@@ -61,11 +49,11 @@ seek-spec =
     Inv-loop
     μ-loop
     loop-holds
-    mul-if1
-    shared-slice-read-if1
+    (λ c. search needs)
+    (λ c. search needs)
     cast-if1
     returns
-    add-i
-    loop-less
+    (λ c. search needs)
+    (λ c. search needs)
     loop-again
     returns-2)

@@ -13,9 +13,6 @@ sub-seek c = omega (arith, notes-size (c .before .before .pre .1 .1 .1 .1))
 part-seek-start : tie.Need-part-seek-start
 part-seek-start c = omega (arith, notes-size (c .before .before .pre .1 .1 .1 .1))
 
-part-seek-end : tie.Need-part-seek-end
-part-seek-end c = search needs
-
 seek-requires : tie.Need-seek-requires
 seek-requires c κs =
     let h = c .before .before .before .pre .1 .1 .1 .1 in
@@ -33,12 +30,6 @@ write-reference-requires c κs =
     let i = c .before .before .seek .result in
     (index-most h i (c .before .if1 .left), omega (arith, out-size h, reference-room h i (c .before .if1 .left) (q .args .from) (q .pre .0) (q .pre .1 .0)))
 
-written-requires : tie.Need-written-requires
-written-requires c κs = search needs
-
-same-length : tie.Need-same-length
-same-length c = search needs
-
 returns-2 : tie.Need-returns-2
 returns-2 c s σ h =
     let q = c .before .before .before .before .before .before .before .before .before .before in
@@ -55,10 +46,10 @@ settle-spec =
     (tie.spec
     sub-seek
     part-seek-start
-    part-seek-end
+    (λ c. search needs)
     seek-requires
     returns
     write-reference-requires
-    written-requires
-    same-length
+    (λ c κs. search needs)
+    (λ c. search needs)
     returns-2)

@@ -12,12 +12,6 @@ returns c s o σ h = tag-low h (c .before .args .d) (c .if1 .taken)
 returns-2 : tie.Need-returns-2
 returns-2 c s o σ h = tag-none h (c .before .before .before .args .d) (omega arith) (omega arith)
 
-mul-result : tie.Need-mul-result
-mul-result c = search needs
-
-mul-result-2 : tie.Need-mul-result-2
-mul-result-2 c = search needs
-
 shared-slice-read-result : tie.Need-shared-slice-read-result
 shared-slice-read-result c = let h = c .before .before .before .before .pre .1 .1 .1 in omega (arith, notes-size h, h .few-nodes, h .place, h .source)
 
@@ -33,8 +27,8 @@ tag-of-spec =
     (tie.spec
     returns
     returns-2
-    mul-result
-    mul-result-2
+    (λ c. search needs)
+    (λ c. search needs)
     shared-slice-read-result
     cast-result
     returns-3)

@@ -9,21 +9,6 @@ use Rattle.normal.specs.Limits.{took-counted}
 use Rattle.normal.proofs.steps.arg.Statement.{statement}
 use Rattle.normal.proofs.steps.arg.Tie as tie
 
-add-note : tie.Need-add-note
-add-note c = search needs
-
-note-requires : tie.Need-note-requires
-note-requires c κs = search needs
-
-enum-known-noted : tie.Need-enum-known-noted
-enum-known-noted c = search needs
-
-enum-told : tie.Need-enum-told
-enum-told c = search needs
-
-same-length : tie.Need-same-length
-same-length c = search needs
-
 returns : tie.Need-returns
 returns c o σ h = absurd (never (c .before .before .before .before .note .ensures o σ h) (c .enum-told .given .1))
 
@@ -35,12 +20,6 @@ add-counted c =
     let t = told (c .before .before .before .before .before .note .ensures (r .0) (r .1 .0) h) (c .before .noted .given .1) in
     let k = t .0 in
     omega arith
-
-counted-requires : tie.Need-counted-requires
-counted-requires c κs = search needs
-
-same-length-2 : tie.Need-same-length-2
-same-length-2 c = search needs
 
 returns-2 : tie.Need-returns-2
 returns-2 c o σ h =
@@ -56,13 +35,13 @@ pub arg-spec : {M : Type 1} → statement M
 arg-spec =
     tie.close
     (tie.spec
-    add-note
-    note-requires
-    enum-known-noted
-    enum-told
-    same-length
+    (λ c. search needs)
+    (λ c κs. search needs)
+    (λ c. search needs)
+    (λ c. search needs)
+    (λ c. search needs)
     returns
     add-counted
-    counted-requires
-    same-length-2
+    (λ c κs. search needs)
+    (λ c. search needs)
     returns-2)

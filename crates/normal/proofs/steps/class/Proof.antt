@@ -4,9 +4,6 @@ use borrow.Author.Needs.{needs}
 use Rattle.normal.proofs.steps.class.Statement.{statement}
 use Rattle.normal.proofs.steps.class.Tie as tie
 
-bare-requires : tie.Need-bare-requires
-bare-requires c κs = search needs
-
 returns : tie.Need-returns
 returns c = rw (sym (c .before .bare .ensures) ∙ c .if1 .taken) refl
 
@@ -17,6 +14,6 @@ pub class-spec : {M : Type 1} → statement M
 class-spec =
     tie.close
     (tie.spec
-    bare-requires
+    (λ c κs. search needs)
     returns
     returns-2)

@@ -12,9 +12,6 @@ put-byte-requires c κs =
     let h = c .before .before .pre .1 .1 .1 .1 in
     omega (arith, out-size h)
 
-same-length : tie.Need-same-length
-same-length c = search needs
-
 returns : tie.Need-returns
 returns c s n σ h =
     let m = c .before .before .before .before .before .pre .0 in
@@ -22,4 +19,4 @@ returns c s n σ h =
     record { holds = x .1 s n σ h (omega arith); limits = took-put 1 (x .0) }
 
 pub close-spec : {M : Type 1} → statement M
-close-spec = tie.close (tie.spec put-byte-requires same-length returns)
+close-spec = tie.close (tie.spec put-byte-requires (λ c. search needs) returns)

@@ -9,24 +9,12 @@ use Rattle.normal.specs.Moves.{next-byte, put-moved}
 use Rattle.normal.proofs.steps.copy_byte.Statement.{statement}
 use Rattle.normal.proofs.steps.copy_byte.Tie as tie
 
-add-moved : tie.Need-add-moved
-add-moved c = search needs
-
-moved-requires : tie.Need-moved-requires
-moved-requires c κs = search needs
-
-shared-slice-read-put-byte : tie.Need-shared-slice-read-put-byte
-shared-slice-read-put-byte c = search needs
-
 put-byte-requires : tie.Need-put-byte-requires
 put-byte-requires c κs =
     let h = c .before .before .before .before .before .pre .1 .1 .1 in
     let w = passed-none (c .before .before .before .before .before .args .p) (c .before .moved .ensures) in
     let l = c .before .before .before .before .before .pre .0 in
     omega (arith, out-size h)
-
-same-length : tie.Need-same-length
-same-length c = search needs
 
 returns : tie.Need-returns
 returns c =
@@ -44,9 +32,9 @@ pub copy-byte-spec : {M : Type 1} → statement M
 copy-byte-spec =
     tie.close
     (tie.spec
-    add-moved
-    moved-requires
-    shared-slice-read-put-byte
+    (λ c. search needs)
+    (λ c κs. search needs)
+    (λ c. search needs)
     put-byte-requires
-    same-length
+    (λ c. search needs)
     returns)

@@ -18,12 +18,6 @@ push-requires c κs =
     let w = c .before .before .before .settle .ensures (b .1 .1 .0) (h .0) (h .1) in
     (c .before .before .before .before .before .before .before .before .pre .0, (room-after (b .1 .0) (w .limits), (_, (_, (_, w .holds)))))
 
-same-length : tie.Need-same-length
-same-length c = search needs
-
-same-length-2 : tie.Need-same-length-2
-same-length-2 c = search needs
-
 returns : tie.Need-returns
 returns c s σ h =
     let w = c .before .before .before .before .before .before .settle .ensures s σ h in
@@ -31,4 +25,4 @@ returns c s σ h =
     record { holds = x .holds; limits = took-more (c .before .before .before .before .before .before .before .before .before .before .before .args .from) (w .limits) (x .limits) (w .limits .stands) }
 
 pub enter-spec : {M : Type 1} → statement M
-enter-spec = tie.close (tie.spec settle-requires push-requires same-length same-length-2 returns)
+enter-spec = tie.close (tie.spec settle-requires push-requires (λ c. search needs) (λ c. search needs) returns)

@@ -12,9 +12,6 @@ use Rattle.normal.proofs.steps.enter_nested.Tie as tie
 tag-of-requires : tie.Need-tag-of-requires
 tag-of-requires c κs = let h = c .before .before .before .pre .1 .1 .1 in (h .0, (_, h .1))
 
-cast-if1 : tie.Need-cast-if1
-cast-if1 c = search needs
-
 newest-requires : tie.Need-newest-requires
 newest-requires c κs = let h = c .before .before .before .before .before .before .pre .1 .1 .1 in (h .0, (_, h .1))
 
@@ -24,12 +21,6 @@ settle-requires c κs =
     let m = b .1 .0 in
     (b .0, (record { nodes = m .nodes; table = omega arith; out = m .out; args = m .args }, b .1 .1))
 
-same-length : tie.Need-same-length
-same-length c = search needs
-
-same-length-2 : tie.Need-same-length-2
-same-length-2 c = search needs
-
 returns : tie.Need-returns
 returns c s σ h =
     let a = c .before .before .before .before .before .before .before .before .before .before .before .before .before .args in
@@ -37,15 +28,6 @@ returns c s σ h =
     let e = sym (c .before .before .before .before .before .before .before .before .before .tag-of .ensures s _ σ h) ∙ c .before .before .before .before .before .before .before .before .if1 .taken in
     let f = sym (c .before .before .before .before .before .before .newest .ensures s _ σ h) ∙ c .before .before .before .before .before .if2 .taken in
     went-as (nested-newest (a .u) (a .from) σ e f) (w .holds) (took-less (w .limits))
-
-enter-requires : tie.Need-enter-requires
-enter-requires c κs = search needs
-
-same-length-3 : tie.Need-same-length-3
-same-length-3 c = search needs
-
-same-length-4 : tie.Need-same-length-4
-same-length-4 c = search needs
 
 returns-2 : tie.Need-returns-2
 returns-2 c s σ h =
@@ -64,13 +46,13 @@ enter-nested-spec =
     tie.close
     (tie.spec
     tag-of-requires
-    cast-if1
+    (λ c. search needs)
     newest-requires
     settle-requires
-    same-length
-    same-length-2
+    (λ c. search needs)
+    (λ c. search needs)
     returns
-    enter-requires
-    same-length-3
-    same-length-4
+    (λ c κs. search needs)
+    (λ c. search needs)
+    (λ c. search needs)
     returns-2)

@@ -15,23 +15,11 @@ use Rattle.normal.specs.LeafSteps.{no-name-at, name-at, name-size, name-
 use Rattle.normal.proofs.steps.first_name.Statement.{statement}
 use Rattle.normal.proofs.steps.first_name.Tie as tie
 
-source-name-requires : tie.Need-source-name-requires
-source-name-requires c κs = search needs
-
-enum-known-from : tie.Need-enum-known-from
-enum-known-from c = search needs
-
-enum-told : tie.Need-enum-told
-enum-told c = search needs
-
 returns : tie.Need-returns
 returns c σ h =
     let a = c .before .before .before .before .before .before .args in
     let e = no-name-at (a .s .now) (a .p .at) (c .before .before .source-name .ensures) (c .enum-told .given .1) in
     by (with-none _ (ap name (h .rest) ∙ e)) refuses
-
-moved-requires : tie.Need-moved-requires
-moved-requires c κs = search needs
 
 put-name-requires : tie.Need-put-name-requires
 put-name-requires c κs =
@@ -39,9 +27,6 @@ put-name-requires c κs =
     let h = c .before .before .before .before .before .before .before .before .before .pre .1 in
     let x = name-at (a .s .now) (a .p .at) (c .before .before .before .before .before .source-name .ensures) (c .before .before .before .from .given .1) in
     (omega arith, (x .inside, (omega arith, name-fits x h refl (c .moved .ensures))))
-
-cast-note : tie.Need-cast-note
-cast-note c = search needs
 
 note-requires : tie.Need-note-requires
 note-requires c κs =
@@ -51,18 +36,6 @@ note-requires c κs =
     let e = c .before .before .before .before .moved .ensures in
     let y = c .before .before .before .put-name .ensures in
     ((omega arith, omega arith), ((omega arith, x .inside), (room-less (name-room x h refl e y), (_, (_, name-held x h refl e y)))))
-
-enum-known-noted : tie.Need-enum-known-noted
-enum-known-noted c = search needs
-
-enum-told-2 : tie.Need-enum-told-2
-enum-told-2 c = search needs
-
-same-length : tie.Need-same-length
-same-length c = search needs
-
-same-length-2 : tie.Need-same-length-2
-same-length-2 c = search needs
 
 returns-2 : tie.Need-returns-2
 returns-2 c σ h =
@@ -84,12 +57,6 @@ enter-requires c κs =
     let l = t .1 .0 in
     (t .1 .1 .1, (omega arith, (room-after (name-room x h refl e y) l, (_, (_, t .0)))))
 
-same-length-3 : tie.Need-same-length-3
-same-length-3 c = search needs
-
-same-length-4 : tie.Need-same-length-4
-same-length-4 c = search needs
-
 returns-3 : tie.Need-returns-3
 returns-3 c σ h =
     let a = c .before .before .before .before .before .before .before .before .before .before .before .before .before .before .before .before .before .before .before .before .before .before .before .before .before .before .args in
@@ -109,20 +76,20 @@ pub first-name-spec : {M : Type 1} → statement M
 first-name-spec =
     tie.close
     (tie.spec
-    source-name-requires
-    enum-known-from
-    enum-told
+    (λ c κs. search needs)
+    (λ c. search needs)
+    (λ c. search needs)
     returns
-    moved-requires
+    (λ c κs. search needs)
     put-name-requires
-    cast-note
+    (λ c. search needs)
     note-requires
-    enum-known-noted
-    enum-told-2
-    same-length
-    same-length-2
+    (λ c. search needs)
+    (λ c. search needs)
+    (λ c. search needs)
+    (λ c. search needs)
     returns-2
     enter-requires
-    same-length-3
-    same-length-4
+    (λ c. search needs)
+    (λ c. search needs)
     returns-3)

@@ -12,15 +12,6 @@ use Rattle.normal.specs.LeafSteps.{no-reference-at, reference-at, refere
 use Rattle.normal.proofs.steps.first_reference.Statement.{statement}
 use Rattle.normal.proofs.steps.first_reference.Tie as tie
 
-reference-requires : tie.Need-reference-requires
-reference-requires c κs = search needs
-
-enum-known-i : tie.Need-enum-known-i
-enum-known-i c = search needs
-
-enum-told : tie.Need-enum-told
-enum-told c = search needs
-
 returns : tie.Need-returns
 returns c σ h =
     let a = c .before .before .before .before .before .before .args in
@@ -36,9 +27,6 @@ returns-2 c σ h =
 entry-requires : tie.Need-entry-requires
 entry-requires c κs = (omega (arith, c .before .if1 .left), (_, (_, c .before .before .before .before .before .before .before .before .before .before .pre)))
 
-moved-requires : tie.Need-moved-requires
-moved-requires c κs = search needs
-
 settle-requires : tie.Need-settle-requires
 settle-requires c κs =
     let a = c .before .before .before .before .before .before .before .before .before .before .before .before .before .before .args in
@@ -53,12 +41,6 @@ settle-requires c κs =
         (_, (_, by-state e (holds-moved h (c .before .before .before .before .before .before .before .before .i .given .0 .1 .0) (omega arith) (x .inside)))),
       ),
     )
-
-same-length : tie.Need-same-length
-same-length c = search needs
-
-same-length-2 : tie.Need-same-length-2
-same-length-2 c = search needs
 
 returns-3 : tie.Need-returns-3
 returns-3 c σ h =
@@ -77,14 +59,14 @@ pub first-reference-spec : {M : Type 1} → statement M
 first-reference-spec =
     tie.close
     (tie.spec
-    reference-requires
-    enum-known-i
-    enum-told
+    (λ c κs. search needs)
+    (λ c. search needs)
+    (λ c. search needs)
     returns
     returns-2
     entry-requires
-    moved-requires
+    (λ c κs. search needs)
     settle-requires
-    same-length
-    same-length-2
+    (λ c. search needs)
+    (λ c. search needs)
     returns-3)

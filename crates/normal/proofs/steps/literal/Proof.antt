@@ -12,23 +12,11 @@ use Rattle.normal.specs.LeafSteps.{no-literal-at, literal-at, literal-is
 use Rattle.normal.proofs.steps.literal.Statement.{statement}
 use Rattle.normal.proofs.steps.literal.Tie as tie
 
-literal-requires : tie.Need-literal-requires
-literal-requires c κs = search needs
-
-enum-known-to : tie.Need-enum-known-to
-enum-known-to c = search needs
-
-enum-told : tie.Need-enum-told
-enum-told c = search needs
-
 returns : tie.Need-returns
 returns c σ h =
     let a = c .before .before .before .before .before .before .args in
     let e = no-literal-at (a .s .now) (a .p .at) (c .before .before .literal .ensures) (c .enum-told .given .1) in
     by (with-none _ (ap literal (h .rest) ∙ e)) refuses
-
-moved-requires : tie.Need-moved-requires
-moved-requires c κs = search needs
 
 put-byte-requires : tie.Need-put-byte-requires
 put-byte-requires c κs =
@@ -49,12 +37,6 @@ put-part-requires c κs =
     let w = passed-more 1 (passed-none (a .p) (c .before .before .before .before .moved .ensures)) (y .0) in
     let k = literal-marked h v (x .1) (c .before .before .before .before .moved .ensures) y in
     (omega (arith, v .some, x .1), (v .inside, omega (arith, out-size k, v .some, v .inside, x .1)))
-
-cast-note : tie.Need-cast-note
-cast-note c = search needs
-
-signed-requires : tie.Need-signed-requires
-signed-requires c κs = search needs
 
 sub-note : tie.Need-sub-note
 sub-note c =
@@ -79,12 +61,6 @@ note-requires c κs =
       ),
     )
 
-same-length : tie.Need-same-length
-same-length c = search needs
-
-same-length-2 : tie.Need-same-length-2
-same-length-2 c = search needs
-
 returns-2 : tie.Need-returns-2
 returns-2 c σ h =
     let a = c .before .before .before .before .before .before .before .before .before .before .before .before .before .before .before .before .before .before .before .before .before .args in
@@ -104,17 +80,17 @@ pub literal-spec : {M : Type 1} → statement M
 literal-spec =
     tie.close
     (tie.spec
-    literal-requires
-    enum-known-to
-    enum-told
+    (λ c κs. search needs)
+    (λ c. search needs)
+    (λ c. search needs)
     returns
-    moved-requires
+    (λ c κs. search needs)
     put-byte-requires
     put-part-requires
-    cast-note
-    signed-requires
+    (λ c. search needs)
+    (λ c κs. search needs)
     sub-note
     note-requires
-    same-length
-    same-length-2
+    (λ c. search needs)
+    (λ c. search needs)
     returns-2)

@@ -6,29 +6,14 @@ use borrow.Author.Needs.{needs}
 use Rattle.normal.proofs.steps.may_stand.Statement.{statement}
 use Rattle.normal.proofs.steps.may_stand.Tie as tie
 
-cast-if1 : tie.Need-cast-if1
-cast-if1 c = search needs
-
 returns : tie.Need-returns
 returns c = let a = c .before .args in stand-lit (a .q) (a .tag) (c .if1 .taken)
-
-one-of-requires : tie.Need-one-of-requires
-one-of-requires c κs = search needs
-
-one-of-requires-2 : tie.Need-one-of-requires-2
-one-of-requires-2 c κs = search needs
 
 returns-2 : tie.Need-returns-2
 returns-2 c =
     let a = c .before .before .before .before .args in
     let e = c .before .before in
     ap not (c .one-of2 .ensures) ∙ stand-ref (a .q) (a .tag) (e .before .if1 .left) (sym (e .one-of .ensures) ∙ c .before .if2 .taken)
-
-one-of-requires-3 : tie.Need-one-of-requires-3
-one-of-requires-3 c κs = search needs
-
-one-of-requires-4 : tie.Need-one-of-requires-4
-one-of-requires-4 c κs = search needs
 
 returns-3 : tie.Need-returns-3
 returns-3 c =
@@ -47,12 +32,12 @@ pub may-stand-spec : {M : Type 1} → statement M
 may-stand-spec =
     tie.close
     (tie.spec
-    cast-if1
+    (λ c. search needs)
     returns
-    one-of-requires
-    one-of-requires-2
+    (λ c κs. search needs)
+    (λ c κs. search needs)
     returns-2
-    one-of-requires-3
-    one-of-requires-4
+    (λ c κs. search needs)
+    (λ c κs. search needs)
     returns-3
     returns-4)

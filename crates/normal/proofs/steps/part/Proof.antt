@@ -11,23 +11,11 @@ use Rattle.normal.specs.LeafSteps.{no-name-at, name-at, name-size, name-
 use Rattle.normal.proofs.steps.part.Statement.{statement}
 use Rattle.normal.proofs.steps.part.Tie as tie
 
-source-name-requires : tie.Need-source-name-requires
-source-name-requires c κs = search needs
-
-enum-known-from : tie.Need-enum-known-from
-enum-known-from c = search needs
-
-enum-told : tie.Need-enum-told
-enum-told c = search needs
-
 returns : tie.Need-returns
 returns c σ h =
     let a = c .before .before .before .before .before .before .args in
     let e = no-name-at (a .s .now) (a .p .at) (c .before .before .source-name .ensures) (c .enum-told .given .1) in
     by (with-none _ (ap name (h .rest) ∙ e)) refuses
-
-moved-requires : tie.Need-moved-requires
-moved-requires c κs = search needs
 
 put-name-requires : tie.Need-put-name-requires
 put-name-requires c κs =
@@ -35,9 +23,6 @@ put-name-requires c κs =
     let h = c .before .before .before .before .before .before .before .before .before .pre .1 .1 in
     let x = name-at (a .s .now) (a .p .at) (c .before .before .before .before .before .source-name .ensures) (c .before .before .before .from .given .1) in
     (omega arith, (x .inside, (omega arith, name-fits x h refl (c .moved .ensures))))
-
-cast-note : tie.Need-cast-note
-cast-note c = search needs
 
 note-requires : tie.Need-note-requires
 note-requires c κs =
@@ -48,12 +33,6 @@ note-requires c κs =
     let e = c .before .before .before .before .moved .ensures in
     let y = c .before .before .before .put-name .ensures in
     ((omega arith, omega arith), ((omega arith, x .inside), (room-less (name-room x h refl e y), (_, (_, name-held x h refl e y)))))
-
-same-length : tie.Need-same-length
-same-length c = search needs
-
-same-length-2 : tie.Need-same-length-2
-same-length-2 c = search needs
 
 returns-2 : tie.Need-returns-2
 returns-2 c σ h =
@@ -71,14 +50,14 @@ pub part-spec : {M : Type 1} → statement M
 part-spec =
     tie.close
     (tie.spec
-    source-name-requires
-    enum-known-from
-    enum-told
+    (λ c κs. search needs)
+    (λ c. search needs)
+    (λ c. search needs)
     returns
-    moved-requires
+    (λ c κs. search needs)
     put-name-requires
-    cast-note
+    (λ c. search needs)
     note-requires
-    same-length
-    same-length-2
+    (λ c. search needs)
+    (λ c. search needs)
     returns-2)

@@ -14,12 +14,6 @@ use Rattle.normal.proofs.steps.wrap.Tie as tie
 tag-of-requires : tie.Need-tag-of-requires
 tag-of-requires c κs = (_, (_, c .before .before .before .before .pre .1 .1 .1))
 
-may-stand-requires : tie.Need-may-stand-requires
-may-stand-requires c κs = search needs
-
-same-length : tie.Need-same-length
-same-length c = search needs
-
 returns : tie.Need-returns
 returns c σ h =
     let a = c .before .before .before .before .before .before .before .args in
@@ -30,15 +24,6 @@ note-requires c κs =
     let t = c .before .before .before .before .before .before .before .before .pre .0 in
     let b = c .before .before .before .before .before .before .before .before .pre .1 .1 in
     ((omega arith, omega arith), ((omega arith, omega arith), (room-less (b .0), (_, b .1))))
-
-enum-known-noted : tie.Need-enum-known-noted
-enum-known-noted c = search needs
-
-enum-told : tie.Need-enum-told
-enum-told c = search needs
-
-same-length-2 : tie.Need-same-length-2
-same-length-2 c = search needs
 
 returns-2 : tie.Need-returns-2
 returns-2 c σ h = absurd (never (c .before .before .before .before .note .ensures _ σ h) (c .enum-told .given .1))
@@ -51,12 +36,6 @@ enter-requires c κs =
     let t = told (c .before .before .before .before .before .before .before .note .ensures _ (r .0) (r .1)) (c .before .before .before .noted .given .1) in
     let l = t .1 .0 in
     (t .1 .1 .1, (omega arith, (room-after (b .1 .0) l, (_, (_, t .0)))))
-
-same-length-3 : tie.Need-same-length-3
-same-length-3 c = search needs
-
-same-length-4 : tie.Need-same-length-4
-same-length-4 c = search needs
 
 returns-3 : tie.Need-returns-3
 returns-3 c σ h =
@@ -72,15 +51,15 @@ wrap-spec =
     tie.close
     (tie.spec
     tag-of-requires
-    may-stand-requires
-    same-length
+    (λ c κs. search needs)
+    (λ c. search needs)
     returns
     note-requires
-    enum-known-noted
-    enum-told
-    same-length-2
+    (λ c. search needs)
+    (λ c. search needs)
+    (λ c. search needs)
     returns-2
     enter-requires
-    same-length-3
-    same-length-4
+    (λ c. search needs)
+    (λ c. search needs)
     returns-3)

@@ -10,16 +10,10 @@ use native.Mathlib.Omega.{arith}
 use Rattle.normal.proofs.words.is_word.Statement.{statement}
 use Rattle.normal.proofs.words.is_word.Tie as tie
 
-sub-if1 : tie.Need-sub-if1
-sub-if1 c = search needs
-
 returns : tie.Need-returns
 returns c =
     let a = c .before .before .before .args in
     sym (same-no _ _ (λ e. c .if1 .taken (sym (part-length (a .s .now) (a .from) (a .to) (omega arith)) ∙ e)))
-
-starts-with-requires : tie.Need-starts-with-requires
-starts-with-requires c κs = search needs
 
 returns-2 : tie.Need-returns-2
 returns-2 c =
@@ -33,7 +27,7 @@ pub is-word-spec : {M : Type 1} → statement M
 is-word-spec =
     tie.close
     (tie.spec
-    sub-if1
+    (λ c. search needs)
     returns
-    starts-with-requires
+    (λ c κs. search needs)
     returns-2)

@@ -7,21 +7,9 @@ use borrow.Author.Needs.{needs}
 use Rattle.normal.proofs.words.listed_last.Statement.{statement}
 use Rattle.normal.proofs.words.listed_last.Tie as tie
 
-slice-aggregate-is-word : tie.Need-slice-aggregate-is-word
-slice-aggregate-is-word c = search needs
-
-is-word-requires : tie.Need-is-word-requires
-is-word-requires c κs = search needs
-
 returns : tie.Need-returns
 unfolding reserved listed b
 returns c = rw (sym (c .before .is-word .ensures) ∙ c .if1 .taken) refl
-
-slice-aggregate-is-word-2 : tie.Need-slice-aggregate-is-word-2
-slice-aggregate-is-word-2 c = search needs
-
-is-word-requires-2 : tie.Need-is-word-requires-2
-is-word-requires-2 c κs = search needs
 
 returns-2 : tie.Need-returns-2
 unfolding reserved listed b
@@ -31,12 +19,6 @@ returns-2 c =
       sym (c1 .before .is-word .ensures) ∙ c1 .if1 .left,
       sym (c .before .is-word2 .ensures) ∙ c .if2 .taken,
     ) refl
-
-slice-aggregate-is-word-3 : tie.Need-slice-aggregate-is-word-3
-slice-aggregate-is-word-3 c = search needs
-
-is-word-requires-3 : tie.Need-is-word-requires-3
-is-word-requires-3 c κs = search needs
 
 returns-3 : tie.Need-returns-3
 unfolding reserved listed b
@@ -48,12 +30,6 @@ returns-3 c =
       sym (c2 .before .is-word2 .ensures) ∙ c2 .if2 .left,
       sym (c .before .is-word3 .ensures) ∙ c .if3 .taken,
     ) refl
-
-slice-aggregate-is-word-4 : tie.Need-slice-aggregate-is-word-4
-slice-aggregate-is-word-4 c = search needs
-
-is-word-requires-4 : tie.Need-is-word-requires-4
-is-word-requires-4 c κs = search needs
 
 returns-4 : tie.Need-returns-4
 unfolding reserved listed b
@@ -67,12 +43,6 @@ returns-4 c =
       sym (c3 .before .is-word3 .ensures) ∙ c3 .if3 .left,
       sym (c .before .is-word4 .ensures) ∙ c .if4 .taken,
     ) refl
-
-slice-aggregate-is-word-5 : tie.Need-slice-aggregate-is-word-5
-slice-aggregate-is-word-5 c = search needs
-
-is-word-requires-5 : tie.Need-is-word-requires-5
-is-word-requires-5 c κs = search needs
 
 returns-5 : tie.Need-returns-5
 unfolding reserved listed b
@@ -88,12 +58,6 @@ returns-5 c =
       sym (c4 .before .is-word4 .ensures) ∙ c4 .if4 .left,
       sym (c .before .is-word5 .ensures) ∙ c .if5 .taken,
     ) refl
-
-slice-aggregate-is-word-6 : tie.Need-slice-aggregate-is-word-6
-slice-aggregate-is-word-6 c = search needs
-
-is-word-requires-6 : tie.Need-is-word-requires-6
-is-word-requires-6 c κs = search needs
 
 returns-6 : tie.Need-returns-6
 unfolding reserved listed b
@@ -111,12 +75,6 @@ returns-6 c =
       sym (c5 .before .is-word5 .ensures) ∙ c5 .if5 .left,
       sym (c .before .is-word6 .ensures) ∙ c .if6 .taken,
     ) refl
-
-slice-aggregate-is-word-7 : tie.Need-slice-aggregate-is-word-7
-slice-aggregate-is-word-7 c = search needs
-
-is-word-requires-7 : tie.Need-is-word-requires-7
-is-word-requires-7 c κs = search needs
 
 returns-7 : tie.Need-returns-7
 unfolding reserved listed b
@@ -140,24 +98,24 @@ pub listed-last-spec : {M : Type 1} → statement M
 listed-last-spec =
     tie.close
     (tie.spec
-    slice-aggregate-is-word
-    is-word-requires
+    (λ c. search needs)
+    (λ c κs. search needs)
     returns
-    slice-aggregate-is-word-2
-    is-word-requires-2
+    (λ c. search needs)
+    (λ c κs. search needs)
     returns-2
-    slice-aggregate-is-word-3
-    is-word-requires-3
+    (λ c. search needs)
+    (λ c κs. search needs)
     returns-3
-    slice-aggregate-is-word-4
-    is-word-requires-4
+    (λ c. search needs)
+    (λ c κs. search needs)
     returns-4
-    slice-aggregate-is-word-5
-    is-word-requires-5
+    (λ c. search needs)
+    (λ c κs. search needs)
     returns-5
-    slice-aggregate-is-word-6
-    is-word-requires-6
+    (λ c. search needs)
+    (λ c κs. search needs)
     returns-6
-    slice-aggregate-is-word-7
-    is-word-requires-7
+    (λ c. search needs)
+    (λ c κs. search needs)
     returns-7)

@@ -10,21 +10,12 @@ use native.Mathlib.Omega.{arith}
 use Rattle.normal.proofs.words.same_word.Statement.{statement}
 use Rattle.normal.proofs.words.same_word.Tie as tie
 
-sub-n : tie.Need-sub-n
-sub-n c = search needs
-
-sub-if1 : tie.Need-sub-if1
-sub-if1 c = search needs
-
 returns : tie.Need-returns
 returns c =
     let a = c .before .before .args in
     let l = part-length (a .s .now) (a .a) (a .b) (omega arith) in
     let m = part-length (a .s .now) (a .from) (a .to) (omega arith) in
     sym (same-no (part (a .s .now) (a .a) (a .b)) (part (a .s .now) (a .from) (a .to)) (λ e. c .if1 .taken (sym l ∙ e ∙ m)))
-
-same-part-requires : tie.Need-same-part-requires
-same-part-requires c κs = search needs
 
 returns-2 : tie.Need-returns-2
 returns-2 c =
@@ -35,8 +26,8 @@ pub same-word-spec : {M : Type 1} → statement M
 same-word-spec =
     tie.close
     (tie.spec
-    sub-n
-    sub-if1
+    (λ c. search needs)
+    (λ c. search needs)
     returns
-    same-part-requires
+    (λ c κs. search needs)
     returns-2)

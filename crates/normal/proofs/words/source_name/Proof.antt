@@ -9,17 +9,8 @@ use native.Mathlib.Omega.{arith}
 use Rattle.normal.proofs.words.source_name.Statement.{statement}
 use Rattle.normal.proofs.words.source_name.Tie as tie
 
-slice-aggregate-starts-with : tie.Need-slice-aggregate-starts-with
-slice-aggregate-starts-with c = search needs
-
-starts-with-requires : tie.Need-starts-with-requires
-starts-with-requires c κs = search needs
-
 returns : tie.Need-returns
 returns c = let a = c .before .before .before .before .args in name-zero (a .s .now) (a .at) _ refl (sym (c .before .starts-with .ensures) ∙ c .if1 .taken)
-
-decimal-requires : tie.Need-decimal-requires
-decimal-requires c κs = search needs
 
 returns-2 : tie.Need-returns-2
 returns-2 c =
@@ -28,21 +19,12 @@ returns-2 c =
     let z = sym (c .before .before .before .starts-with .ensures) ∙ c .before .before .if1 .left in
     name-end (a .s .now) (a .at) _ (d .behind) z (c .if2 .taken)
 
-sub-left : tie.Need-sub-left
-sub-left c = search needs
-
 returns-3 : tie.Need-returns-3
 returns-3 c =
     let a = c .before .before .before .before .before .before .before .before .args in
     let d = c .before .before .before .decimal .ensures in
     let z = sym (c .before .before .before .before .before .starts-with .ensures) ∙ c .before .before .before .before .if1 .left in
     name-long (a .s .now) (a .at) _ (d .behind) z (omega arith) (omega (arith, d .is))
-
-add-to : tie.Need-add-to
-add-to c = search needs
-
-word-ok-requires : tie.Need-word-ok-requires
-word-ok-requires c κs = search needs
 
 returns-4 : tie.Need-returns-4
 returns-4 c =
@@ -71,14 +53,14 @@ pub source-name-spec : {M : Type 1} → statement M
 source-name-spec =
     tie.close
     (tie.spec
-    slice-aggregate-starts-with
-    starts-with-requires
+    (λ c. search needs)
+    (λ c κs. search needs)
     returns
-    decimal-requires
+    (λ c κs. search needs)
     returns-2
-    sub-left
+    (λ c. search needs)
     returns-3
-    add-to
-    word-ok-requires
+    (λ c. search needs)
+    (λ c κs. search needs)
     returns-4
     returns-5)

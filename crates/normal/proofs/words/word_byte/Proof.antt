@@ -8,9 +8,6 @@ use native.Mathlib.Omega.{arith}
 use Rattle.normal.proofs.words.word_byte.Statement.{statement}
 use Rattle.normal.proofs.words.word_byte.Tie as tie
 
-digit-value-requires : tie.Need-digit-value-requires
-digit-value-requires c κs = search needs
-
 returns : tie.Need-returns
 unfolding wordByte digit
 returns c = let k = c .before .before .args .c in rw (lt-ltb (digit-value k) 36 (omega (arith, c .before .digit-value .ensures))) refl
@@ -23,6 +20,6 @@ pub word-byte-spec : {M : Type 1} → statement M
 word-byte-spec =
     tie.close
     (tie.spec
-    digit-value-requires
+    (λ c κs. search needs)
     returns
     returns-2)

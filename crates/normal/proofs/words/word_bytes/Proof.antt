@@ -22,9 +22,6 @@ loop-holds c = refl
 shared-slice-read-word-byte : tie.Need-shared-slice-read-word-byte Inv-loop μ-loop
 shared-slice-read-word-byte c = omega arith
 
-word-byte-requires : tie.Need-word-byte-requires Inv-loop μ-loop
-word-byte-requires c κs = search needs
-
 returns : tie.Need-returns Inv-loop μ-loop
 returns c =
     let l = c .before .before .before .before .loop in
@@ -57,7 +54,7 @@ word-bytes-spec =
     μ-loop
     loop-holds
     shared-slice-read-word-byte
-    word-byte-requires
+    (λ c κs. search needs)
     returns
     add-i
     loop-less

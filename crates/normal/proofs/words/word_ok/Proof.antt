@@ -16,12 +16,6 @@ returns : tie.Need-returns
 unfolding nameOk
 returns c = let a = c .before .before .args in rw (part-none (a .s .now) (a .from) (a .to) (omega arith)) refl
 
-shared-slice-read-digit-value : tie.Need-shared-slice-read-digit-value
-shared-slice-read-digit-value c = search needs
-
-digit-value-requires : tie.Need-digit-value-requires
-digit-value-requires c κs = search needs
-
 returns-2 : tie.Need-returns-2
 unfolding digit
 returns-2 c =
@@ -29,18 +23,12 @@ returns-2 c =
     let k = getD (a .s .now) (a .from) 0 in
     rw (name-rules (a .s .now) (a .from) (a .to) (omega arith) (omega arith), lt-ltb (digit-value k) 10 (omega (arith, c .before .digit-value .ensures))) refl
 
-word-bytes-requires : tie.Need-word-bytes-requires
-word-bytes-requires c κs = search needs
-
 returns-3 : tie.Need-returns-3
 unfolding digit
 returns-3 c =
     let a = c .before .before .before .before .before .before .before .args in
     let k = getD (a .s .now) (a .from) 0 in
     rw (name-rules (a .s .now) (a .from) (a .to) (omega arith) (omega arith), le-ltb (digit-value k) 10 (omega (arith, c .before .before .before .digit-value .ensures)), sym (c .before .word-bytes .ensures) ∙ not-true _ (c .if3 .taken)) refl
-
-is-reserved-requires : tie.Need-is-reserved-requires
-is-reserved-requires c κs = search needs
 
 returns-4 : tie.Need-returns-4
 unfolding digit
@@ -55,10 +43,10 @@ word-ok-spec =
     tie.close
     (tie.spec
     returns
-    shared-slice-read-digit-value
-    digit-value-requires
+    (λ c. search needs)
+    (λ c κs. search needs)
     returns-2
-    word-bytes-requires
+    (λ c κs. search needs)
     returns-3
-    is-reserved-requires
+    (λ c κs. search needs)
     returns-4)

@@ -8,18 +8,6 @@ use native.Mathlib.Omega.{arith}
 use Rattle.normal.proofs.write.digit_of.Statement.{statement}
 use Rattle.normal.proofs.write.digit_of.Tie as tie
 
-cast-result : tie.Need-cast-result
-cast-result c = search needs
-
-add-result : tie.Need-add-result
-add-result c = search needs
-
-cast-result-2 : tie.Need-cast-result-2
-cast-result-2 c = search needs
-
-add-result-2 : tie.Need-add-result-2
-add-result-2 c = search needs
-
 returns : tie.Need-returns
 unfolding digitOf if_then_else_
 returns c = rw (lt-ltb (c .before .args .d) 10 (omega arith)) refl
@@ -32,9 +20,9 @@ pub digit-of-spec : {M : Type 1} → statement M
 digit-of-spec =
     tie.close
     (tie.spec
-    cast-result
-    add-result
-    cast-result-2
-    add-result-2
+    (λ c. search needs)
+    (λ c. search needs)
+    (λ c. search needs)
+    (λ c. search needs)
     returns
     returns-2)

@@ -12,9 +12,6 @@ use native.Mathlib.Omega.{arith}
 use Rattle.normal.proofs.write.write_name.Statement.{statement}
 use Rattle.normal.proofs.write.write_name.Tie as tie
 
-sub-n : tie.Need-sub-n
-sub-n c = search needs
-
 write-decimal-requires : tie.Need-write-decimal-requires
 write-decimal-requires c κs =
     let a = c .before .before .before .args in
@@ -23,15 +20,6 @@ write-decimal-requires c κs =
     let d : lengthDigits p ≡ decimal (suc (a .to - a .from)) (a .to - a .from) = ap (λ (k : ℕ). decimal (suc k) k) l in
     let n = length-append (lengthDigits p) p in
     (omega arith, omega (arith, ap length d))
-
-sub-copy : tie.Need-sub-copy
-sub-copy c = search needs
-
-part-copy-start : tie.Need-part-copy-start
-part-copy-start c = search needs
-
-part-copy-end : tie.Need-part-copy-end
-part-copy-end c = search needs
 
 copy-requires : tie.Need-copy-requires
 copy-requires c κs =
@@ -51,9 +39,6 @@ add-result c =
     let n = length-append (lengthDigits p) p in
     omega (arith, ap length d, c .before .before .before .before .before .before .before .write-decimal .ensures .end)
 
-same-length : tie.Need-same-length
-same-length c = search needs
-
 returns : tie.Need-returns
 returns c =
     let a = c .before .before .before .before .before .before .before .before .before .before .before .args in
@@ -67,12 +52,12 @@ pub write-name-spec : {M : Type 1} → statement M
 write-name-spec =
     tie.close
     (tie.spec
-    sub-n
+    (λ c. search needs)
     write-decimal-requires
-    sub-copy
-    part-copy-start
-    part-copy-end
+    (λ c. search needs)
+    (λ c. search needs)
+    (λ c. search needs)
     copy-requires
     add-result
-    same-length
+    (λ c. search needs)
     returns)

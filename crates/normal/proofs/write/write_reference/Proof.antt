@@ -9,20 +9,8 @@ use native.Mathlib.Omega.{arith}
 use Rattle.normal.proofs.write.write_reference.Statement.{statement}
 use Rattle.normal.proofs.write.write_reference.Tie as tie
 
-slice-write-out : tie.Need-slice-write-out
-slice-write-out c = search needs
-
-add-out : tie.Need-add-out
-add-out c = search needs
-
 slice-write-out-2 : tie.Need-slice-write-out-2
 slice-write-out-2 c = let e = ref-none (c .before .before .args .i) (c .if1 .taken) in simp length-set (omega (arith, ap length e))
-
-add-result : tie.Need-add-result
-add-result c = search needs
-
-same-length : tie.Need-same-length
-same-length c = search needs
 
 returns : tie.Need-returns
 returns c =
@@ -30,29 +18,11 @@ returns c =
     let e = ref-none (a .i) (c .if1 .taken) in
     wrote-as (sym e) (wrote-two (a .out .now) (a .at) 83 95 (omega (arith, ap length e)))
 
-sub-n : tie.Need-sub-n
-sub-n c = search needs
-
-digit-of-requires : tie.Need-digit-of-requires
-digit-of-requires c κs = search needs
-
-add-out-2 : tie.Need-add-out-2
-add-out-2 c = search needs
-
 slice-write-out-3 : tie.Need-slice-write-out-3
 slice-write-out-3 c = let e = ref-one (c .before .before .before .before .args .i) (omega arith) (omega arith) in simp length-set (omega (arith, ap length e))
 
-add-out-3 : tie.Need-add-out-3
-add-out-3 c = search needs
-
 slice-write-out-4 : tie.Need-slice-write-out-4
 slice-write-out-4 c = let e = ref-one (c .before .before .before .before .args .i) (omega arith) (omega arith) in simp length-set (omega (arith, ap length e))
-
-add-result-2 : tie.Need-add-result-2
-add-result-2 c = search needs
-
-same-length-2 : tie.Need-same-length-2
-same-length-2 c = search needs
 
 returns-2 : tie.Need-returns-2
 returns-2 c =
@@ -60,35 +30,14 @@ returns-2 c =
     let e = ref-one (a .i) (omega arith) (omega arith) in
     wrote-as (ap (λ (d : ℕ). 83 ∷ d ∷ 95 ∷ []) (c .digit-of .ensures) ∙ sym e) (wrote-three (a .out .now) (a .at) 83 _ 95 (omega (arith, ap length e)))
 
-digit-of-requires-2 : tie.Need-digit-of-requires-2
-digit-of-requires-2 c κs = search needs
-
-add-out-4 : tie.Need-add-out-4
-add-out-4 c = search needs
-
 slice-write-out-5 : tie.Need-slice-write-out-5
 slice-write-out-5 c = let e = ref-two (c .before .before .before .before .before .args .i) (omega arith) (omega arith) (omega arith) in simp length-set (omega (arith, ap length e))
-
-digit-of-requires-3 : tie.Need-digit-of-requires-3
-digit-of-requires-3 c κs = search needs
-
-add-out-5 : tie.Need-add-out-5
-add-out-5 c = search needs
 
 slice-write-out-6 : tie.Need-slice-write-out-6
 slice-write-out-6 c = let e = ref-two (c .before .before .before .before .before .before .args .i) (omega arith) (omega arith) (omega arith) in simp length-set (omega (arith, ap length e))
 
-add-out-6 : tie.Need-add-out-6
-add-out-6 c = search needs
-
 slice-write-out-7 : tie.Need-slice-write-out-7
 slice-write-out-7 c = let e = ref-two (c .before .before .before .before .before .before .args .i) (omega arith) (omega arith) (omega arith) in simp length-set (omega (arith, ap length e))
-
-add-result-3 : tie.Need-add-result-3
-add-result-3 c = search needs
-
-same-length-3 : tie.Need-same-length-3
-same-length-3 c = search needs
 
 returns-3 : tie.Need-returns-3
 returns-3 c =
@@ -96,44 +45,17 @@ returns-3 c =
     let e = ref-two (a .i) (omega arith) (omega arith) (omega arith) in
     wrote-as (ap₂ (λ (d f : ℕ). 83 ∷ d ∷ f ∷ 95 ∷ []) (c .before .digit-of2 .ensures) (c .digit-of3 .ensures) ∙ sym e) (wrote-four (a .out .now) (a .at) 83 _ _ 95 (omega (arith, ap length e)))
 
-digit-of-requires-4 : tie.Need-digit-of-requires-4
-digit-of-requires-4 c κs = search needs
-
-add-out-7 : tie.Need-add-out-7
-add-out-7 c = search needs
-
 slice-write-out-8 : tie.Need-slice-write-out-8
 slice-write-out-8 c = let e = ref-three (c .before .before .before .before .before .args .i) (omega arith) (omega arith) (omega arith) in simp length-set (omega (arith, ap length e))
-
-digit-of-requires-5 : tie.Need-digit-of-requires-5
-digit-of-requires-5 c κs = search needs
-
-add-out-8 : tie.Need-add-out-8
-add-out-8 c = search needs
 
 slice-write-out-9 : tie.Need-slice-write-out-9
 slice-write-out-9 c = let e = ref-three (c .before .before .before .before .before .before .args .i) (omega arith) (omega arith) (omega arith) in simp length-set (omega (arith, ap length e))
 
-digit-of-requires-6 : tie.Need-digit-of-requires-6
-digit-of-requires-6 c κs = search needs
-
-add-out-9 : tie.Need-add-out-9
-add-out-9 c = search needs
-
 slice-write-out-10 : tie.Need-slice-write-out-10
 slice-write-out-10 c = let e = ref-three (c .before .before .before .before .before .before .before .args .i) (omega arith) (omega arith) (omega arith) in simp length-set (omega (arith, ap length e))
 
-add-out-10 : tie.Need-add-out-10
-add-out-10 c = search needs
-
 slice-write-out-11 : tie.Need-slice-write-out-11
 slice-write-out-11 c = let e = ref-three (c .before .before .before .before .before .before .before .args .i) (omega arith) (omega arith) (omega arith) in simp length-set (omega (arith, ap length e))
-
-add-result-4 : tie.Need-add-result-4
-add-result-4 c = search needs
-
-same-length-4 : tie.Need-same-length-4
-same-length-4 c = search needs
 
 returns-4 : tie.Need-returns-4
 returns-4 c =
@@ -146,43 +68,43 @@ pub write-reference-spec : {M : Type 1} → statement M
 write-reference-spec =
     tie.close
     (tie.spec
-    slice-write-out
-    add-out
+    (λ c. search needs)
+    (λ c. search needs)
     slice-write-out-2
-    add-result
-    same-length
+    (λ c. search needs)
+    (λ c. search needs)
     returns
-    sub-n
-    digit-of-requires
-    add-out-2
+    (λ c. search needs)
+    (λ c κs. search needs)
+    (λ c. search needs)
     slice-write-out-3
-    add-out-3
+    (λ c. search needs)
     slice-write-out-4
-    add-result-2
-    same-length-2
+    (λ c. search needs)
+    (λ c. search needs)
     returns-2
-    digit-of-requires-2
-    add-out-4
+    (λ c κs. search needs)
+    (λ c. search needs)
     slice-write-out-5
-    digit-of-requires-3
-    add-out-5
+    (λ c κs. search needs)
+    (λ c. search needs)
     slice-write-out-6
-    add-out-6
+    (λ c. search needs)
     slice-write-out-7
-    add-result-3
-    same-length-3
+    (λ c. search needs)
+    (λ c. search needs)
     returns-3
-    digit-of-requires-4
-    add-out-7
+    (λ c κs. search needs)
+    (λ c. search needs)
     slice-write-out-8
-    digit-of-requires-5
-    add-out-8
+    (λ c κs. search needs)
+    (λ c. search needs)
     slice-write-out-9
-    digit-of-requires-6
-    add-out-9
+    (λ c κs. search needs)
+    (λ c. search needs)
     slice-write-out-10
-    add-out-10
+    (λ c. search needs)
     slice-write-out-11
-    add-result-4
-    same-length-4
+    (λ c. search needs)
+    (λ c. search needs)
     returns-4)

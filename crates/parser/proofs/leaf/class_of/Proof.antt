@@ -47,9 +47,6 @@ returns c =
 add-next : tie.Need-add-next Inv-loop μ-loop
 add-next c = omega arith
 
-part-from-requires : tie.Need-part-from-requires Inv-loop μ-loop
-part-from-requires c κs = search needs
-
 loop-less : tie.Need-loop-less Inv-loop μ-loop
 loop-less c = omega arith
 
@@ -89,7 +86,7 @@ class-of-spec =
     sub-size
     returns
     add-next
-    part-from-requires
+    (λ c κs. search needs)
     loop-less
     loop-again
     sub-back-2

@@ -14,12 +14,6 @@ returns : tie.Need-returns
 unfolding digit-ahead
 returns c = sym (ap digit-ahead (rest-none (c .before .before .args .s .now) (c .before .before .args .at) (omega arith)))
 
-shared-slice-read-digit-value : tie.Need-shared-slice-read-digit-value
-shared-slice-read-digit-value c = search needs
-
-digit-value-requires : tie.Need-digit-value-requires
-digit-value-requires c κs = search needs
-
 returns-2 : tie.Need-returns-2
 unfolding digit-ahead digit
 returns-2 c =
@@ -27,4 +21,4 @@ returns-2 c =
     ap (λ (v : ℕ). ltb v 10) (c .digit-value .ensures) ∙ sym (ap digit-ahead (rest-some (a .s .now) (a .at) (omega arith)))
 
 pub digit-ahead-spec : {M : Type 1} → statement M
-digit-ahead-spec = tie.close (tie.spec returns shared-slice-read-digit-value digit-value-requires returns-2)
+digit-ahead-spec = tie.close (tie.spec returns (λ c. search needs) (λ c κs. search needs) returns-2)

@@ -7,9 +7,6 @@ use borrow.Author.Needs.{needs}
 use Rattle.parser.proofs.leaf.digit_or_c.Statement.{statement}
 use Rattle.parser.proofs.leaf.digit_or_c.Tie as tie
 
-digit-value-requires : tie.Need-digit-value-requires
-digit-value-requires c κs = search needs
-
 returns : tie.Need-returns
 unfolding digit
 returns c =
@@ -23,4 +20,4 @@ returns-2 c =
     rw (le-ltb _ _ h)
 
 pub digit-or-c-spec : {M : Type 1} → statement M
-digit-or-c-spec = tie.close (tie.spec digit-value-requires returns returns-2)
+digit-or-c-spec = tie.close (tie.spec (λ c κs. search needs) returns returns-2)

@@ -28,9 +28,6 @@ returns c =
 shared-slice-read-opened : tie.Need-shared-slice-read-opened Inv-loop μ-loop
 shared-slice-read-opened c = omega arith
 
-opened-requires : tie.Need-opened-requires Inv-loop μ-loop
-opened-requires c κs = search needs
-
 add-end : tie.Need-add-end Inv-loop μ-loop
 add-end c = omega arith
 
@@ -63,7 +60,7 @@ expression-spec =
     loop-holds
     returns
     shared-slice-read-opened
-    opened-requires
+    (λ c κs. search needs)
     add-end
     loop-less
     loop-again

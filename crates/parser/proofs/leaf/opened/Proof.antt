@@ -6,15 +6,9 @@ use borrow.Author.Needs.{needs}
 use Rattle.parser.proofs.leaf.opened.Statement.{statement}
 use Rattle.parser.proofs.leaf.opened.Tie as tie
 
-add-result : tie.Need-add-result
-add-result c = search needs
-
 returns : tie.Need-returns
 unfolding open-after if_then_else_
 returns c = rw (c .if1 .taken)
-
-sub-result : tie.Need-sub-result
-sub-result c = search needs
 
 returns-2 : tie.Need-returns-2
 unfolding open-after if_then_else_
@@ -25,4 +19,4 @@ unfolding open-after if_then_else_
 returns-3 c = rw (ne-eqb _ _ (c .before .if1 .left), ne-eqb _ _ (c .if2 .left))
 
 pub opened-spec : {M : Type 1} → statement M
-opened-spec = tie.close (tie.spec add-result returns sub-result returns-2 returns-3)
+opened-spec = tie.close (tie.spec (λ c. search needs) returns (λ c. search needs) returns-2 returns-3)

@@ -10,39 +10,18 @@ use borrow.Author.Needs.{needs}
 use Rattle.parser.proofs.leaf.std_ahead.Statement.{statement}
 use Rattle.parser.proofs.leaf.std_ahead.Tie as tie
 
-sub-if1 : tie.Need-sub-if1
-sub-if1 c = search needs
-
 returns : tie.Need-returns
 returns c = sym (std-short _ (simp length-drop (omega arith)))
-
-add-next : tie.Need-add-next
-add-next c = search needs
-
-add-last : tie.Need-add-last
-add-last c = search needs
-
-shared-slice-read-if2 : tie.Need-shared-slice-read-if2
-shared-slice-read-if2 c = search needs
 
 returns-2 : tie.Need-returns-2
 returns-2 c =
     let a = c .before .before .before .before .args in
     sym (std-other (a .s .now) (a .at) (omega arith) (c .if2 .taken))
 
-shared-slice-read-if3 : tie.Need-shared-slice-read-if3
-shared-slice-read-if3 c = search needs
-
 returns-3 : tie.Need-returns-3
 returns-3 c =
     let a = c .before .before .before .before .before .before .args in
     sym (std-second (a .s .now) (a .at) (omega arith) (c .before .before .if2 .left) (c .if3 .taken))
-
-shared-slice-read-digit-value : tie.Need-shared-slice-read-digit-value
-shared-slice-read-digit-value c = search needs
-
-digit-value-requires : tie.Need-digit-value-requires
-digit-value-requires c κs = search needs
 
 returns-4 : tie.Need-returns-4
 unfolding digit
@@ -50,12 +29,6 @@ returns-4 c =
     let a = c .before .before .before .before .before .before .before .before .before .args in
     let h : digit-value (getD (a .s .now) (a .at + 1 + 1) 0) < 10 = omega (arith, c .before .digit-value .ensures) in
     sym (std-third (a .s .now) (a .at) (omega arith) (c .before .before .before .before .before .if2 .left) (c .before .before .before .if3 .left) ∙ rw (lt-ltb _ _ h))
-
-shared-slice-read-c-or-d : tie.Need-shared-slice-read-c-or-d
-shared-slice-read-c-or-d c = search needs
-
-c-or-d-requires : tie.Need-c-or-d-requires
-c-or-d-requires c κs = search needs
 
 returns-5 : tie.Need-returns-5
 unfolding digit
@@ -68,17 +41,17 @@ pub std-ahead-spec : {M : Type 1} → statement M
 std-ahead-spec =
     tie.close
     (tie.spec
-    sub-if1
+    (λ c. search needs)
     returns
-    add-next
-    add-last
-    shared-slice-read-if2
+    (λ c. search needs)
+    (λ c. search needs)
+    (λ c. search needs)
     returns-2
-    shared-slice-read-if3
+    (λ c. search needs)
     returns-3
-    shared-slice-read-digit-value
-    digit-value-requires
+    (λ c. search needs)
+    (λ c κs. search needs)
     returns-4
-    shared-slice-read-c-or-d
-    c-or-d-requires
+    (λ c. search needs)
+    (λ c κs. search needs)
     returns-5)

@@ -8,26 +8,8 @@ use borrow.Author.Needs.{needs}
 use Rattle.parser.proofs.leaf.structor.Statement.{statement}
 use Rattle.parser.proofs.leaf.structor.Tie as tie
 
-sub-if1 : tie.Need-sub-if1
-sub-if1 c = search needs
-
 returns : tie.Need-returns
 returns c = sym (structor-short _ (simp length-drop (omega arith)))
-
-add-next : tie.Need-add-next
-add-next c = search needs
-
-shared-slice-read-c-or-d : tie.Need-shared-slice-read-c-or-d
-shared-slice-read-c-or-d c = search needs
-
-c-or-d-requires : tie.Need-c-or-d-requires
-c-or-d-requires c κs = search needs
-
-shared-slice-read-digit-or-c : tie.Need-shared-slice-read-digit-or-c
-shared-slice-read-digit-or-c c = search needs
-
-digit-or-c-requires : tie.Need-digit-or-c-requires
-digit-or-c-requires c κs = search needs
 
 returns-2 : tie.Need-returns-2
 returns-2 c =
@@ -43,12 +25,12 @@ pub structor-spec : {M : Type 1} → statement M
 structor-spec =
     tie.close
     (tie.spec
-    sub-if1
+    (λ c. search needs)
     returns
-    add-next
-    shared-slice-read-c-or-d
-    c-or-d-requires
-    shared-slice-read-digit-or-c
-    digit-or-c-requires
+    (λ c. search needs)
+    (λ c. search needs)
+    (λ c κs. search needs)
+    (λ c. search needs)
+    (λ c κs. search needs)
     returns-2
     returns-3)

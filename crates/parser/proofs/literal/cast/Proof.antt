@@ -13,26 +13,8 @@ use borrow.Author.Needs.{needs}
 use Rattle.parser.proofs.literal.cast.Statement.{statement}
 use Rattle.parser.proofs.literal.cast.Tie as tie
 
-enclosed-requires : tie.Need-enclosed-requires
-enclosed-requires c κs = search needs
-
-value-requires : tie.Need-value-requires
-value-requires c κs = search needs
-
-sub-size : tie.Need-sub-size
-sub-size c = search needs
-
-add-given : tie.Need-add-given
-add-given c = search needs
-
 add-given-2 : tie.Need-add-given-2
 add-given-2 c = omega (arith, c .before .before .before .before .before .before .before .before .before .before .pre)
-
-given-requires : tie.Need-given-requires
-given-requires c κs = search needs
-
-same-length : tie.Need-same-length
-same-length c = search needs
 
 returns : tie.Need-returns
 returns c =
@@ -49,11 +31,11 @@ pub cast-spec : {M : Type 1} → statement M
 cast-spec =
     tie.close
     (tie.spec
-    enclosed-requires
-    value-requires
-    sub-size
-    add-given
+    (λ c κs. search needs)
+    (λ c κs. search needs)
+    (λ c. search needs)
+    (λ c. search needs)
     add-given-2
-    given-requires
-    same-length
+    (λ c κs. search needs)
+    (λ c. search needs)
     returns)

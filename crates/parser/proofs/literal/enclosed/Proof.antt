@@ -10,15 +10,6 @@ use borrow.Author.Needs.{needs}
 use Rattle.parser.proofs.literal.enclosed.Statement.{statement}
 use Rattle.parser.proofs.literal.enclosed.Tie as tie
 
-add-size : tie.Need-add-size
-add-size c = search needs
-
-slice-aggregate-put : tie.Need-slice-aggregate-put
-slice-aggregate-put c = search needs
-
-put-requires : tie.Need-put-requires
-put-requires c κs = search needs
-
 again-requires : tie.Need-again-requires
 again-requires c κs = (c .before .before .before .put .ensures .put .stack, (omega arith, (omega (arith, puts-least (c .before .before .before .before .before .before .before .pre .0) (c .before .before .before .put .ensures)), (omega arith, omega arith))))
 
@@ -28,12 +19,6 @@ cut-requires c κs =
     let x = puts-least (c .before .before .before .before .before .before .before .before .before .before .before .pre .0) u in
     let y = puts-least (u .put .stack) (c .before .before .before .again .ensures) in
     (c .before .before .before .again .ensures .put .stack, omega (arith, x, simp (length-take, length-drop) at y, u .put .stack .size, u .put .stack .most, c .before .before .before .before .before .before .before .before .before .before .before .pre))
-
-slice-aggregate-put-2 : tie.Need-slice-aggregate-put-2
-slice-aggregate-put-2 c = search needs
-
-put-requires-2 : tie.Need-put-requires-2
-put-requires-2 c κs = search needs
 
 same-length : tie.Need-same-length
 same-length c = omega (arith, c .before .before .put2 .kept, c .before .before .before .before .before .before .before .cut .kept, c .before .before .before .before .before .before .before .before .before .before .before .again .kept, c .before .before .before .before .before .before .before .before .before .before .before .before .before .before .before .put .kept)
@@ -52,12 +37,12 @@ pub enclosed-spec : {M : Type 1} → statement M
 enclosed-spec =
     tie.close
     (tie.spec
-    add-size
-    slice-aggregate-put
-    put-requires
+    (λ c. search needs)
+    (λ c. search needs)
+    (λ c κs. search needs)
     again-requires
     cut-requires
-    slice-aggregate-put-2
-    put-requires-2
+    (λ c. search needs)
+    (λ c κs. search needs)
     same-length
     returns)

@@ -12,33 +12,12 @@ use borrow.Author.Needs.{needs}
 use Rattle.parser.proofs.literal.literal.Statement.{statement}
 use Rattle.parser.proofs.literal.literal.Tie as tie
 
-suffix-requires : tie.Need-suffix-requires
-suffix-requires c κs = search needs
-
-enum-told : tie.Need-enum-told
-enum-told c = search needs
-
-truth-requires : tie.Need-truth-requires
-truth-requires c κs = search needs
-
-enum-known-kind : tie.Need-enum-known-kind
-enum-known-kind c = search needs
-
 suffixed-requires : tie.Need-suffixed-requires
 suffixed-requires c κs =
     let a = c .before .before .before .before .before .before .before .before .args in
     let p = c .before .before .before .before .before .before .before .before .pre in
     let w = kind-said (newest (a .text .now) (a .p .top) (a .n)) [] _ (sym (c .before .before .before .before .suffix .ensures) ∙ c .before .before .kind .given .1) in
     (p .0, (p .1 .0, (p .1 .1 .0, (p .1 .1 .1 .0, (p .1 .1 .1 .1 .0, (p .1 .1 .1 .1 .1, (w .2, w .3)))))))
-
-enum-told-2 : tie.Need-enum-told-2
-enum-told-2 c = search needs
-
-cast-requires : tie.Need-cast-requires
-cast-requires c κs = search needs
-
-same-length : tie.Need-same-length
-same-length c = search needs
 
 returns : tie.Need-returns
 returns c =
@@ -47,18 +26,12 @@ returns c =
     let w = kind-said t _ Truth (ap kind-of (sym o) ∙ sym (c .before .before .before .before .before .before .suffix .ensures) ∙ c .before .before .before .before .enum-told .given .1) in
     by (ap (λ (x : Text). give x σ) (w .0)) (c .before .before .truth .ensures store ends k d base from t σ h (w .1) m)
 
-same-length-2 : tie.Need-same-length-2
-same-length-2 c = search needs
-
 returns-2 : tie.Need-returns-2
 returns-2 c =
     λ store ends k d base from t σ h l m.
     let (i, j, o) = stands-newest h (omega arith) in
     let w = kind-said t _ _ (ap kind-of (sym o) ∙ sym (c .before .before .before .before .before .before .before .suffix .ensures) ∙ c .before .before .before .before .before .kind .given .1) in
     by (ap (λ (x : Text). give x σ) (w .0)) (c .before .before .suffixed .ensures store ends k d base from t σ h (w .1) m)
-
-same-length-3 : tie.Need-same-length-3
-same-length-3 c = search needs
 
 returns-3 : tie.Need-returns-3
 returns-3 c =
@@ -71,16 +44,16 @@ pub literal-spec : {M : Type 1} → statement M
 literal-spec =
     tie.close
     (tie.spec
-    suffix-requires
-    enum-told
-    truth-requires
-    enum-known-kind
+    (λ c κs. search needs)
+    (λ c. search needs)
+    (λ c κs. search needs)
+    (λ c. search needs)
     suffixed-requires
-    enum-told-2
-    cast-requires
-    same-length
+    (λ c. search needs)
+    (λ c κs. search needs)
+    (λ c. search needs)
     returns
-    same-length-2
+    (λ c. search needs)
     returns-2
-    same-length-3
+    (λ c. search needs)
     returns-3)

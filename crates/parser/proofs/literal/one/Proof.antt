@@ -6,17 +6,11 @@ use borrow.Author.Needs.{needs}
 use Rattle.parser.proofs.literal.one.Statement.{statement}
 use Rattle.parser.proofs.literal.one.Tie as tie
 
-sub-if1 : tie.Need-sub-if1
-sub-if1 c = search needs
-
 returns : tie.Need-returns
 returns c = sym (one-other _ (λ e. c .if1 .taken (sym (length-part _ (c .before .args .from) (c .before .args .to) (omega arith)) ∙ e)))
-
-shared-slice-read-result : tie.Need-shared-slice-read-result
-shared-slice-read-result c = search needs
 
 returns-2 : tie.Need-returns-2
 returns-2 c = sym (one-single _ (c .before .before .args .from) (c .before .before .args .to) (omega arith) (c .before .if1 .left))
 
 pub one-spec : {M : Type 1} → statement M
-one-spec = tie.close (tie.spec sub-if1 returns shared-slice-read-result returns-2)
+one-spec = tie.close (tie.spec (λ c. search needs) returns (λ c. search needs) returns-2)

@@ -12,15 +12,6 @@ use borrow.Author.Needs.{needs}
 use Rattle.parser.proofs.literal.suffixed.Statement.{statement}
 use Rattle.parser.proofs.literal.suffixed.Tie as tie
 
-cut-requires : tie.Need-cut-requires
-cut-requires c κs = search needs
-
-value-requires : tie.Need-value-requires
-value-requires c κs = search needs
-
-slice-aggregate-put-part : tie.Need-slice-aggregate-put-part
-slice-aggregate-put-part c = search needs
-
 put-part-requires : tie.Need-put-part-requires
 put-part-requires c κs = (c .before .before .before .before .value .ensures .stack, (omega (arith, c .before .before .before .before .before .before .before .before .before .before .before .before .pre), (omega (arith, c .before .before .before .before .before .before .before .before .before .before .before .before .pre), omega (arith, c .before .before .before .before .before .before .before .before .before .before .before .before .pre))))
 
@@ -32,12 +23,6 @@ sub-more c = omega (arith, c .before .before .before .before .before .before .be
 
 add-given : tie.Need-add-given
 add-given c = omega (arith, c .before .before .before .before .before .before .before .before .before .before .before .before .before .before .before .pre)
-
-given-requires : tie.Need-given-requires
-given-requires c κs = search needs
-
-same-length : tie.Need-same-length
-same-length c = search needs
 
 returns : tie.Need-returns
 unfolding b
@@ -55,13 +40,13 @@ pub suffixed-spec : {M : Type 1} → statement M
 suffixed-spec =
     tie.close
     (tie.spec
-    cut-requires
-    value-requires
-    slice-aggregate-put-part
+    (λ c κs. search needs)
+    (λ c κs. search needs)
+    (λ c. search needs)
     put-part-requires
     sub-size
     sub-more
     add-given
-    given-requires
-    same-length
+    (λ c κs. search needs)
+    (λ c. search needs)
     returns)

@@ -11,36 +11,12 @@ returns c =
     let a = c .before .before .before .args in
     adds-by (signed-none (a .s .now) (a .from) (a .to) (c .if1 .taken)) (adds-none (c .before .before .before .pre .0))
 
-shared-slice-read-if2 : tie.Need-shared-slice-read-if2
-shared-slice-read-if2 c = search needs
-
-slice-aggregate-put : tie.Need-slice-aggregate-put
-slice-aggregate-put c = search needs
-
-put-requires : tie.Need-put-requires
-put-requires c κs = search needs
-
-add-put-part : tie.Need-add-put-part
-add-put-part c = search needs
-
-put-part-requires : tie.Need-put-part-requires
-put-part-requires c κs = search needs
-
-same-length : tie.Need-same-length
-same-length c = search needs
-
 returns-2 : tie.Need-returns-2
 unfolding b
 returns-2 c =
     let a = c .before .before .before .before .before .before .before .before .before .before .before .before .before .before .args in
     adds-by (signed-minus (a .s .now) (a .from) (a .to) (c .before .before .before .before .before .before .before .before .before .before .before .if1 .left) (c .before .before .before .before .before .before .before .before .before .before .before .before .before .before .pre .1 .1 .0) (c .before .before .before .before .before .before .before .before .before .if2 .taken))
     (adds-more (adds-one (c .before .before .before .before .before .before .before .before .before .before .before .before .before .before .pre .0) (c .before .before .before .before .before .before .put .ensures)) (c .before .before .put-part .ensures))
-
-put-part-requires-2 : tie.Need-put-part-requires-2
-put-part-requires-2 c κs = search needs
-
-same-length-2 : tie.Need-same-length-2
-same-length-2 c = search needs
 
 returns-3 : tie.Need-returns-3
 returns-3 c =
@@ -52,13 +28,13 @@ value-spec =
     tie.close
     (tie.spec
     returns
-    shared-slice-read-if2
-    slice-aggregate-put
-    put-requires
-    add-put-part
-    put-part-requires
-    same-length
+    (λ c. search needs)
+    (λ c. search needs)
+    (λ c κs. search needs)
+    (λ c. search needs)
+    (λ c κs. search needs)
+    (λ c. search needs)
     returns-2
-    put-part-requires-2
-    same-length-2
+    (λ c κs. search needs)
+    (λ c. search needs)
     returns-3)

@@ -5,11 +5,8 @@ use Rattle.parser.specs.Halves.{holds-no-args}
 use Rattle.parser.proofs.memory.clear_args.Statement.{statement}
 use Rattle.parser.proofs.memory.clear_args.Tie as tie
 
-with-args-requires : tie.Need-with-args-requires
-with-args-requires c κs = search needs
-
 returns : tie.Need-returns
 returns c = (c .with-args .ensures, λ s m σ h. by-state (c .with-args .ensures) (holds-no-args h))
 
 pub clear-args-spec : {M : Type 1} → statement M
-clear-args-spec = tie.close (tie.spec with-args-requires returns)
+clear-args-spec = tie.close (tie.spec (λ c κs. search needs) returns)

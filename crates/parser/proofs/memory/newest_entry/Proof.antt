@@ -13,9 +13,6 @@ use Rattle.parser.proofs.memory.newest_entry.Tie as tie
 returns : tie.Need-returns
 returns c k d s base from t σ h l = sym (last-none (σ .subs) t (omega (arith, c .if1 .taken, h .holds .subs .count-is)))
 
-sub-k : tie.Need-sub-k
-sub-k c = search needs
-
 slice-aggregate-start : tie.Need-slice-aggregate-start
 slice-aggregate-start c = sym (low-ends-size (c .before .before .before .before .before .before .pre .0 .1 .1))
 
@@ -24,9 +21,6 @@ start-requires c κs = let h = c .before .before .before .before .before .before
 
 slice-aggregate-start-2 : tie.Need-slice-aggregate-start-2
 slice-aggregate-start-2 c = sym (low-ends-size (c .before .before .before .before .before .before .before .before .pre .0 .1 .1))
-
-add-start : tie.Need-add-start
-add-start c = search needs
 
 start-requires-2 : tie.Need-start-requires-2
 start-requires-2 c κs = let h = c .before .before .before .before .before .before .before .before .pre .0 .1 .1 in omega (arith, c .before .before .before .if1 .left, h .subs .most, low-ends-size h)
@@ -48,9 +42,6 @@ returns-2 c k d s base from t σ g l =
     let f = c .before .before .before .start .ensures _ 1024 (h .subs .ends-is) (omega (arith, h .subs .count-is)) in
     let e = c .before .start2 .ensures _ 1024 (h .subs .ends-is) (omega (arith, i, h .subs .count-is)) in
     sym (last-chosen (σ .subs) (c .before .before .before .before .before .before .before .before .before .before .args .p .subs .count - 1) t (omega (arith, i, h .subs .count-is)) ∙ same-not t _ (λ x. c .if2 .taken (omega (arith, entry-size (h .subs) i f e, g .size))))
-
-sub-low : tie.Need-sub-low
-sub-low c = search needs
 
 same-long-part-requires : tie.Need-same-long-part-requires
 unfolding low-ends
@@ -81,14 +72,14 @@ newest-entry-spec =
     tie.close
     (tie.spec
     returns
-    sub-k
+    (λ c. search needs)
     slice-aggregate-start
     start-requires
     slice-aggregate-start-2
-    add-start
+    (λ c. search needs)
     start-requires-2
     sub-if2
     returns-2
-    sub-low
+    (λ c. search needs)
     same-long-part-requires
     returns-3)

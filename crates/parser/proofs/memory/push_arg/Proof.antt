@@ -11,14 +11,8 @@ use Rattle.parser.proofs.memory.push_arg.Tie as tie
 returns : tie.Need-returns
 returns c k d s base from t σ h = pushes-by (push-arg-no t σ (fits-not (h .holds .args) t (λ i j. omega (arith, c .if1 .taken)))) full
 
-sub-if2 : tie.Need-sub-if2
-sub-if2 c = search needs
-
 returns-2 : tie.Need-returns-2
 returns-2 c k d s base from t σ h = pushes-by (push-arg-no t σ (fits-not (h .holds .args) t (λ i j. omega (arith, c .if2 .taken, h .size, h .holds .args .room)))) full
-
-sub-from : tie.Need-sub-from
-sub-from c = search needs
 
 sub-push : tie.Need-sub-push
 sub-push c = omega (arith, store-size (c .before .before .before .before .before .before .pre .0 .1 .1))
@@ -26,17 +20,11 @@ sub-push c = omega (arith, store-size (c .before .before .before .before .before
 part-push-start : tie.Need-part-push-start
 part-push-start c = omega (arith, store-size (c .before .before .before .before .before .before .pre .0 .1 .1))
 
-part-push-end : tie.Need-part-push-end
-part-push-end c = search needs
-
 sub-push-2 : tie.Need-sub-push-2
 sub-push-2 c = omega (arith, ends-size (c .before .before .before .before .before .before .before .pre .0 .1 .1))
 
 part-push-start-2 : tie.Need-part-push-start-2
 part-push-start-2 c = omega (arith, ends-size (c .before .before .before .before .before .before .before .pre .0 .1 .1))
-
-part-push-end-2 : tie.Need-part-push-end-2
-part-push-end-2 c = search needs
 
 push-requires : tie.Need-push-requires
 unfolding high-bytes high-ends
@@ -44,21 +32,6 @@ push-requires c κs =
     let h = c .before .before .before .before .before .before .before .before .pre .0 .1 .1 in
     let a = c .before .before .before .before .before .before .before .before .args in
     (entries-sized (entries-as (second-lent 32768 (a .store .now)) (second-lent 1024 (a .ends .now)) (h .args)), (c .before .before .before .if1 .left, (omega arith, (omega (arith, h .text .size, h .text .most), omega (arith, c .before .before .if2 .left)))))
-
-add-with-args : tie.Need-add-with-args
-add-with-args c = search needs
-
-add-with-args-2 : tie.Need-add-with-args-2
-add-with-args-2 c = search needs
-
-with-args-requires : tie.Need-with-args-requires
-with-args-requires c κs = search needs
-
-same-length : tie.Need-same-length
-same-length c = search needs
-
-same-length-2 : tie.Need-same-length-2
-same-length-2 c = search needs
 
 returns-3 : tie.Need-returns-3
 unfolding high-bytes high-ends
@@ -72,19 +45,19 @@ push-arg-spec =
     tie.close
     (tie.spec
     returns
-    sub-if2
+    (λ c. search needs)
     returns-2
-    sub-from
+    (λ c. search needs)
     sub-push
     part-push-start
-    part-push-end
+    (λ c. search needs)
     sub-push-2
     part-push-start-2
-    part-push-end-2
+    (λ c. search needs)
     push-requires
-    add-with-args
-    add-with-args-2
-    with-args-requires
-    same-length
-    same-length-2
+    (λ c. search needs)
+    (λ c. search needs)
+    (λ c κs. search needs)
+    (λ c. search needs)
+    (λ c. search needs)
     returns-3)

@@ -12,14 +12,8 @@ use Rattle.parser.proofs.memory.push_sub.Tie as tie
 returns : tie.Need-returns
 returns c k d s base from t σ h = pushes-by (push-sub-no t σ (fits-not (h .holds .subs) t (λ i j. omega (arith, c .if1 .taken)))) full
 
-sub-if2 : tie.Need-sub-if2
-sub-if2 c = search needs
-
 returns-2 : tie.Need-returns-2
 returns-2 c k d s base from t σ h = pushes-by (push-sub-no t σ (fits-not (h .holds .subs) t (λ i j. omega (arith, c .if2 .taken, h .size, h .holds .subs .room)))) full
-
-sub-from : tie.Need-sub-from
-sub-from c = search needs
 
 slice-relend-prefix-push : tie.Need-slice-relend-prefix-push
 slice-relend-prefix-push c = omega (arith, store-size (c .before .before .before .before .before .before .pre .0 .1 .1))
@@ -39,20 +33,8 @@ push-requires c κs =
     let h = c .before .before .before .before .before .before .before .before .pre .0 .1 .1 in
     (entries-sized (h .subs), (c .before .before .before .if1 .left, (omega arith, (omega (arith, h .text .size, h .text .most), omega (arith, c .before .before .if2 .left)))))
 
-add-with-subs : tie.Need-add-with-subs
-add-with-subs c = search needs
-
 add-with-subs-2 : tie.Need-add-with-subs-2
 add-with-subs-2 c = omega (arith, c .before .before .before .before .before .before .before .if2 .left)
-
-with-subs-requires : tie.Need-with-subs-requires
-with-subs-requires c κs = search needs
-
-same-length : tie.Need-same-length
-same-length c = search needs
-
-same-length-2 : tie.Need-same-length-2
-same-length-2 c = search needs
 
 returns-3 : tie.Need-returns-3
 unfolding low-bytes low-ends
@@ -64,17 +46,17 @@ push-sub-spec =
     tie.close
     (tie.spec
     returns
-    sub-if2
+    (λ c. search needs)
     returns-2
-    sub-from
+    (λ c. search needs)
     slice-relend-prefix-push
     slice-aggregate-push
     slice-relend-prefix-push-2
     slice-aggregate-push-2
     push-requires
-    add-with-subs
+    (λ c. search needs)
     add-with-subs-2
-    with-subs-requires
-    same-length
-    same-length-2
+    (λ c κs. search needs)
+    (λ c. search needs)
+    (λ c. search needs)
     returns-3)

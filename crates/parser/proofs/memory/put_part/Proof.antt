@@ -4,17 +4,8 @@ use Rattle.parser.specs.Laws.{puts-by}
 use Rattle.parser.proofs.memory.put_part.Statement.{statement}
 use Rattle.parser.proofs.memory.put_part.Tie as tie
 
-put-part-requires : tie.Need-put-part-requires
-put-part-requires c κs = search needs
-
-raised-requires : tie.Need-raised-requires
-raised-requires c κs = search needs
-
-same-length : tie.Need-same-length
-same-length c = search needs
-
 returns : tie.Need-returns
 returns c = puts-by (c .raised .ensures) (c .before .before .before .put-part .ensures)
 
 pub put-part-spec : {M : Type 1} → statement M
-put-part-spec = tie.close (tie.spec put-part-requires raised-requires same-length returns)
+put-part-spec = tie.close (tie.spec (λ c κs. search needs) (λ c κs. search needs) (λ c. search needs) returns)

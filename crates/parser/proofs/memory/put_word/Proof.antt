@@ -6,24 +6,6 @@ use Rattle.parser.specs.Laws.{puts-by}
 use Rattle.parser.proofs.memory.put_word.Statement.{statement}
 use Rattle.parser.proofs.memory.put_word.Tie as tie
 
-sub-n : tie.Need-sub-n
-sub-n c = search needs
-
-room-requires : tie.Need-room-requires
-room-requires c κs = search needs
-
-write-word-requires : tie.Need-write-word-requires
-write-word-requires c κs = search needs
-
-add-raised : tie.Need-add-raised
-add-raised c = search needs
-
-raised-requires : tie.Need-raised-requires
-raised-requires c κs = search needs
-
-same-length : tie.Need-same-length
-same-length c = search needs
-
 returns : tie.Need-returns
 returns c =
     let s = c .before .before .before .before .before .before .before .before .before .before .before in
@@ -33,10 +15,10 @@ pub put-word-spec : {M : Type 1} → statement M
 put-word-spec =
     tie.close
     (tie.spec
-    sub-n
-    room-requires
-    write-word-requires
-    add-raised
-    raised-requires
-    same-length
+    (λ c. search needs)
+    (λ c κs. search needs)
+    (λ c κs. search needs)
+    (λ c. search needs)
+    (λ c κs. search needs)
+    (λ c. search needs)
     returns)

@@ -21,9 +21,6 @@ start-requires c κs = let h = c .before .before .before .before .before .before
 slice-aggregate-start-2 : tie.Need-slice-aggregate-start-2
 slice-aggregate-start-2 c = sym (low-ends-size (c .before .before .before .before .before .before .before .before .before .pre .1 .1))
 
-add-start : tie.Need-add-start
-add-start c = search needs
-
 start-requires-2 : tie.Need-start-requires-2
 start-requires-2 c κs = let h = c .before .before .before .before .before .before .before .before .before .pre .1 .1 in omega (arith, c .before .before .before .if1 .left, h .subs .most, low-ends-size h)
 
@@ -35,9 +32,6 @@ entry-requires c κs =
     let f = c .before .before .before .start .ensures _ 1024 (h .subs .ends-is) (omega (arith, i, h .subs .count-is)) in
     let e = c .before .start2 .ensures _ 1024 (h .subs .ends-is) (omega (arith, i, h .subs .count-is)) in
     (h .text, (omega (arith, entry-size (h .subs) i f e), omega (arith, entry-room (h .subs) i f e, store-size h)))
-
-same-length : tie.Need-same-length
-same-length c = search needs
 
 returns-2 : tie.Need-returns-2
 unfolding low-ends
@@ -55,8 +49,8 @@ recall-spec =
     slice-aggregate-start
     start-requires
     slice-aggregate-start-2
-    add-start
+    (λ c. search needs)
     start-requires-2
     entry-requires
-    same-length
+    (λ c. search needs)
     returns-2)

@@ -15,9 +15,6 @@ sub-start c = omega (arith, ends-size (c .before .before .before .pre .0 .1 .1))
 part-start-start : tie.Need-part-start-start
 part-start-start c = omega (arith, ends-size (c .before .before .before .pre .0 .1 .1))
 
-part-start-end : tie.Need-part-start-end
-part-start-end c = search needs
-
 start-requires : tie.Need-start-requires
 start-requires c κs = let h = c .before .before .before .before .pre .0 .1 .1 in omega (arith, c .before .before .before .before .pre .1, h .args .most, high-ends-size h)
 
@@ -26,12 +23,6 @@ sub-start-2 c = omega (arith, ends-size (c .before .before .before .before .befo
 
 part-start-start-2 : tie.Need-part-start-start-2
 part-start-start-2 c = omega (arith, ends-size (c .before .before .before .before .before .pre .0 .1 .1))
-
-part-start-end-2 : tie.Need-part-start-end-2
-part-start-end-2 c = search needs
-
-add-start : tie.Need-add-start
-add-start c = search needs
 
 start-requires-2 : tie.Need-start-requires-2
 start-requires-2 c κs = let h = c .before .before .before .before .before .before .pre .0 .1 .1 in omega (arith, c .before .before .before .before .before .before .pre .1, h .args .most, high-ends-size h)
@@ -63,9 +54,6 @@ entry-requires c κs =
     let e = c .before .start2 .ensures _ 1024 (front-as (second-lent 1024 (c .before .before .before .before .before .before .before .before .args .ends .now)) (h .args .ends-is)) (omega (arith, i, h .args .count-is)) in
     (h .text, (omega (arith, entry-size (h .args) i f e), omega (arith, entry-room (h .args) i f e, store-size h)))
 
-same-length : tie.Need-same-length
-same-length c = search needs
-
 returns : tie.Need-returns
 unfolding high-ends
 returns c s g σ h =
@@ -80,15 +68,15 @@ recall-arg-spec =
     (tie.spec
     sub-start
     part-start-start
-    part-start-end
+    (λ c. search needs)
     start-requires
     sub-start-2
     part-start-start-2
-    part-start-end-2
-    add-start
+    (λ c. search needs)
+    (λ c. search needs)
     start-requires-2
     add-from
     add-end
     entry-requires
-    same-length
+    (λ c. search needs)
     returns)

@@ -10,9 +10,6 @@ use Rattle.parser.proofs.memory.too_long.Tie as tie
 returns : tie.Need-returns
 returns c k d s base from m m' t σ h e l = by (recorded-no t σ (fits-not (h .subs) t (λ i j. omega (arith, c .if1 .taken)))) refuses
 
-sub-if2 : tie.Need-sub-if2
-sub-if2 c = search needs
-
 returns-2 : tie.Need-returns-2
 returns-2 c k d s base from m m' t σ h e l = by (recorded-no t σ (fits-not (h .subs) t (λ i j. omega (arith, c .if2 .taken, h .subs .room)))) refuses
 
@@ -20,4 +17,4 @@ returns-3 : tie.Need-returns-3
 returns-3 c k d s base from m m' t σ h e l = by (recorded-long t σ (fits-more (h .subs) t (c .before .before .if1 .left) (omega (arith, c .if2 .left, h .subs .room))) (omega arith)) refuses
 
 pub too-long-spec : {M : Type 1} → statement M
-too-long-spec = tie.close (tie.spec returns sub-if2 returns-2 returns-3)
+too-long-spec = tie.close (tie.spec returns (λ c. search needs) returns-2 returns-3)

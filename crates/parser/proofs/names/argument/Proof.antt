@@ -6,20 +6,8 @@ use borrow.Author.Needs.{needs}
 use Rattle.parser.proofs.names.argument.Statement.{statement}
 use Rattle.parser.proofs.names.argument.Tie as tie
 
-recall-arg-requires : tie.Need-recall-arg-requires
-recall-arg-requires c κs = search needs
-
-same-length : tie.Need-same-length
-same-length c = search needs
-
 returns : tie.Need-returns
 returns c = λ s. c .before .before .recall-arg .ensures s _
-
-number-requires : tie.Need-number-requires
-number-requires c κs = search needs
-
-same-length-2 : tie.Need-same-length-2
-same-length-2 c = search needs
 
 returns-2 : tie.Need-returns-2
 returns-2 c = λ s σ h. by (none-given (σ .args) _ _ σ (omega (arith, c .before .before .before .before .if1 .left, h .args .count-is))) (c .before .before .number .ensures s _ _ σ h)
@@ -27,4 +15,4 @@ returns-2 c = λ s σ h. by (none-given (σ .args) _ _ σ (omega (arith, c .befo
 pub argument-spec : {M : Type 1} → statement M
 argument-spec =
     tie.close
-    (tie.spec recall-arg-requires same-length returns number-requires same-length-2 returns-2)
+    (tie.spec (λ c κs. search needs) (λ c. search needs) returns (λ c κs. search needs) (λ c. search needs) returns-2)

@@ -19,9 +19,6 @@ loop-holds : tie.Need-loop-holds Inv-loop μ-loop
 unfolding closers
 loop-holds c = (omega arith, adds-none (c .before .pre))
 
-slice-aggregate-put : tie.Need-slice-aggregate-put Inv-loop μ-loop
-slice-aggregate-put c = search needs
-
 put-requires : tie.Need-put-requires Inv-loop μ-loop
 put-requires c κs = (c .before .before .before .loop .inv .1 .stack, omega arith)
 
@@ -52,7 +49,7 @@ close-tags-spec =
     Inv-loop
     μ-loop
     loop-holds
-    slice-aggregate-put
+    (λ c. search needs)
     put-requires
     add-closed
     loop-less

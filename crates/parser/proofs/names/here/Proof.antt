@@ -8,11 +8,8 @@ use Rattle.parser.proofs.names.here.Tie as tie
 returns : tie.Need-returns
 returns c = sym (starts-none _ _ _ (c .if1 .taken))
 
-shared-slice-read-result : tie.Need-shared-slice-read-result
-shared-slice-read-result c = search needs
-
 returns-2 : tie.Need-returns-2
 returns-2 c = sym (starts-one _ _ _ (c .before .if1 .left))
 
 pub here-spec : {M : Type 1} → statement M
-here-spec = tie.close (tie.spec returns shared-slice-read-result returns-2)
+here-spec = tie.close (tie.spec returns (λ c. search needs) returns-2)

@@ -17,18 +17,12 @@ digits s at = number 10 0 (run (digit 10) (drop at s))
 abbrev at-digits : Text → ℕ → ℕ
 at-digits s at = at + length (run (digit 10) (drop at s))
 
-decimal-requires : tie.Need-decimal-requires
-decimal-requires c κs = search needs
-
 returns : tie.Need-returns
 unfolding identified if_then_else_
 returns c =
     let a = c .before .before .before .before .args in
     let n : digits (a .s .now) (a .at) < 1 = omega (arith, c .before .before .decimal .ensures .is, c .if1 .taken) in
     rw (lt-leb 1 (digits (a .s .now) (a .at)) n)
-
-sub-left : tie.Need-sub-left
-sub-left c = search needs
 
 returns-2 : tie.Need-returns-2
 unfolding identified if_then_else_
@@ -41,9 +35,6 @@ returns-2 c =
     let m : 1 ≤ n = omega (arith, d .is, c .before .before .if1 .left) in
     let l : length (drop from s) < n = omega (arith, length-drop from s, d .is, d .behind, c .if2 .taken) in
     rw (le-leb 1 n m, lt-leb n (length (drop from s)) l)
-
-add-to : tie.Need-add-to
-add-to c = search needs
 
 returns-3 : tie.Need-returns-3
 unfolding identified if_then_else_
@@ -59,4 +50,4 @@ returns-3 c =
     rw (le-leb 1 n m, le-leb n (length (drop from s)) l) (ap₂ Part (d .behind) (omega (arith, d .behind)))
 
 pub identifier-spec : {M : Type 1} → statement M
-identifier-spec = tie.close (tie.spec decimal-requires returns sub-left returns-2 add-to returns-3)
+identifier-spec = tie.close (tie.spec (λ c κs. search needs) returns (λ c. search needs) returns-2 (λ c. search needs) returns-3)

@@ -74,9 +74,6 @@ part-put-end c = simp length-set (omega (arith, c .before .before .before .loop 
 put-requires : tie.Need-put-requires Inv-loop μ-loop
 put-requires c κs = (c .before .before .before .before .before .before .pre, simp (length-take, length-drop, length-set) (omega arith))
 
-same-length : tie.Need-same-length Inv-loop μ-loop
-same-length c = search needs
-
 returns : tie.Need-returns Inv-loop μ-loop
 returns c = λ s store ends σ h.
     let w = c .before .before .before .before .before .before .before .loop .inv in
@@ -109,5 +106,5 @@ number-spec =
     part-put-start
     part-put-end
     put-requires
-    same-length
+    (λ c. search needs)
     returns)

@@ -8,15 +8,6 @@ use Rattle.parser.specs.Source.{behind-number}
 use Rattle.parser.proofs.names.numbered.Statement.{statement}
 use Rattle.parser.proofs.names.numbered.Tie as tie
 
-decimal-requires : tie.Need-decimal-requires
-decimal-requires c κs = search needs
-
-here-requires : tie.Need-here-requires
-here-requires c κs = search needs
-
-add-result : tie.Need-add-result
-add-result c = search needs
-
 returns : tie.Need-returns
 unfolding behind-number if_then_else_
 returns c =
@@ -30,4 +21,4 @@ returns-2 c =
     (rw (← c .before .before .decimal .ensures .behind, e), omega (arith, c .before .before .decimal .ensures .inside))
 
 pub numbered-spec : {M : Type 1} → statement M
-numbered-spec = tie.close (tie.spec decimal-requires here-requires add-result returns returns-2)
+numbered-spec = tie.close (tie.spec (λ c κs. search needs) (λ c κs. search needs) (λ c. search needs) returns returns-2)

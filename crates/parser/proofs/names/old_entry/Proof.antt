@@ -12,29 +12,14 @@ use borrow.Author.Needs.{needs}
 use Rattle.parser.proofs.names.old_entry.Statement.{statement}
 use Rattle.parser.proofs.names.old_entry.Tie as tie
 
-seq-id-requires : tie.Need-seq-id-requires
-seq-id-requires c κs = search needs
-
-here-requires : tie.Need-here-requires
-here-requires c κs = search needs
-
 returns : tie.Need-returns
 returns c = λ σ h. by (entry-open _ _ σ (h .rest) (c .before .before .seq-id .ensures .behind) (sym (c .before .here .ensures) ∙ not-true _ (c .if1 .taken))) refuses
-
-add-moved : tie.Need-add-moved
-add-moved c = search needs
-
-moved-requires : tie.Need-moved-requires
-moved-requires c κs = search needs
 
 recall-requires : tie.Need-recall-requires
 recall-requires c κs =
     let s = c .before .before .before .before .before .before .before .before .before .before .args .s .now in
     let l = starts-inside s (c .before .before .before .before .before .seq-id .result .next) 95 (sym (c .before .before .before .before .here .ensures) ∙ not-false _ (c .before .before .before .if1 .left)) in
     (s, ready-moved _ (c .before .before .moved .ensures) (c .before .before .before .before .before .before .before .before .before .before .pre .1) (omega (arith, l)))
-
-same-length : tie.Need-same-length
-same-length c = search needs
 
 returns-2 : tie.Need-returns-2
 returns-2 c = λ σ h.
@@ -54,17 +39,11 @@ returns-3 c = λ σ h.
     ∙ none-given (σ .subs) _ _ _ (omega (arith, d .is, c .if3 .taken, h .subs .count-is, h .subs .most)))
     refuses
 
-add-k : tie.Need-add-k
-add-k c = search needs
-
 recall-requires-2 : tie.Need-recall-requires-2
 recall-requires-2 c κs =
     let s = c .before .before .before .before .before .before .before .before .before .before .before .before .args .s .now in
     let l = starts-inside s (c .before .before .before .before .before .before .before .seq-id .result .next) 95 (sym (c .before .before .before .before .before .before .here .ensures) ∙ not-false _ (c .before .before .before .before .before .if1 .left)) in
     (s, ready-moved _ (c .before .before .before .before .moved .ensures) (c .before .before .before .before .before .before .before .before .before .before .before .before .pre .1) (omega (arith, l)))
-
-same-length-2 : tie.Need-same-length-2
-same-length-2 c = search needs
 
 returns-4 : tie.Need-returns-4
 returns-4 c = λ σ h.
@@ -80,16 +59,16 @@ pub old-entry-spec : {M : Type 1} → statement M
 old-entry-spec =
     tie.close
     (tie.spec
-    seq-id-requires
-    here-requires
+    (λ c κs. search needs)
+    (λ c κs. search needs)
     returns
-    add-moved
-    moved-requires
+    (λ c. search needs)
+    (λ c κs. search needs)
     recall-requires
-    same-length
+    (λ c. search needs)
     returns-2
     returns-3
-    add-k
+    (λ c. search needs)
     recall-requires-2
-    same-length-2
+    (λ c. search needs)
     returns-4)

@@ -24,12 +24,6 @@ loop-holds c = tagging-start (c .before .before .pre .0) (c .before .before .pre
 identifier-requires : tie.Need-identifier-requires Inv-loop μ-loop
 identifier-requires c κs = (c .loop .inv .place, c .before .before .before .pre .1 .0)
 
-enum-known-from : tie.Need-enum-known-from Inv-loop μ-loop
-enum-known-from c = search needs
-
-enum-told : tie.Need-enum-told Inv-loop μ-loop
-enum-told c = search needs
-
 same-length : tie.Need-same-length Inv-loop μ-loop
 same-length c = omega (arith, c .before .before .before .loop .inv .adds .stack .size, c .before .before .before .before .before .before .pre .1 .1 .size)
 
@@ -38,9 +32,6 @@ returns c = λ store ends. tagging-refuses (c .before .before .before .loop .inv
 
 sub-size : tie.Need-sub-size Inv-loop μ-loop
 sub-size c = let l = located (c .before .before .before .before .loop .inv) (sym (c .before .before .before .identifier .ensures) ∙ c .before .from .given .1) in omega (arith, l .some)
-
-moved-requires : tie.Need-moved-requires Inv-loop μ-loop
-moved-requires c κs = search needs
 
 put-part-requires : tie.Need-put-part-requires Inv-loop μ-loop
 put-part-requires c κs =
@@ -52,9 +43,6 @@ sum-requires c κs =
     let l = located (c .before .before .before .before .before .before .before .before .before .loop .inv) (sym (c .before .before .before .before .before .before .before .before .identifier .ensures) ∙ c .before .before .before .before .before .before .from .given .1) in
     (omega (arith, c .before .before .before .before .before .before .before .before .before .loop .inv .size), omega (arith, l .inside, c .before .before .before .before .before .before .before .before .before .before .before .before .pre .1 .0))
 
-here-requires : tie.Need-here-requires Inv-loop μ-loop
-here-requires c κs = search needs
-
 close-tags-requires : tie.Need-close-tags-requires Inv-loop μ-loop
 close-tags-requires c κs = c .before .before .before .before .before .before .put-part .ensures .put .stack
 
@@ -62,9 +50,6 @@ sum-requires-2 : tie.Need-sum-requires-2 Inv-loop μ-loop
 sum-requires-2 c κs =
     let g = c .before .before .before .before .before .before .before .before .before .before .before .before .before .before .before .before .loop .inv in
     (omega (arith, c .before .before .before .before .before .before .sum .ensures), omega (arith, g .more, g .place, c .before .before .before .before .before .before .before .before .before .before .before .before .before .before .before .before .before .before .before .pre .1 .0))
-
-given-requires : tie.Need-given-requires Inv-loop μ-loop
-given-requires c κs = search needs
 
 same-length-2 : tie.Need-same-length-2 Inv-loop μ-loop
 same-length-2 c = omega (arith, c .before .before .before .before .close-tags .ensures .stack .size, c .before .before .before .before .before .before .before .before .before .before .before .before .before .before .before .before .before .before .before .before .before .pre .1 .1 .size)
@@ -84,12 +69,6 @@ add-moved : tie.Need-add-moved Inv-loop μ-loop
 add-moved c =
     let l = located (c .before .before .before .before .before .before .before .before .before .before .before .before .before .loop .inv) (sym (c .before .before .before .before .before .before .before .before .before .before .before .before .identifier .ensures) ∙ c .before .before .before .before .before .before .before .before .before .before .from .given .1) in
     omega (arith, l .inside, c .before .before .before .before .before .before .before .before .before .before .before .before .before .before .before .before .pre .1 .0)
-
-moved-requires-2 : tie.Need-moved-requires-2 Inv-loop μ-loop
-moved-requires-2 c κs = search needs
-
-slice-aggregate-put : tie.Need-slice-aggregate-put Inv-loop μ-loop
-slice-aggregate-put c = search needs
 
 put-requires : tie.Need-put-requires Inv-loop μ-loop
 put-requires c κs = (stack-by (c .before .moved2 .ensures) (c .before .before .before .before .before .before .before .before .put-part .ensures .put .stack), omega arith)
@@ -127,23 +106,23 @@ source-name-spec =
     μ-loop
     loop-holds
     identifier-requires
-    enum-known-from
-    enum-told
+    (λ c. search needs)
+    (λ c. search needs)
     same-length
     returns
     sub-size
-    moved-requires
+    (λ c κs. search needs)
     put-part-requires
     sum-requires
-    here-requires
+    (λ c κs. search needs)
     close-tags-requires
     sum-requires-2
-    given-requires
+    (λ c κs. search needs)
     same-length-2
     returns-2
     add-moved
-    moved-requires-2
-    slice-aggregate-put
+    (λ c κs. search needs)
+    (λ c. search needs)
     put-requires
     sum-requires-3
     add-tags

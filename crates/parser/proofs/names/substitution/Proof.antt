@@ -11,38 +11,14 @@ use borrow.Author.Needs.{needs}
 use Rattle.parser.proofs.names.substitution.Statement.{statement}
 use Rattle.parser.proofs.names.substitution.Tie as tie
 
-here-requires : tie.Need-here-requires
-here-requires c κs = search needs
-
 returns : tie.Need-returns
 returns c = λ σ h. by (sub-none (c .before .before .before .before .before .before .args .s .now) (c .before .before .before .before .before .before .args .p .at) σ (h .rest) (sym (c .before .here .ensures) ∙ not-true _ (c .if1 .taken))) refuses
-
-add-at : tie.Need-add-at
-add-at c = search needs
 
 returns-2 : tie.Need-returns-2
 returns-2 c = λ σ h. by (sub-end _ _ σ (h .rest) (sym (c .before .before .here .ensures) ∙ not-false _ (c .before .if1 .left)) (c .if2 .taken)) refuses
 
-shared-slice-read-abbreviation : tie.Need-shared-slice-read-abbreviation
-shared-slice-read-abbreviation c = search needs
-
-abbreviation-requires : tie.Need-abbreviation-requires
-abbreviation-requires c κs = search needs
-
-enum-known-picked : tie.Need-enum-known-picked
-enum-known-picked c = search needs
-
-enum-told : tie.Need-enum-told
-enum-told c = search needs
-
-moved-requires : tie.Need-moved-requires
-moved-requires c κs = search needs
-
 old-entry-requires : tie.Need-old-entry-requires
 old-entry-requires c κs = ready-moved _ (c .moved .ensures) (c .before .before .before .before .before .before .before .before .before .before .before .before .before .pre .1) (omega (arith, c .before .before .before .before .before .before .if2 .left))
-
-same-length : tie.Need-same-length
-same-length c = search needs
 
 returns-3 : tie.Need-returns-3
 unfolding word-of
@@ -51,18 +27,9 @@ returns-3 c = λ σ h.
     (sub-entry _ _ σ (h .rest) (sym (c .before .before .before .before .before .before .before .before .before .before .before .here .ensures) ∙ not-false _ (c .before .before .before .before .before .before .before .before .before .before .if1 .left)) (c .before .before .before .before .before .before .before .before .before .if2 .left) (ap word-of (sym (c .before .before .before .before .before .enum-told .given .1)) ∙ c .before .before .before .before .before .before .before .abbreviation .ensures .is))
     (reads-moved (c .before .before .before .moved .ensures) (c .before .before .old-entry .ensures) h (omega (arith, c .before .before .before .before .before .before .before .before .before .if2 .left)) (omega arith))
 
-add-moved : tie.Need-add-moved
-add-moved c = search needs
-
-moved-requires-2 : tie.Need-moved-requires-2
-moved-requires-2 c κs = search needs
-
 word-requires : tie.Need-word-requires
 word-requires c κs =
     (stack-by (c .moved2 .ensures) (c .before .before .before .before .before .before .before .before .before .before .before .before .before .before .pre .1 .text), subst Picked-inside (c .before .before .before .picked .given .1) (c .before .before .before .before .before .abbreviation .ensures .inside))
-
-same-length-2 : tie.Need-same-length-2
-same-length-2 c = search needs
 
 returns-4 : tie.Need-returns-4
 unfolding word-of
@@ -75,20 +42,20 @@ pub substitution-spec : {M : Type 1} → statement M
 substitution-spec =
     tie.close
     (tie.spec
-    here-requires
+    (λ c κs. search needs)
     returns
-    add-at
+    (λ c. search needs)
     returns-2
-    shared-slice-read-abbreviation
-    abbreviation-requires
-    enum-known-picked
-    enum-told
-    moved-requires
+    (λ c. search needs)
+    (λ c κs. search needs)
+    (λ c. search needs)
+    (λ c. search needs)
+    (λ c κs. search needs)
     old-entry-requires
-    same-length
+    (λ c. search needs)
     returns-3
-    add-moved
-    moved-requires-2
+    (λ c. search needs)
+    (λ c κs. search needs)
     word-requires
-    same-length-2
+    (λ c. search needs)
     returns-4)

@@ -11,39 +11,18 @@ use borrow.Author.Needs.{needs}
 use Rattle.parser.proofs.names.template_param.Statement.{statement}
 use Rattle.parser.proofs.names.template_param.Tie as tie
 
-here-requires : tie.Need-here-requires
-here-requires c κs = search needs
-
 returns : tie.Need-returns
 returns c = λ σ h. by (param-none (c .before .before .before .before .before .before .args .s .now) (c .before .before .before .before .before .before .args .p .at) σ (h .rest) (sym (c .before .here .ensures) ∙ not-true _ (c .if1 .taken))) refuses
-
-add-at : tie.Need-add-at
-add-at c = search needs
-
-decimal-requires : tie.Need-decimal-requires
-decimal-requires c κs = search needs
-
-here-requires-2 : tie.Need-here-requires-2
-here-requires-2 c κs = search needs
 
 returns-2 : tie.Need-returns-2
 returns-2 c = λ σ h.
     by (param-open (c .before .before .before .before .before .before .before .before .before .args .s .now) (c .before .before .before .before .before .before .before .before .before .args .p .at) σ (h .rest) (sym (c .before .before .before .before .here .ensures) ∙ not-false _ (c .before .before .before .if1 .left)) (c .before .before .decimal .ensures .behind) (sym (c .before .here2 .ensures) ∙ not-true _ (c .if2 .taken))) refuses
-
-add-moved : tie.Need-add-moved
-add-moved c = search needs
-
-moved-requires : tie.Need-moved-requires
-moved-requires c κs = search needs
 
 argument-requires : tie.Need-argument-requires
 argument-requires c κs =
     let s = c .before .before .before .before .before .before .before .before .before .before .before .before .args .s .now in
     let l = starts-inside s (c .before .before .before .before .before .decimal .result .next) 95 (sym (c .before .before .before .before .here2 .ensures) ∙ not-false _ (c .before .before .before .if2 .left)) in
     (s, ready-moved _ (c .before .before .moved .ensures) (c .before .before .before .before .before .before .before .before .before .before .before .before .pre .1) (omega (arith, l)))
-
-same-length : tie.Need-same-length
-same-length c = search needs
 
 returns-3 : tie.Need-returns-3
 returns-3 c = λ σ h.
@@ -61,17 +40,11 @@ returns-4 c = λ σ h.
     (param-past (c .before .before .before .before .before .before .before .before .before .before .before .before .before .args .s .now) (c .before .before .before .before .before .before .before .before .before .before .before .before .before .args .p .at) σ (h .rest) (sym (c .before .before .before .before .before .before .before .before .here .ensures) ∙ not-false _ (c .before .before .before .before .before .before .before .if1 .left)) (d .behind) (sym (c .before .before .before .before .before .here2 .ensures) ∙ not-false _ (c .before .before .before .before .if2 .left)) _ (index-some 10 _ (λ z. c .before .before .if3 .left (omega (arith, d .behind, z)))) (omega (arith, d .is, c .if4 .taken)))
     refuses
 
-add-i : tie.Need-add-i
-add-i c = search needs
-
 argument-requires-2 : tie.Need-argument-requires-2
 argument-requires-2 c κs =
     let s = c .before .before .before .before .before .before .before .before .before .before .before .before .before .before .before .args .s .now in
     let l = starts-inside s (c .before .before .before .before .before .before .before .before .decimal .result .next) 95 (sym (c .before .before .before .before .before .before .before .here2 .ensures) ∙ not-false _ (c .before .before .before .before .before .before .if2 .left)) in
     (s, ready-moved _ (c .before .before .before .before .before .moved .ensures) (c .before .before .before .before .before .before .before .before .before .before .before .before .before .before .before .pre .1) (omega (arith, l)))
-
-same-length-2 : tie.Need-same-length-2
-same-length-2 c = search needs
 
 returns-5 : tie.Need-returns-5
 returns-5 c = λ σ h.
@@ -88,19 +61,19 @@ pub template-param-spec : {M : Type 1} → statement M
 template-param-spec =
     tie.close
     (tie.spec
-    here-requires
+    (λ c κs. search needs)
     returns
-    add-at
-    decimal-requires
-    here-requires-2
+    (λ c. search needs)
+    (λ c κs. search needs)
+    (λ c κs. search needs)
     returns-2
-    add-moved
-    moved-requires
+    (λ c. search needs)
+    (λ c κs. search needs)
     argument-requires
-    same-length
+    (λ c. search needs)
     returns-3
     returns-4
-    add-i
+    (λ c. search needs)
     argument-requires-2
-    same-length-2
+    (λ c. search needs)
     returns-5)

@@ -18,35 +18,11 @@ use Rattle.parser.proofs.names.unnamed_type_name.Tie as tie
 returns : tie.Need-returns
 returns c = λ store ends σ h. by (unnamed-end _ _ σ (h .rest) (c .if1 .taken)) refuses
 
-shared-slice-read-if2 : tie.Need-shared-slice-read-if2
-shared-slice-read-if2 c = search needs
-
-add-before : tie.Need-add-before
-add-before c = search needs
-
-before-requires : tie.Need-before-requires
-before-requires c κs = search needs
-
 returns-2 : tie.Need-returns-2
 returns-2 c = λ store ends σ h. by (unnamed-open _ _ σ (h .rest) (c .before .before .before .before .if1 .left) (c .before .before .if2 .taken) (omega (arith, c .before .before2 .ensures .0, c .if3 .taken))) refuses
 
-add-numbered : tie.Need-add-numbered
-add-numbered c = search needs
-
-numbered-requires : tie.Need-numbered-requires
-numbered-requires c κs = search needs
-
-moved-requires : tie.Need-moved-requires
-moved-requires c κs = search needs
-
-slice-aggregate-put : tie.Need-slice-aggregate-put
-slice-aggregate-put c = search needs
-
 put-requires : tie.Need-put-requires
 put-requires c κs = (stack-by (c .before .moved .ensures) (c .before .before .before .before .before .before .before .before .before .before .before .pre), omega arith)
-
-same-length : tie.Need-same-length
-same-length c = search needs
 
 returns-3 : tie.Need-returns-3
 returns-3 c = λ store ends σ h.
@@ -60,23 +36,8 @@ returns-3 c = λ store ends σ h.
     (wrote-one (holds-moved h (x .result) (x .ensures .1)) (puts-from (c .before .before .before .before .moved .ensures) (c .before .before .put .ensures)) refl (omega arith)
     (omega (arith, x .ensures .0, number-more s (y .result + 1), y .ensures .0)))
 
-add-numbered-2 : tie.Need-add-numbered-2
-add-numbered-2 c = search needs
-
-numbered-requires-2 : tie.Need-numbered-requires-2
-numbered-requires-2 c κs = search needs
-
-moved-requires-2 : tie.Need-moved-requires-2
-moved-requires-2 c κs = search needs
-
-slice-aggregate-put-2 : tie.Need-slice-aggregate-put-2
-slice-aggregate-put-2 c = search needs
-
 put-requires-2 : tie.Need-put-requires-2
 put-requires-2 c κs = (stack-by (c .before .moved2 .ensures) (c .before .before .before .before .before .before .before .before .before .pre), omega arith)
-
-same-length-2 : tie.Need-same-length-2
-same-length-2 c = search needs
 
 returns-4 : tie.Need-returns-4
 returns-4 c = λ store ends σ h.
@@ -93,21 +54,21 @@ unnamed-type-name-spec =
     tie.close
     (tie.spec
     returns
-    shared-slice-read-if2
-    add-before
-    before-requires
+    (λ c. search needs)
+    (λ c. search needs)
+    (λ c κs. search needs)
     returns-2
-    add-numbered
-    numbered-requires
-    moved-requires
-    slice-aggregate-put
+    (λ c. search needs)
+    (λ c κs. search needs)
+    (λ c κs. search needs)
+    (λ c. search needs)
     put-requires
-    same-length
+    (λ c. search needs)
     returns-3
-    add-numbered-2
-    numbered-requires-2
-    moved-requires-2
-    slice-aggregate-put-2
+    (λ c. search needs)
+    (λ c κs. search needs)
+    (λ c κs. search needs)
+    (λ c. search needs)
     put-requires-2
-    same-length-2
+    (λ c. search needs)
     returns-4)

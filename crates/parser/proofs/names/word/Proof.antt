@@ -6,15 +6,6 @@ use borrow.Author.Needs.{needs}
 use Rattle.parser.proofs.names.word.Statement.{statement}
 use Rattle.parser.proofs.names.word.Tie as tie
 
-sub-n : tie.Need-sub-n
-sub-n c = search needs
-
-put-word-requires : tie.Need-put-word-requires
-put-word-requires c κs = search needs
-
-same-length : tie.Need-same-length
-same-length c = search needs
-
 returns : tie.Need-returns
 returns c = λ s store ends σ h.
     let a = c .before .before .before .before .before .before in
@@ -22,4 +13,4 @@ returns c = λ s store ends σ h.
     wrote-one h (c .before .before .put-word .ensures) e (omega (arith, e, a .pre .1)) (omega arith)
 
 pub word-spec : {M : Type 1} → statement M
-word-spec = tie.close (tie.spec sub-n put-word-requires same-length returns)
+word-spec = tie.close (tie.spec (λ c. search needs) (λ c κs. search needs) (λ c. search needs) returns)

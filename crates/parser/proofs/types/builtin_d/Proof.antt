@@ -48,25 +48,10 @@ module _ (σ : State) {x : ℕ} {u : Text} (e : σ .rest ≡ 68 ∷ (x ∷ u)) w
   unfolding choose
   unknown f = looked ∙ ap (λ (o : Option Text). choose o (λ t. read-on t u) (refuse 4) σ) f
 
-add-at : tie.Need-add-at
-add-at c = search needs
-
 returns : tie.Need-returns
 returns c store ends rest σ e h =
     let a = c .before .before .before .before .args in
     by (ended σ (e ∙ ap (λ (z : Text). 68 ∷ z) (behind-d (a .s .now) (a .p .at) (sym (h .rest) ∙ e) ∙ rest-none (a .s .now) (a .p .at + 1) (c .if1 .taken)))) refuses
-
-shared-slice-read-builtin-d : tie.Need-shared-slice-read-builtin-d
-shared-slice-read-builtin-d c = search needs
-
-builtin-d-requires : tie.Need-builtin-d-requires
-builtin-d-requires c κs = search needs
-
-enum-known-picked : tie.Need-enum-known-picked
-enum-known-picked c = search needs
-
-enum-told : tie.Need-enum-told
-enum-told c = search needs
 
 returns-2 : tie.Need-returns-2
 unfolding b
@@ -74,17 +59,8 @@ returns-2 c store ends rest σ e h =
     let a = c .before .before .before .before .before .before .before .before .args in
     by (unknown σ (e ∙ ap (λ (z : Text). 68 ∷ z) (behind-d (a .s .now) (a .p .at) (sym (h .rest) ∙ e) ∙ rest-some (a .s .now) (a .p .at + 1) (c .before .before .before .before .if1 .left))) (picked-none (c .before .before .builtin-d .ensures) (c .enum-told .given .1))) refuses
 
-add-moved : tie.Need-add-moved
-add-moved c = search needs
-
-moved-requires : tie.Need-moved-requires
-moved-requires c κs = search needs
-
 word-requires : tie.Need-word-requires
 word-requires c κs = (rw (c .before .moved .ensures) (c .before .before .before .before .before .before .before .before .before .before .before .pre .1 .1 .1 .text), picked-at (c .before .before .before .before .before .builtin-d .ensures) (c .before .before .before .picked .given .1) .1)
-
-same-length : tie.Need-same-length
-same-length c = search needs
 
 returns-3 : tie.Need-returns-3
 unfolding b
@@ -98,15 +74,15 @@ pub builtin-d-spec : {M : Type 1} → statement M
 builtin-d-spec =
     tie.close
     (tie.spec
-    add-at
+    (λ c. search needs)
     returns
-    shared-slice-read-builtin-d
-    builtin-d-requires
-    enum-known-picked
-    enum-told
+    (λ c. search needs)
+    (λ c κs. search needs)
+    (λ c. search needs)
+    (λ c. search needs)
     returns-2
-    add-moved
-    moved-requires
+    (λ c. search needs)
+    (λ c κs. search needs)
     word-requires
-    same-length
+    (λ c. search needs)
     returns-3)

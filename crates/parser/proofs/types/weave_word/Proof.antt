@@ -17,18 +17,6 @@ use Rattle.parser.proofs.types.weave_word.Tie as tie
 written : (w : Word) (out : Text) → take (0 + (w .to - w .from)) out ≡ spelled w → take (w .to - w .from) out ≡ spelled w
 written w out e = ap (λ (k : ℕ). take k out) {x = w .to - w .from} {y = 0 + (w .to - w .from)} (omega arith) ∙ e
 
-sub-each : tie.Need-sub-each
-sub-each c = search needs
-
-slice-aggregate-write-word : tie.Need-slice-aggregate-write-word
-slice-aggregate-write-word c = search needs
-
-write-word-requires : tie.Need-write-word-requires
-write-word-requires c κs = search needs
-
-array-share-prefix-word : tie.Need-array-share-prefix-word
-array-share-prefix-word c = search needs
-
 slice-aggregate-weave : tie.Need-slice-aggregate-weave
 slice-aggregate-weave c =
     let a = c .before .before .before .before .before .before .before in
@@ -41,12 +29,6 @@ weave-requires c κs =
     let l = a .pre .1 .1 .1 .1 in
     (a .pre .0, (omega (arith, a .pre .1 .1 .1 .0), (omega (arith, l), (omega (arith, z, a .pre .1 .1 .0), omega (arith, ap (λ (j : ℕ). slots-in (newest (a .args .text .now) (a .args .p .top) (a .args .n)) * (0 + j)) z, l)))))
 
-raised-requires : tie.Need-raised-requires
-raised-requires c κs = search needs
-
-same-length : tie.Need-same-length
-same-length c = search needs
-
 returns : tie.Need-returns
 returns c =
     let a = c .before .before .before .before .before .before .before .before .before .before .before in
@@ -58,12 +40,12 @@ pub weave-word-spec : {M : Type 1} → statement M
 weave-word-spec =
     tie.close
     (tie.spec
-    sub-each
-    slice-aggregate-write-word
-    write-word-requires
-    array-share-prefix-word
+    (λ c. search needs)
+    (λ c. search needs)
+    (λ c κs. search needs)
+    (λ c. search needs)
     slice-aggregate-weave
     weave-requires
-    raised-requires
-    same-length
+    (λ c κs. search needs)
+    (λ c. search needs)
     returns)

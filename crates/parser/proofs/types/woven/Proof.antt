@@ -11,11 +11,5 @@ mul-more c = omega (arith, mul-le-mul-right (c .args .each) (c .pre .1 .0), c .p
 add-size : tie.Need-add-size
 add-size c = omega (arith, mul-le-mul-right (c .args .each) (c .pre .1 .0), c .pre .0, c .pre .1 .1)
 
-returns : tie.Need-returns
-returns c = search needs
-
-returns-2 : tie.Need-returns-2
-returns-2 c = search needs
-
 pub woven-spec : {M : Type 1} → statement M
-woven-spec = tie.close (tie.spec mul-more add-size returns returns-2)
+woven-spec = tie.close (tie.spec mul-more add-size (λ c. search needs) (λ c. search needs))

@@ -39,24 +39,6 @@ words-of x u e =
     (sym (ap (λ (o : Option (Wrapper × Text)). choose o (λ r. some (b (r .0 .0), b (r .0 .1))) none) (e []))
     ∙ by-pair (x ∷ []) [] (λ t v w. some (t, v)) none wrappers tt)
 
-sub-from : tie.Need-sub-from
-sub-from c = search needs
-
-slots-requires : tie.Need-slots-requires
-slots-requires c κs = search needs
-
-wrapper-requires : tie.Need-wrapper-requires
-wrapper-requires c κs = search needs
-
-enum-known-picked : tie.Need-enum-known-picked
-enum-known-picked c = search needs
-
-enum-told : tie.Need-enum-told
-enum-told c = search needs
-
-same-length : tie.Need-same-length
-same-length c = search needs
-
 returns : tie.Need-returns
 returns c k d s base from t σ u e h = absurd (some-not (sym (words-of _ u e .0) ∙ picked-none (c .before .before .wrapper .ensures) (c .enum-told .given .1)))
 
@@ -78,15 +60,6 @@ recorded-requires c κs =
       omega (arith, puts-top (a .args .n) (h .text) (c .before .before .before .before .before .put-word .ensures) (a .pre .1 .0) (omega (arith, a .pre .1 .1)), length-spelled _ (x .1)),
     )
 
-same-length-2 : tie.Need-same-length-2
-same-length-2 c = search needs
-
-same-length-3 : tie.Need-same-length-3
-same-length-3 c = search needs
-
-same-length-4 : tie.Need-same-length-4
-same-length-4 c = search needs
-
 returns-2 : tie.Need-returns-2
 returns-2 c k d s base from t σ u e h =
     let a = c .before .before .before .before .before .before .before .before .before .before .before .before .before .before .before .before .before .before .before .before .before .before .before in
@@ -103,15 +76,6 @@ wrap-slots-requires c κs =
     let a = c .before .before .before .before .before .before .before .before .before in
     (a .pre .0, (a .pre .1 .0, (a .pre .1 .1, (omega (arith, c .before .before .before .before .slots .ensures .1), c .before .before .before .before .slots .ensures .0 ∙ ap slots-in (sym (drop-take (a .args .p .top - a .args .n) (a .args .p .top) (a .args .text .now)))))))
 
-same-length-5 : tie.Need-same-length-5
-same-length-5 c = search needs
-
-same-length-6 : tie.Need-same-length-6
-same-length-6 c = search needs
-
-same-length-7 : tie.Need-same-length-7
-same-length-7 c = search needs
-
 returns-3 : tie.Need-returns-3
 returns-3 c k d s base from t σ u e h =
     let a = c .before .before .before .before .before .before .before .before .before .before .before .before .before .before .before .before in
@@ -123,23 +87,23 @@ pub wrap-spec : {M : Type 1} → statement M
 wrap-spec =
     tie.close
     (tie.spec
-    sub-from
-    slots-requires
-    wrapper-requires
-    enum-known-picked
-    enum-told
-    same-length
+    (λ c. search needs)
+    (λ c κs. search needs)
+    (λ c κs. search needs)
+    (λ c. search needs)
+    (λ c. search needs)
+    (λ c. search needs)
     returns
     sub-more
     add-size
     put-word-requires
     recorded-requires
-    same-length-2
-    same-length-3
-    same-length-4
+    (λ c. search needs)
+    (λ c. search needs)
+    (λ c. search needs)
     returns-2
     wrap-slots-requires
-    same-length-5
-    same-length-6
-    same-length-7
+    (λ c. search needs)
+    (λ c. search needs)
+    (λ c. search needs)
     returns-3)

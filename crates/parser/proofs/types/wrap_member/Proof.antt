@@ -35,34 +35,10 @@ woven {text} {top} c m h l e =
     (ap slots-in (drop-take (top - m) top text) ∙ sym e)
     (length-append (below-newest text top m c) (58 ∷ 58 ∷ 42 ∷ []) ∙ ap (λ (j : ℕ). j + 3) (length-take-le c (drop (top - (c + m)) text) (simp length-drop (omega (arith, h .size, h .most)))))
 
-sub-from : tie.Need-sub-from
-sub-from c = search needs
-
-slots-requires : tie.Need-slots-requires
-slots-requires c κs = search needs
-
-class-behind-requires : tie.Need-class-behind-requires
-class-behind-requires c κs = search needs
-
-add-size : tie.Need-add-size
-add-size c = search needs
-
-add-size-2 : tie.Need-add-size-2
-add-size-2 c = search needs
-
 recorded-requires : tie.Need-recorded-requires
 recorded-requires c κs =
     let a = c .before .before .before .before .before .before .before .before .before .before .before .before .before in
     ((a .pre .0 .0, (a .pre .0 .1 .0, c .before .before .before .before .before .class-behind .ensures .1 .0 _ _ _ _ (a .pre .0 .1 .1))), omega (arith, c .before .before .before .before .before .class-behind .ensures .0))
-
-same-length : tie.Need-same-length
-same-length c = search needs
-
-same-length-2 : tie.Need-same-length-2
-same-length-2 c = search needs
-
-same-length-3 : tie.Need-same-length-3
-same-length-3 c = search needs
 
 returns : tie.Need-returns
 returns c k d s base from x y σ e f h =
@@ -70,18 +46,6 @@ returns c k d s base from x y σ e f h =
     let l : length (x ++ y) ≤ 32768 = omega (arith, length-append x y, e, f, a .pre .1 .0, a .pre .1 .1 .0) in
     by (ap (λ (t : Text). recorded t σ) (behind y (at-slots (x ++ b "::*") y) (y ++ b " " ++ x ++ b "::*") (ap slots-in (sym (member x y h l f)) ∙ sym (c .before .before .before .before .before .before .before .before .before .before .before .before .before .slots .ensures .0) ∙ c .before .before .before .before .before .before .before .before .before .before .before .before .if1 .taken)))
     (c .before .before .before .before .recorded .ensures k d s base from _ σ (c .before .before .before .before .before .before .before .before .before .before .class-behind .ensures .1 .1 k d s base from _ _ x y σ e f h))
-
-add-each : tie.Need-add-each
-add-each c = search needs
-
-woven-requires : tie.Need-woven-requires
-woven-requires c κs = search needs
-
-too-long-requires : tie.Need-too-long-requires
-too-long-requires c κs = search needs
-
-same-length-4 : tie.Need-same-length-4
-same-length-4 c = search needs
 
 returns-2 : tie.Need-returns-2
 unfolding b
@@ -93,20 +57,11 @@ returns-2 c k d s base from x y σ e f h =
     by (ap (λ (t : Text). recorded t σ) (inside y (at-slots (x ++ b "::*") y) (y ++ b " " ++ x ++ b "::*") (λ i. c .before .before .before .if1 .left (sym g ∙ i))))
     (c .too-long .ensures k d s base from _ _ (at-slots (x ++ b "::*") y) σ (h .holds) (omega (arith, z, c .before .before .woven .ensures)) (c .before .if2 .taken))
 
-slice-aggregate-weave : tie.Need-slice-aggregate-weave
-slice-aggregate-weave c = search needs
-
 weave-requires : tie.Need-weave-requires
 weave-requires c κs =
     let a = c .before .before .before .before .before .before .before .before .before .before in
     let g = c .before .before .before .before .before .slots .ensures .0 ∙ ap slots-in (sym (drop-take (a .args .p .top - a .args .m) (a .args .p .top) (a .args .text .now))) in
     (a .pre .0 .1 .1 .text, (a .pre .1 .1 .1, (omega (arith, a .pre .1 .0, a .pre .1 .1 .0), (omega arith, omega (arith, ap (λ (j : ℕ). j * (a .args .c + 3)) g, c .before .before .before .woven .ensures, c .before .before .if2 .left)))))
-
-raised-requires : tie.Need-raised-requires
-raised-requires c κs = search needs
-
-add-both : tie.Need-add-both
-add-both c = search needs
 
 cut-requires : tie.Need-cut-requires
 cut-requires c κs =
@@ -125,15 +80,6 @@ recorded-requires-2 c κs =
       (a .pre .0 .0, (a .pre .0 .1 .0, holds-cuts (c .before .before .before .before .before .cut .ensures) (holds-puts u h))),
       omega (arith, puts-top (a .args .c + a .args .m) (h .text) u (a .pre .1 .1 .1) (omega (arith, a .pre .1 .0, a .pre .1 .1 .0)), z, c .before .before .before .before .before .before .before .before .before .before .before .before .before .before .woven .ensures, c .before .before .before .before .before .before .before .before .before .before .before .before .before .if2 .left, c .before .before .before .before .before .cut .ensures .cut .top-is),
     )
-
-same-length-5 : tie.Need-same-length-5
-same-length-5 c = search needs
-
-same-length-6 : tie.Need-same-length-6
-same-length-6 c = search needs
-
-same-length-7 : tie.Need-same-length-7
-same-length-7 c = search needs
 
 returns-3 : tie.Need-returns-3
 unfolding b
@@ -157,28 +103,28 @@ pub wrap-member-spec : {M : Type 1} → statement M
 wrap-member-spec =
     tie.close
     (tie.spec
-    sub-from
-    slots-requires
-    class-behind-requires
-    add-size
-    add-size-2
+    (λ c. search needs)
+    (λ c κs. search needs)
+    (λ c κs. search needs)
+    (λ c. search needs)
+    (λ c. search needs)
     recorded-requires
-    same-length
-    same-length-2
-    same-length-3
+    (λ c. search needs)
+    (λ c. search needs)
+    (λ c. search needs)
     returns
-    add-each
-    woven-requires
-    too-long-requires
-    same-length-4
+    (λ c. search needs)
+    (λ c κs. search needs)
+    (λ c κs. search needs)
+    (λ c. search needs)
     returns-2
-    slice-aggregate-weave
+    (λ c. search needs)
     weave-requires
-    raised-requires
-    add-both
+    (λ c κs. search needs)
+    (λ c. search needs)
     cut-requires
     recorded-requires-2
-    same-length-5
-    same-length-6
-    same-length-7
+    (λ c. search needs)
+    (λ c. search needs)
+    (λ c. search needs)
     returns-3)

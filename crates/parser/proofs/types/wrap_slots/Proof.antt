@@ -27,15 +27,6 @@ short-word {x} {r} {w} h e =
     let p = picked-at h e in
     (p .1, omega (arith, word-within 9 at-slot (x ∷ []) tt (p .0), length-spelled w (p .1)))
 
-slot-wrapper-requires : tie.Need-slot-wrapper-requires
-slot-wrapper-requires c κs = search needs
-
-enum-known-picked : tie.Need-enum-known-picked
-enum-known-picked c = search needs
-
-enum-told : tie.Need-enum-told
-enum-told c = search needs
-
 returns : tie.Need-returns
 returns c k d s base from t σ w e h = absurd (some-not (sym e ∙ picked-none (c .before .before .slot-wrapper .ensures) (c .enum-told .given .1)))
 
@@ -46,9 +37,6 @@ woven-requires : tie.Need-woven-requires
 woven-requires c κs =
     let a = c .before .before .before .before .before .before .before .before .pre in
     (omega (arith, a .1 .1 .0), (omega (arith, a .1 .1 .0, a .1 .1 .1 .0), omega (arith, short-word (c .before .before .before .before .slot-wrapper .ensures) (c .before .before .picked .given .1) .1)))
-
-too-long-requires : tie.Need-too-long-requires
-too-long-requires c κs = search needs
 
 returns-2 : tie.Need-returns-2
 returns-2 c k d s base from t σ w e h =
@@ -84,15 +72,6 @@ recorded-requires c κs =
       omega (arith, puts-top (a .args .n) (h .text) (c .before .before .before .before .before .before .before .before .before .weave-word .ensures) (a .pre .1 .0) (omega (arith, a .pre .1 .1 .0)), z, c .before .before .before .before .before .before .before .before .before .before .before .before .woven .ensures, c .before .before .before .before .before .before .before .before .before .before .before .if1 .left, c .before .before .before .before .before .cut .ensures .cut .top-is),
     )
 
-same-length : tie.Need-same-length
-same-length c = search needs
-
-same-length-2 : tie.Need-same-length-2
-same-length-2 c = search needs
-
-same-length-3 : tie.Need-same-length-3
-same-length-3 c = search needs
-
 returns-3 : tie.Need-returns-3
 returns-3 c k d s base from t σ w e h =
     let a = c .before .before .before .before .before .before .before .before .before .before .before .before .before .before .before .before .before .before .before .before .before .before .before .before .before .before in
@@ -109,18 +88,18 @@ pub wrap-slots-spec : {M : Type 1} → statement M
 wrap-slots-spec =
     tie.close
     (tie.spec
-    slot-wrapper-requires
-    enum-known-picked
-    enum-told
+    (λ c κs. search needs)
+    (λ c. search needs)
+    (λ c. search needs)
     returns
     sub-each
     woven-requires
-    too-long-requires
+    (λ c κs. search needs)
     returns-2
     weave-word-requires
     cut-requires
     recorded-requires
-    same-length
-    same-length-2
-    same-length-3
+    (λ c. search needs)
+    (λ c. search needs)
+    (λ c. search needs)
     returns-3)

@@ -9,18 +9,9 @@ use Rattle.reader.proofs.lists.comma.Tie as tie
 returns : tie.Need-returns
 returns c = puts-none (b ", ") (c .before .before .args .n) (omega arith) (c .before .before .pre)
 
-slice-aggregate-put : tie.Need-slice-aggregate-put
-slice-aggregate-put c = search needs
-
-put-requires : tie.Need-put-requires
-put-requires c κs = search needs
-
-same-length : tie.Need-same-length
-same-length c = search needs
-
 returns-2 : tie.Need-returns-2
 unfolding b
 returns-2 c = puts-some (b ", ") (c .before .before .before .before .before .before .before .args .n) (omega arith) (c .before .before .put .ensures)
 
 pub comma-spec : {M : Type 1} → statement M
-comma-spec = tie.close (tie.spec returns slice-aggregate-put put-requires same-length returns-2)
+comma-spec = tie.close (tie.spec returns (λ c. search needs) (λ c κs. search needs) (λ c. search needs) returns-2)

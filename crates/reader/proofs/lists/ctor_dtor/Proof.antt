@@ -12,36 +12,15 @@ use Rattle.reader.specs.Lists.{before-part}
 use Rattle.reader.specs.Joined.{colons-size}
 use Rattle.reader.specs.Structors.{tilde-size, structor-long, structor-named, exact, between, again-room}
 
-add-moved : tie.Need-add-moved
-add-moved c = search needs
-
-moved-requires : tie.Need-moved-requires
-moved-requires c κs = search needs
-
 returns : tie.Need-returns
 returns c s store ends base from ps σ x t e h =
     structor-long h e (c .moved .ensures) (omega arith)
-
-class-of-requires : tie.Need-class-of-requires
-class-of-requires c κs = search needs
-
-shorter-requires : tie.Need-shorter-requires
-shorter-requires c κs = search needs
-
-tilde-size-requires : tie.Need-tilde-size-requires
-tilde-size-requires c κs = search needs
 
 add-last : tie.Need-add-last
 add-last c = search (needs, c .tilde-size .ensures, tilde-size (c .before .before .before .before .before .before .args .c), c .before .shorter .ensures)
 
 longer-requires : tie.Need-longer-requires
 longer-requires c κs = (omega (arith, c .tilde-size .ensures, tilde-size (c .before .before .before .before .before .before .args .c), c .before .shorter .ensures), c .before .before .before .before .before .before .pre .1 .0)
-
-separated-requires : tie.Need-separated-requires
-separated-requires c κs = search needs
-
-tilde-requires : tie.Need-tilde-requires
-tilde-requires c κs = search needs
 
 sub-again : tie.Need-sub-again
 sub-again c = omega (arith, ap (λ (q : Parts). q .n) (c .before .before .before .before .before .before .before .before .before .longer .ensures), c .before .before .before .before .before .before .before .before .before .before .before .before .before .before .before .before .pre .1 .0)
@@ -74,12 +53,6 @@ again-requires c κs = (c .before .before .before .before .tilde .ensures .put .
 add-moved-2 : tie.Need-add-moved-2
 add-moved-2 c = search (needs, c .before .before .before .before .before .before .before .before .before .before .before .before .before .before .before .before .before .before .before .before .pre .0 .3 .1 .place, c .before .before .before .before .before .before .before .before .before .before .before .before .before .before .before .before .before .before .before .before .pre .0 .3 .1 .source)
 
-moved-requires-2 : tie.Need-moved-requires-2
-moved-requires-2 c κs = search needs
-
-same-length : tie.Need-same-length
-same-length c = search needs
-
 returns-2 : tie.Need-returns-2
 returns-2 c s store ends base from ps σ x t e h =
     let m : c .before .before .before .before .before .before .before .before .before .before .before .before .before .before .before .before .shorter .result ≤ 16384 = omega (arith, c .before .before .before .before .before .before .before .before .before .before .before .before .before .before .before .before .shorter .ensures) in
@@ -93,21 +66,21 @@ pub ctor-dtor-spec : {M : Type 1} → statement M
 ctor-dtor-spec =
     tie.close
     (tie.spec
-    add-moved
-    moved-requires
+    (λ c. search needs)
+    (λ c κs. search needs)
     returns
-    class-of-requires
-    shorter-requires
-    tilde-size-requires
+    (λ c κs. search needs)
+    (λ c κs. search needs)
+    (λ c κs. search needs)
     add-last
     longer-requires
-    separated-requires
-    tilde-requires
+    (λ c κs. search needs)
+    (λ c κs. search needs)
     sub-again
     sub-again-2
     add-again
     again-requires
     add-moved-2
-    moved-requires-2
-    same-length
+    (λ c κs. search needs)
+    (λ c. search needs)
     returns-2)

@@ -31,21 +31,6 @@ listed c t ts h l f g =
     (⊎-elim (λ w. absurd (w .1 .left (omega (arith, f, j)))) (λ w. absurd (w .left (omega (arith, g, i)))))
     (c .if1 .came))
 
-slice-aggregate-same : tie.Need-slice-aggregate-same
-slice-aggregate-same c = search needs
-
-same-requires : tie.Need-same-requires
-same-requires c κs = search needs
-
-cut-requires : tie.Need-cut-requires
-cut-requires c κs = search needs
-
-slice-aggregate-put : tie.Need-slice-aggregate-put
-slice-aggregate-put c = search needs
-
-put-requires : tie.Need-put-requires
-put-requires c κs = search needs
-
 add-recorded : tie.Need-add-recorded
 add-recorded c = record { fits = omega (arith, c .before .before .before .before .before .before .before .before .before .before .before .before .before .before .before .before .before .before .before .before .before .pre .1 .0) }
 
@@ -55,15 +40,6 @@ recorded-requires c κs =
     let u = c .before .before .before .before .before .before .before .before .before .before .cut .ensures in
     let v = c .before .before .before .before .before .put .ensures in
     ((a .pre .0 .0, (a .pre .0 .1 .0, holds-puts v (holds-cuts u (a .pre .0 .1 .1)))), omega (arith, puts-least (u .cut .stack) v, u .cut .top-is, a .pre .1, c .before .before .before .before .before .before .before .before .before .before .before .before .before .before .before .before .if2 .taken))
-
-same-length : tie.Need-same-length
-same-length c = search needs
-
-same-length-2 : tie.Need-same-length-2
-same-length-2 c = search needs
-
-same-length-3 : tie.Need-same-length-3
-same-length-3 c = search needs
 
 returns : tie.Need-returns
 unfolding b
@@ -77,32 +53,11 @@ returns c s base from t ts σ h e f g =
     (c .before .before .before .before .recorded .ensures (keep (a .args .p .depth)) (a .args .p .depth) s base from _ σ
     (stands-puts w (c .before .before .before .before .before .before .before .before .before .before .put .ensures) (omega (arith, e, l, length-append (t ++ opening) (41 ∷ []), length-append t opening))))
 
-slice-aggregate-put-2 : tie.Need-slice-aggregate-put-2
-slice-aggregate-put-2 c = search needs
-
-put-requires-2 : tie.Need-put-requires-2
-put-requires-2 c κs = search needs
-
-add-sum : tie.Need-add-sum
-add-sum c = search needs
-
-sum-requires : tie.Need-sum-requires
-sum-requires c κs = search needs
-
 recorded-requires-2 : tie.Need-recorded-requires-2
 recorded-requires-2 c κs =
     let a = c .before .before .before .before .before .before .before .before .before .before .before .before .before in
     let v = c .before .before .before .before .before .before .put2 .ensures in
     ((a .pre .0 .0, (a .pre .0 .1 .0, holds-puts v (a .pre .0 .1 .1))), omega (arith, puts-least (a .pre .0 .1 .1 .text) v, c .sum .ensures, a .pre .1))
-
-same-length-4 : tie.Need-same-length-4
-same-length-4 c = search needs
-
-same-length-5 : tie.Need-same-length-5
-same-length-5 c = search needs
-
-same-length-6 : tie.Need-same-length-6
-same-length-6 c = search needs
 
 returns-2 : tie.Need-returns-2
 returns-2 c s base from t ts σ h e f g =
@@ -117,23 +72,23 @@ pub func-end-spec : {M : Type 1} → statement M
 func-end-spec =
     tie.close
     (tie.spec
-    slice-aggregate-same
-    same-requires
-    cut-requires
-    slice-aggregate-put
-    put-requires
+    (λ c. search needs)
+    (λ c κs. search needs)
+    (λ c κs. search needs)
+    (λ c. search needs)
+    (λ c κs. search needs)
     add-recorded
     recorded-requires
-    same-length
-    same-length-2
-    same-length-3
+    (λ c. search needs)
+    (λ c. search needs)
+    (λ c. search needs)
     returns
-    slice-aggregate-put-2
-    put-requires-2
-    add-sum
-    sum-requires
+    (λ c. search needs)
+    (λ c κs. search needs)
+    (λ c. search needs)
+    (λ c κs. search needs)
     recorded-requires-2
-    same-length-4
-    same-length-5
-    same-length-6
+    (λ c. search needs)
+    (λ c. search needs)
+    (λ c. search needs)
     returns-2)

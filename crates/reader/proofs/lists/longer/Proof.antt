@@ -11,19 +11,10 @@ use Rattle.reader.proofs.lists.longer.Tie as tie
 abbrev with-size : ℕ → ℕ → Bool → Parts
 with-size n m q = record { n = n; last = m; count = 1; structor = q }
 
-sum-requires : tie.Need-sum-requires
-sum-requires c κs = search needs
-
 returns : tie.Need-returns
 returns c =
     let a = c .before .before .before .args in
     ap (λ (x : ℕ). with-size x (a .m) (a .parts .structor)) {x = c .sum .result} {y = min (a .parts .n + (2 * min (a .parts .count) 1 + a .m)) 65536} (omega (arith, c .sum .ensures))
-
-add-sum : tie.Need-add-sum
-add-sum c = search needs
-
-sum-requires-2 : tie.Need-sum-requires-2
-sum-requires-2 c κs = search needs
 
 returns-2 : tie.Need-returns-2
 returns-2 c =
@@ -31,4 +22,4 @@ returns-2 c =
     ap (λ (x : ℕ). with-size x (a .m) (a .parts .structor)) {x = c .sum2 .result} {y = min (a .parts .n + (2 * min (a .parts .count) 1 + a .m)) 65536} (omega (arith, c .sum2 .ensures))
 
 pub longer-spec : {M : Type 1} → statement M
-longer-spec = tie.close (tie.spec sum-requires returns add-sum sum-requires-2 returns-2)
+longer-spec = tie.close (tie.spec (λ c κs. search needs) returns (λ c. search needs) (λ c κs. search needs) returns-2)

@@ -20,11 +20,8 @@ inner (suc level) n h = refl
 returns : tie.Need-returns
 returns c = outermost (c .before .args .level) (c .before .args .n) (omega arith)
 
-add-result : tie.Need-add-result
-add-result c = search needs
-
 returns-2 : tie.Need-returns-2
 returns-2 c = inner (c .before .args .level) (c .before .args .n) (omega arith)
 
 pub pack-ends-spec : {M : Type 1} → statement M
-pack-ends-spec = tie.close (tie.spec returns add-result returns-2)
+pack-ends-spec = tie.close (tie.spec returns (λ c. search needs) returns-2)

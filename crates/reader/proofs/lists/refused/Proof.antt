@@ -5,12 +5,6 @@ use Rattle.reader.specs.Lists.{refused-of}
 use Rattle.reader.proofs.lists.refused.Statement.{statement}
 use Rattle.reader.proofs.lists.refused.Tie as tie
 
-enum-known-list : tie.Need-enum-known-list
-enum-known-list c = search needs
-
-enum-known-list-2 : tie.Need-enum-known-list-2
-enum-known-list-2 c = search needs
-
 returns : tie.Need-returns
 returns c = sym (ap refused-of (c .before .list .given .1))
 
@@ -18,4 +12,4 @@ returns-2 : tie.Need-returns-2
 returns-2 c = sym (ap refused-of (c .before .list2 .given .1))
 
 pub refused-spec : {M : Type 1} → statement M
-refused-spec = tie.close (tie.spec enum-known-list enum-known-list-2 returns returns-2)
+refused-spec = tie.close (tie.spec (λ c. search needs) (λ c. search needs) returns returns-2)

@@ -15,9 +15,6 @@ use Rattle.reader.proofs.lists.Kind as kind-type
 use Rattle.reader.proofs.lists.stops.Statement.{statement}
 use Rattle.reader.proofs.lists.stops.Tie as tie
 
-enum-told : tie.Need-enum-told
-enum-told c = search needs
-
 returns : tie.Need-returns
 returns c = sym (ap (λ (k : Kind). stops-at k (c .before .before .args .c)) (c .enum-told .given .1))
 
@@ -30,4 +27,4 @@ returns-2 : tie.Need-returns-2
 returns-2 c = others (c .before .args .kind) (c .before .args .c) (c .match .keys2)
 
 pub stops-spec : {M : Type 1} → statement M
-stops-spec = tie.close (tie.spec enum-told returns returns-2)
+stops-spec = tie.close (tie.spec (λ c. search needs) returns returns-2)

@@ -10,23 +10,8 @@ use Rattle.store.proofs.stack.again.Tie as tie
 use Rattle.store.proofs.stack.room.Reads as room-reads
 use Rattle.store.proofs.stack.shift.Reads as shift-reads
 
-sub-back : tie.Need-sub-back
-sub-back c = search needs
-
-room-requires : tie.Need-room-requires
-room-requires c κs = search needs
-
-sub-low : tie.Need-sub-low
-sub-low c = search needs
-
 shift-requires : tie.Need-shift-requires
 shift-requires c κs = (omega arith, (omega arith, inr (omega arith)))
-
-add-result : tie.Need-add-result
-add-result c = search needs
-
-same-length : tie.Need-same-length
-same-length c = search needs
 
 returns : tie.Need-returns
 returns c = again-put (c .before .before .before .before .before .before .before .before .before .args .from) (c .before .before .before .before .before .before .before .before .before .args .n) (c .before .before .before .before .before .before .before .before .before .pre .0) (c .before .before .before .before .before .before .room .ensures) (c .before .before .before .before .before .before .before .before .before .pre .1 .0) (c .before .before .before .before .before .before .before .before .before .pre .1 .1 .0) (c .before .before .shift .ensures)
@@ -34,4 +19,4 @@ returns c = again-put (c .before .before .before .before .before .before .before
 pub again-spec : {M : Type 1} → statement M
 again-spec =
     tie.close
-    (tie.spec sub-back room-requires sub-low shift-requires add-result same-length returns)
+    (tie.spec (λ c. search needs) (λ c κs. search needs) (λ c. search needs) shift-requires (λ c. search needs) (λ c. search needs) returns)

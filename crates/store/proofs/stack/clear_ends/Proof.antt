@@ -20,18 +20,6 @@ abbrev μ-loop : tie.MeasureT-loop
 loop-holds : tie.Need-loop-holds Inv-loop μ-loop
 loop-holds c = (omega arith, (refl, clear-none (c .args .slice .now)))
 
-mul-slice : tie.Need-mul-slice Inv-loop μ-loop
-mul-slice c = search needs
-
-slice-write-slice : tie.Need-slice-write-slice Inv-loop μ-loop
-slice-write-slice c = search needs
-
-add-i : tie.Need-add-i Inv-loop μ-loop
-add-i c = search needs
-
-loop-less : tie.Need-loop-less Inv-loop μ-loop
-loop-less c = search needs
-
 loop-again : tie.Need-loop-again Inv-loop μ-loop
 loop-again c =
     let l = c .before .loop in
@@ -52,10 +40,10 @@ clear-ends-spec =
     Inv-loop
     μ-loop
     loop-holds
-    mul-slice
-    slice-write-slice
-    add-i
-    loop-less
+    (λ c. search needs)
+    (λ c. search needs)
+    (λ c. search needs)
+    (λ c. search needs)
     loop-again
     same-length
     returns)

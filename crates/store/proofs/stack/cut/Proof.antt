@@ -9,20 +9,8 @@ use Rattle.store.proofs.stack.cut.Statement.{statement}
 use Rattle.store.proofs.stack.cut.Tie as tie
 use Rattle.store.proofs.stack.shift.Reads as shift-reads
 
-sub-from : tie.Need-sub-from
-sub-from c = search needs
-
-sub-to : tie.Need-sub-to
-sub-to c = search needs
-
 shift-requires : tie.Need-shift-requires
 shift-requires c κs = (omega arith, (omega arith, inl (omega arith)))
-
-sub-result : tie.Need-sub-result
-sub-result c = search needs
-
-same-length : tie.Need-same-length
-same-length c = search needs
 
 returns : tie.Need-returns
 returns c =
@@ -33,9 +21,9 @@ pub cut-spec : {M : Type 1} → statement M
 cut-spec =
     tie.close
     (tie.spec
-    sub-from
-    sub-to
+    (λ c. search needs)
+    (λ c. search needs)
     shift-requires
-    sub-result
-    same-length
+    (λ c. search needs)
+    (λ c. search needs)
     returns)

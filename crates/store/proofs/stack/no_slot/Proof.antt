@@ -18,26 +18,14 @@ Inv-loop text from to at₀ at = (from ≤ at) × ((at ≤ to + 15) × (slots-in
 abbrev μ-loop : tie.MeasureT-loop
 μ-loop text from to at₀ at = to - at
 
-sub-if1 : tie.Need-sub-if1 Inv-loop μ-loop
-sub-if1 c = search needs
-
 returns : tie.Need-returns Inv-loop μ-loop
 returns c = λ e. absurd (false≢true e)
 
 loop-holds : tie.Need-loop-holds Inv-loop μ-loop
 loop-holds c = (omega arith, (omega arith, slots-none (c .before .before .args .text .now) (c .before .before .args .from) (c .before .before .args .from - c .before .before .args .from) (omega arith)))
 
-no-slot-in-block-requires : tie.Need-no-slot-in-block-requires Inv-loop μ-loop
-no-slot-in-block-requires c κs = search needs
-
 returns-2 : tie.Need-returns-2 Inv-loop μ-loop
 returns-2 c = λ e. absurd (false≢true e)
-
-add-at : tie.Need-add-at Inv-loop μ-loop
-add-at c = search needs
-
-loop-less : tie.Need-loop-less Inv-loop μ-loop
-loop-less c = search needs
 
 loop-again : tie.Need-loop-again Inv-loop μ-loop
 loop-again c =
@@ -59,12 +47,12 @@ no-slot-spec =
     (tie.spec
     Inv-loop
     μ-loop
-    sub-if1
+    (λ c. search needs)
     returns
     loop-holds
-    no-slot-in-block-requires
+    (λ c κs. search needs)
     returns-2
-    add-at
-    loop-less
+    (λ c. search needs)
+    (λ c. search needs)
     loop-again
     returns-3)

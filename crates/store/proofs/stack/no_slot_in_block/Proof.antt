@@ -22,18 +22,6 @@ loop-holds : tie.Need-loop-holds Inv-loop μ-loop
 unfolding slots-in
 loop-holds c = (omega arith, λ _. refl)
 
-add-if1 : tie.Need-add-if1 Inv-loop μ-loop
-add-if1 c = search needs
-
-shared-slice-read-if1 : tie.Need-shared-slice-read-if1 Inv-loop μ-loop
-shared-slice-read-if1 c = search needs
-
-add-i : tie.Need-add-i Inv-loop μ-loop
-add-i c = search needs
-
-loop-less : tie.Need-loop-less Inv-loop μ-loop
-loop-less c = search needs
-
 loop-again : tie.Need-loop-again Inv-loop μ-loop
 loop-again c =
     let s = c .before .before .before .before in
@@ -58,9 +46,9 @@ no-slot-in-block-spec =
     Inv-loop
     μ-loop
     loop-holds
-    add-if1
-    shared-slice-read-if1
-    add-i
-    loop-less
+    (λ c. search needs)
+    (λ c. search needs)
+    (λ c. search needs)
+    (λ c. search needs)
     loop-again
     returns)

@@ -19,26 +19,17 @@ shift-requires c κs =
     let r : a .top + a .d + length (a .word .now) + 1 ≤ 51200 = slot-room (a .low) (a .d) (a .word .now) (a .x) (s .pre .0) (s .pre .1 .0) (s .pre .1 .1) (c .before .if1 .taken) in
     (omega arith, (omega arith, inr (omega arith)))
 
-add-at : tie.Need-add-at
-add-at c = search needs
-
 copy-requires : tie.Need-copy-requires
 copy-requires c κs =
     let s = c .before .before .before .before .before .before .before .before in
     let a = s .args in
     omega (arith, c .before .before .before .shift .kept .0, slot-room (a .low) (a .d) (a .word .now) (a .x) (s .pre .0) (s .pre .1 .0) (s .pre .1 .1) (c .before .before .before .before .before .if1 .taken))
 
-add-end : tie.Need-add-end
-add-end c = search needs
-
 slice-write-text : tie.Need-slice-write-text
 slice-write-text c =
     let s = c .before .before .before .before .before .before .before .before .before .before .before in
     let a = s .args in
     omega (arith, c .before .before .copy .kept .0, c .before .before .before .before .before .before .shift .kept .0, slot-room (a .low) (a .d) (a .word .now) (a .x) (s .pre .0) (s .pre .1 .0) (s .pre .1 .1) (c .before .before .before .before .before .before .before .before .if1 .taken))
-
-add-result : tie.Need-add-result
-add-result c = search needs
 
 same-length : tie.Need-same-length
 same-length c = simp length-set (omega (arith, c .before .before .copy .kept .0, c .before .before .before .before .before .before .shift .kept .0))
@@ -55,12 +46,6 @@ slice-write-text-2 c =
     let a = s .args in
     omega (arith, byte-room (a .low) (a .d) (a .word .now) (a .x) (s .pre .0) (s .pre .1 .0) (s .pre .1 .1) (c .if1 .left))
 
-add-result-2 : tie.Need-add-result-2
-add-result-2 c = search needs
-
-same-length-2 : tie.Need-same-length-2
-same-length-2 c = search needs
-
 returns-2 : tie.Need-returns-2
 returns-2 c =
     let s = c .before .before .before in
@@ -72,14 +57,14 @@ piece-spec =
     tie.close
     (tie.spec
     shift-requires
-    add-at
+    (λ c. search needs)
     copy-requires
-    add-end
+    (λ c. search needs)
     slice-write-text
-    add-result
+    (λ c. search needs)
     same-length
     returns
     slice-write-text-2
-    add-result-2
-    same-length-2
+    (λ c. search needs)
+    (λ c. search needs)
     returns-2)

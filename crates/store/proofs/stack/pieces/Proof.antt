@@ -20,23 +20,11 @@ Inv-loop text₀ top n d word from low at₀ i₀ text at i =
 abbrev μ-loop : tie.MeasureT-loop
 μ-loop text₀ top n d word from low at₀ i₀ text at i = n - i
 
-sub-from : tie.Need-sub-from Inv-loop μ-loop
-sub-from c = search needs
-
-sub-low : tie.Need-sub-low Inv-loop μ-loop
-sub-low c = search needs
-
 loop-holds : tie.Need-loop-holds Inv-loop μ-loop
 loop-holds c =
     let s = c .before .before in
     let a = s .args in
     (omega arith, pieces-none (a .n) (a .d) (a .word .now) (s .pre .0) (s .pre .1 .0))
-
-add-x : tie.Need-add-x Inv-loop μ-loop
-add-x c = search needs
-
-slice-read-x : tie.Need-slice-read-x Inv-loop μ-loop
-slice-read-x c = search needs
 
 piece-requires : tie.Need-piece-requires Inv-loop μ-loop
 piece-requires c κs =
@@ -44,12 +32,6 @@ piece-requires c κs =
     let a = s .args in
     let l = c .before .before .before .loop in
     (l .inv .1 .stack, (omega (arith, l .inv .1 .top-is), piece-fits (a .n) (a .d) (a .word .now) (s .pre .0) (s .pre .1 .0) (l .i) (omega arith) (l .inv .1) (s .pre .1 .1)))
-
-add-i : tie.Need-add-i Inv-loop μ-loop
-add-i c = search needs
-
-loop-less : tie.Need-loop-less Inv-loop μ-loop
-loop-less c = search needs
 
 loop-again : tie.Need-loop-again Inv-loop μ-loop
 loop-again c =
@@ -74,14 +56,14 @@ pieces-spec =
     (tie.spec
     Inv-loop
     μ-loop
-    sub-from
-    sub-low
+    (λ c. search needs)
+    (λ c. search needs)
     loop-holds
-    add-x
-    slice-read-x
+    (λ c. search needs)
+    (λ c. search needs)
     piece-requires
-    add-i
-    loop-less
+    (λ c. search needs)
+    (λ c. search needs)
     loop-again
     same-length
     returns)

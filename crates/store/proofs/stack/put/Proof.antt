@@ -8,20 +8,8 @@ use Rattle.store.proofs.stack.put.Tie as tie
 use Rattle.store.proofs.stack.copy.Reads as copy-reads
 use Rattle.store.proofs.stack.room.Reads as room-reads
 
-room-requires : tie.Need-room-requires
-room-requires c κs = search needs
-
-copy-requires : tie.Need-copy-requires
-copy-requires c κs = search needs
-
-add-result : tie.Need-add-result
-add-result c = search needs
-
-same-length : tie.Need-same-length
-same-length c = search needs
-
 returns : tie.Need-returns
 returns c = put-put (c .before .before .before .before .before .before .before .before .before .before .args .word .now) (c .before .before .before .before .before .before .before .before .before .before .pre .0) (c .before .before .before .before .before .before .room .ensures) (c .before .before .copy .ensures)
 
 pub put-spec : {M : Type 1} → statement M
-put-spec = tie.close (tie.spec room-requires copy-requires add-result same-length returns)
+put-spec = tie.close (tie.spec (λ c κs. search needs) (λ c κs. search needs) (λ c. search needs) (λ c. search needs) returns)

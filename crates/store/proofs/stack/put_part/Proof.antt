@@ -8,21 +8,6 @@ use borrow.Author.Needs.{needs}
 use Rattle.store.proofs.stack.put_part.Statement.{statement}
 use Rattle.store.proofs.stack.put_part.Tie as tie
 
-sub-n : tie.Need-sub-n
-sub-n c = search needs
-
-room-requires : tie.Need-room-requires
-room-requires c κs = search needs
-
-copy-part-requires : tie.Need-copy-part-requires
-copy-part-requires c κs = search needs
-
-add-result : tie.Need-add-result
-add-result c = search needs
-
-same-length : tie.Need-same-length
-same-length c = search needs
-
 returns : tie.Need-returns
 returns c =
     let s = c .before .before .before .before .before .before .before .before .before .before in
@@ -31,4 +16,4 @@ returns c =
 
 pub put-part-spec : {M : Type 1} → statement M
 put-part-spec =
-    tie.close (tie.spec sub-n room-requires copy-part-requires add-result same-length returns)
+    tie.close (tie.spec (λ c. search needs) (λ c κs. search needs) (λ c κs. search needs) (λ c. search needs) (λ c. search needs) returns)

@@ -15,16 +15,10 @@ returns c =
     let a = c .before .before .before .args in
     sym (same-lengths (newest (a .text .now) (a .top) (a .n)) (a .word .now) (λ e. c .if1 .taken (omega (arith, simp (length-drop, length-take) at e))))
 
-sub-from : tie.Need-sub-from
-sub-from c = search needs
-
-same-part-requires : tie.Need-same-part-requires
-same-part-requires c κs = search needs
-
 returns-2 : tie.Need-returns-2
 returns-2 c =
     let a = c .before .before .before .before .args in
     same-newest (a .text .now) (a .word .now) (a .top) (a .n) (omega arith) (c .before .if1 .left) (c .same-part .ensures)
 
 pub same-spec : {M : Type 1} → statement M
-same-spec = tie.close (tie.spec returns sub-from same-part-requires returns-2)
+same-spec = tie.close (tie.spec returns (λ c. search needs) (λ c κs. search needs) returns-2)

@@ -19,26 +19,8 @@ abbrev μ-loop : tie.MeasureT-loop
 loop-holds : tie.Need-loop-holds Inv-loop μ-loop
 loop-holds c = (omega arith, refl)
 
-sub-loop : tie.Need-sub-loop Inv-loop μ-loop
-sub-loop c = search needs
-
-add-same-block : tie.Need-add-same-block Inv-loop μ-loop
-add-same-block c = search needs
-
-add-same-block-2 : tie.Need-add-same-block-2 Inv-loop μ-loop
-add-same-block-2 c = search needs
-
-same-block-requires : tie.Need-same-block-requires Inv-loop μ-loop
-same-block-requires c κs = search needs
-
 returns : tie.Need-returns Inv-loop μ-loop
 returns c = c .before .before .before .loop .inv
-
-add-i : tie.Need-add-i Inv-loop μ-loop
-add-i c = search needs
-
-loop-less : tie.Need-loop-less Inv-loop μ-loop
-loop-less c = search needs
 
 loop-again : tie.Need-loop-again Inv-loop μ-loop
 loop-again c =
@@ -56,12 +38,12 @@ same-blocks-spec =
     Inv-loop
     μ-loop
     loop-holds
-    sub-loop
-    add-same-block
-    add-same-block-2
-    same-block-requires
+    (λ c. search needs)
+    (λ c. search needs)
+    (λ c. search needs)
+    (λ c κs. search needs)
     returns
-    add-i
-    loop-less
+    (λ c. search needs)
+    (λ c. search needs)
     loop-again
     returns-2)

@@ -23,18 +23,6 @@ loop-holds c =
     let h = c .pre .1 .1 in
     (h .0, same-behind (drop (a .from) (a .text .now)) (drop (a .a) (a .store .now)) (a .n) (a .start) (h .0) (h .1))
 
-add-if1 : tie.Need-add-if1 Inv-loop μ-loop
-add-if1 c = search needs
-
-shared-slice-read-if1 : tie.Need-shared-slice-read-if1 Inv-loop μ-loop
-shared-slice-read-if1 c = search needs
-
-add-if1-2 : tie.Need-add-if1-2 Inv-loop μ-loop
-add-if1-2 c = search needs
-
-shared-slice-read-if1-2 : tie.Need-shared-slice-read-if1-2 Inv-loop μ-loop
-shared-slice-read-if1-2 c = search needs
-
 returns : tie.Need-returns Inv-loop μ-loop
 returns c =
     let s = c .before .before .before .before .before in
@@ -42,12 +30,6 @@ returns c =
     let l = c .before .before .before .before .loop in
     sym (l .inv .1 ∙ same-differ (take (a .n) (drop (a .from) (a .text .now))) (take (a .n) (drop (a .a) (a .store .now))) (l .i) (in-part (a .text .now) (a .from) (a .n) (l .i) (omega arith) (omega arith)) (in-part (a .store .now) (a .a) (a .n) (l .i) (omega arith) (omega arith))
     (λ e. c .if1 .taken (sym (part-at (a .text .now) (a .from) (a .n) (l .i) (omega arith)) ∙ e ∙ part-at (a .store .now) (a .a) (a .n) (l .i) (omega arith))))
-
-add-i : tie.Need-add-i Inv-loop μ-loop
-add-i c = search needs
-
-loop-less : tie.Need-loop-less Inv-loop μ-loop
-loop-less c = search needs
 
 loop-again : tie.Need-loop-again Inv-loop μ-loop
 loop-again c =
@@ -72,12 +54,12 @@ same-from-spec =
     Inv-loop
     μ-loop
     loop-holds
-    add-if1
-    shared-slice-read-if1
-    add-if1-2
-    shared-slice-read-if1-2
+    (λ c. search needs)
+    (λ c. search needs)
+    (λ c. search needs)
+    (λ c. search needs)
     returns
-    add-i
-    loop-less
+    (λ c. search needs)
+    (λ c. search needs)
     loop-again
     returns-2)

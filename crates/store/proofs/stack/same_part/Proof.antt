@@ -8,8 +8,5 @@ use Rattle.store.proofs.stack.same_part.Tie as tie
 same-from-requires : tie.Need-same-from-requires
 same-from-requires c κs = (omega arith, (omega arith, (omega arith, refl)))
 
-returns : tie.Need-returns
-returns c = search needs
-
 pub same-part-spec : {M : Type 1} → statement M
-same-part-spec = tie.close (tie.spec same-from-requires returns)
+same-part-spec = tie.close (tie.spec same-from-requires (λ c. search needs))

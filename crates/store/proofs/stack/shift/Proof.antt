@@ -20,24 +20,6 @@ abbrev μ-loop : tie.MeasureT-loop
 loop-holds : tie.Need-loop-holds Inv-loop μ-loop
 loop-holds c = (omega arith, (refl, paste-zero (c .args .text .now) (c .args .to) (drop (c .args .from) (c .args .text .now))))
 
-add-text : tie.Need-add-text Inv-loop μ-loop
-add-text c = search needs
-
-slice-read-text : tie.Need-slice-read-text Inv-loop μ-loop
-slice-read-text c = search needs
-
-add-text-2 : tie.Need-add-text-2 Inv-loop μ-loop
-add-text-2 c = search needs
-
-slice-write-text : tie.Need-slice-write-text Inv-loop μ-loop
-slice-write-text c = search needs
-
-add-i : tie.Need-add-i Inv-loop μ-loop
-add-i c = search needs
-
-loop-less : tie.Need-loop-less Inv-loop μ-loop
-loop-less c = search needs
-
 loop-again : tie.Need-loop-again Inv-loop μ-loop
 loop-again c =
     let s = c .before .before .before in
@@ -60,12 +42,12 @@ shift-spec =
     Inv-loop
     μ-loop
     loop-holds
-    add-text
-    slice-read-text
-    add-text-2
-    slice-write-text
-    add-i
-    loop-less
+    (λ c. search needs)
+    (λ c. search needs)
+    (λ c. search needs)
+    (λ c. search needs)
+    (λ c. search needs)
+    (λ c. search needs)
     loop-again
     same-length
     returns)

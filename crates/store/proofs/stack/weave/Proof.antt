@@ -13,15 +13,6 @@ use Rattle.store.proofs.stack.pieces.Reads as pieces-reads
 use Rattle.store.proofs.stack.room.Reads as room-reads
 use Rattle.store.proofs.stack.slots.Reads as slots-reads
 
-sub-from : tie.Need-sub-from
-sub-from c = search needs
-
-slots-requires : tie.Need-slots-requires
-slots-requires c κs = search needs
-
-add-each : tie.Need-add-each
-add-each c = search needs
-
 mul-size : tie.Need-mul-size
 mul-size c =
     let a = c .before .before .before .before .args in
@@ -50,9 +41,6 @@ pieces-requires c κs =
       ),
     )
 
-same-length : tie.Need-same-length
-same-length c = search needs
-
 returns : tie.Need-returns
 returns c =
     let s = c .before .before .before .before .before .before .before .before .before .before .before .before in
@@ -63,12 +51,12 @@ pub weave-spec : {M : Type 1} → statement M
 weave-spec =
     tie.close
     (tie.spec
-    sub-from
-    slots-requires
-    add-each
+    (λ c. search needs)
+    (λ c κs. search needs)
+    (λ c. search needs)
     mul-size
     add-size
     room-requires
     pieces-requires
-    same-length
+    (λ c. search needs)
     returns)

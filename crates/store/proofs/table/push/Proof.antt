@@ -10,30 +10,6 @@ use borrow.Author.Needs.{needs}
 use Rattle.store.proofs.table.push.Statement.{statement}
 use Rattle.store.proofs.table.push.Tie as tie
 
-sub-end : tie.Need-sub-end
-sub-end c = search needs
-
-add-end : tie.Need-add-end
-add-end c = search needs
-
-copy-part-requires : tie.Need-copy-part-requires
-copy-part-requires c κs = search needs
-
-cast-ends : tie.Need-cast-ends
-cast-ends c = search needs
-
-mul-ends : tie.Need-mul-ends
-mul-ends c = search needs
-
-slice-write-ends : tie.Need-slice-write-ends
-slice-write-ends c = search needs
-
-same-length : tie.Need-same-length
-same-length c = search needs
-
-same-length-2 : tie.Need-same-length-2
-same-length-2 c = search needs
-
 returns : tie.Need-returns
 returns c l h =
     let s = c .before .before .before .before .before .before .before in
@@ -45,12 +21,12 @@ pub push-spec : {M : Type 1} → statement M
 push-spec =
     tie.close
     (tie.spec
-    sub-end
-    add-end
-    copy-part-requires
-    cast-ends
-    mul-ends
-    slice-write-ends
-    same-length
-    same-length-2
+    (λ c. search needs)
+    (λ c. search needs)
+    (λ c κs. search needs)
+    (λ c. search needs)
+    (λ c. search needs)
+    (λ c. search needs)
+    (λ c. search needs)
+    (λ c. search needs)
     returns)

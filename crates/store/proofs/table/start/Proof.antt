@@ -11,15 +11,6 @@ use borrow.Author.Needs.{needs}
 use Rattle.store.proofs.table.start.Statement.{statement}
 use Rattle.store.proofs.table.start.Tie as tie
 
-sub-result : tie.Need-sub-result
-sub-result c = search needs
-
-mul-result : tie.Need-mul-result
-mul-result c = search needs
-
-shared-slice-read-result : tie.Need-shared-slice-read-result
-shared-slice-read-result c = search needs
-
 cast-result : tie.Need-cast-result
 cast-result c = omega (arith, c .shared-slice-known .given (c .before .before .args .k - 1))
 
@@ -33,4 +24,4 @@ returns-2 c l n e h = start-at n (c .before .before .args .k) (c .before .before
 pub start-spec : {M : Type 1} → statement M
 start-spec =
     tie.close
-    (tie.spec sub-result mul-result shared-slice-read-result cast-result returns returns-2)
+    (tie.spec (λ c. search needs) (λ c. search needs) (λ c. search needs) cast-result returns returns-2)

@@ -8,30 +8,6 @@ use borrow.Author.Needs.{needs}
 use Rattle.symbols.proofs.entry.normalize.Statement.{statement}
 use Rattle.symbols.proofs.entry.normalize.Tie as tie
 
-normalize-uncleared-requires : tie.Need-normalize-uncleared-requires
-normalize-uncleared-requires c κs = search needs
-
-clear-requires : tie.Need-clear-requires
-clear-requires c κs = search needs
-
-clear-requires-2 : tie.Need-clear-requires-2
-clear-requires-2 c κs = search needs
-
-clear-ends-requires : tie.Need-clear-ends-requires
-clear-ends-requires c κs = search needs
-
-same-length : tie.Need-same-length
-same-length c = search needs
-
-same-length-2 : tie.Need-same-length-2
-same-length-2 c = search needs
-
-same-length-3 : tie.Need-same-length-3
-same-length-3 c = search needs
-
-same-length-4 : tie.Need-same-length-4
-same-length-4 c = search needs
-
 returns : tie.Need-returns
 returns c =
     let a = c .before .before .before .before .before .before .before .before .before .before .before .before .before .before .before .before .before .before .before .before .before .before .before .before .before .before .before .before .before .before .args in
@@ -43,12 +19,12 @@ pub normalize-spec : {M : Type 1} → statement M
 normalize-spec =
     tie.close
     (tie.spec
-    normalize-uncleared-requires
-    clear-requires
-    clear-requires-2
-    clear-ends-requires
-    same-length
-    same-length-2
-    same-length-3
-    same-length-4
+    (λ c κs. search needs)
+    (λ c κs. search needs)
+    (λ c κs. search needs)
+    (λ c κs. search needs)
+    (λ c. search needs)
+    (λ c. search needs)
+    (λ c. search needs)
+    (λ c. search needs)
     returns)

@@ -9,25 +9,10 @@ use borrow.Author.Needs.{needs}
 use Rattle.symbols.proofs.entry.normalize_uncleared.Statement.{statement}
 use Rattle.symbols.proofs.entry.normalize_uncleared.Tie as tie
 
-behind-front-requires : tie.Need-behind-front-requires
-behind-front-requires c κs = search needs
-
-enum-told : tie.Need-enum-told
-enum-told c = search needs
-
-enum-told-2 : tie.Need-enum-told-2
-enum-told-2 c = search needs
-
-refused-requires : tie.Need-refused-requires
-refused-requires c κs = search needs
-
 returns : tie.Need-returns
 returns c =
     let a = c .before .before .before .before .before .before .before .before .before .args in
     front-refuses (c .before .before .before .behind-front .ensures) (slices (a .out .now) (a .text .now) (a .store .now) (a .ends .now)) (c .before .enum-told2 .given .1) (c .refused .ensures)
-
-work-fits-requires : tie.Need-work-fits-requires
-work-fits-requires c κs = search needs
 
 returns-2 : tie.Need-returns-2
 returns-2 c =
@@ -36,15 +21,6 @@ returns-2 c =
 
 accepted-requires : tie.Need-accepted-requires
 accepted-requires c κs = fit-long _ (sym (c .before .before .before .before .work-fits .ensures) ∙ not-false _ (c .before .before .before .if1 .left))
-
-same-length : tie.Need-same-length
-same-length c = search needs
-
-same-length-2 : tie.Need-same-length-2
-same-length-2 c = search needs
-
-same-length-3 : tie.Need-same-length-3
-same-length-3 c = search needs
 
 returns-3 : tie.Need-returns-3
 returns-3 c =
@@ -59,18 +35,6 @@ write-within-requires c κs =
     let k = c .before .before .before .before .before .before .before .before .before .before .accepted .kept in
     (front-inside (c .before .before .before .before .before .before .before .before .before .before .before .before .before .before .before .before .before .before .behind-front .ensures) (c .before .before .before .before .before .before .before .before .before .before .before .before .before .before .before .before .enum-told .given .1) .1, (omega (arith, l .store, k), omega (arith, l .ends, k)))
 
-same-length-4 : tie.Need-same-length-4
-same-length-4 c = search needs
-
-same-length-5 : tie.Need-same-length-5
-same-length-5 c = search needs
-
-same-length-6 : tie.Need-same-length-6
-same-length-6 c = search needs
-
-same-length-7 : tie.Need-same-length-7
-same-length-7 c = search needs
-
 returns-4 : tie.Need-returns-4
 returns-4 c =
     let a = c .before .before .before .before .before .before .before .before .before .before .before .before .before .before .before .before .before .before .before .before .before .before .before .before .before .before .before .before .before .before .before .args in
@@ -81,21 +45,21 @@ pub normalize-uncleared-spec : {M : Type 1} → statement M
 normalize-uncleared-spec =
     tie.close
     (tie.spec
-    behind-front-requires
-    enum-told
-    enum-told-2
-    refused-requires
+    (λ c κs. search needs)
+    (λ c. search needs)
+    (λ c. search needs)
+    (λ c κs. search needs)
     returns
-    work-fits-requires
+    (λ c κs. search needs)
     returns-2
     accepted-requires
-    same-length
-    same-length-2
-    same-length-3
+    (λ c. search needs)
+    (λ c. search needs)
+    (λ c. search needs)
     returns-3
     write-within-requires
-    same-length-4
-    same-length-5
-    same-length-6
-    same-length-7
+    (λ c. search needs)
+    (λ c. search needs)
+    (λ c. search needs)
+    (λ c. search needs)
     returns-4)

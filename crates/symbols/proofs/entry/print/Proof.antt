@@ -25,9 +25,6 @@ slice-aggregate-copy c = let a = c .before .before .before .before .before .befo
 copy-requires : tie.Need-copy-requires
 copy-requires c κs = let a = c .before .before .before .before .before .before in omega (arith, c .before .before .if2 .left, length-take-le (a .args .n) (a .args .text .now) (a .pre))
 
-same-length : tie.Need-same-length
-same-length c = search needs
-
 returns-3 : tie.Need-returns-3
 returns-3 c =
     let a = c .before .before .before .before .before .before .before .before .before in
@@ -36,4 +33,4 @@ returns-3 c =
 
 pub print-spec : {M : Type 1} → statement M
 print-spec =
-    tie.close (tie.spec returns returns-2 slice-aggregate-copy copy-requires same-length returns-3)
+    tie.close (tie.spec returns returns-2 slice-aggregate-copy copy-requires (λ c. search needs) returns-3)

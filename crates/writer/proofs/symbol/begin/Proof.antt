@@ -8,16 +8,10 @@ use Rattle.writer.proofs.symbol.begin.Tie as tie
 copy-requires : tie.Need-copy-requires
 copy-requires c κs = omega (arith, c .before .before .before .pre)
 
-begun-requires : tie.Need-begun-requires
-begun-requires c κs = search needs
-
-same-length : tie.Need-same-length
-same-length c = search needs
-
 returns : tie.Need-returns
 returns c =
     let q = c .before .before .before .before .before .before .before in
     (c .begun .ensures, front-paste (front-none (q .pre .1)) (q .args .word .now) (omega (arith, q .pre .0)) (c .before .before .before .copy .ensures))
 
 pub begin-spec : {M : Type 1} → statement M
-begin-spec = tie.close (tie.spec copy-requires begun-requires same-length returns)
+begin-spec = tie.close (tie.spec copy-requires (λ c κs. search needs) (λ c. search needs) returns)

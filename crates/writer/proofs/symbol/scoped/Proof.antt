@@ -5,26 +5,11 @@ use borrow.Author.Needs.{needs}
 use Rattle.writer.proofs.symbol.scoped.Statement.{statement}
 use Rattle.writer.proofs.symbol.scoped.Tie as tie
 
-begin-requires : tie.Need-begin-requires
-begin-requires c κs = search needs
-
 parts-requires : tie.Need-parts-requires
 parts-requires c κs =
     let q = c .before .before .before .before .before .before .before .before .before .before in
     let b = begun-by (q .args .s .now) (q .args .word .now) (q .args .notes .now) (q .pre .0) (q .pre .1 .1) (c .before .before .before .before .begin .ensures) in
     (_, scoped-holds b)
-
-enum-known-next : tie.Need-enum-known-next
-enum-known-next c = search needs
-
-enum-told : tie.Need-enum-told
-enum-told c = search needs
-
-same-length : tie.Need-same-length
-same-length c = search needs
-
-same-length-2 : tie.Need-same-length-2
-same-length-2 c = search needs
 
 returns : tie.Need-returns
 returns c =
@@ -39,15 +24,6 @@ tag-of-requires c κs =
     let t = scoped-ready b (c .before .before .before .before .before .before .before .before .parts .ensures) (c .before .before .next .given .1) in
     (_, (_, (t .state, t .holds)))
 
-bare-requires : tie.Need-bare-requires
-bare-requires c κs = search needs
-
-same-length-3 : tie.Need-same-length-3
-same-length-3 c = search needs
-
-same-length-4 : tie.Need-same-length-4
-same-length-4 c = search needs
-
 returns-2 : tie.Need-returns-2
 returns-2 c =
     let q = c .before .before .before .before .before .before .before .before .before .before .before .before .before .before .before .before .before .before .before .before .before .before in
@@ -61,12 +37,6 @@ close-requires c κs =
     let t = scoped-ready b (c .before .before .before .before .before .before .before .before .before .before .before .before .parts .ensures) (c .before .before .before .before .before .before .next .given .1) in
     (scoped-room b (c .before .before .before .before .before .before .before .before .before .before .before .before .parts .ensures) (c .before .before .before .before .before .before .next .given .1), (_, (_, (t .state, t .holds))))
 
-same-length-5 : tie.Need-same-length-5
-same-length-5 c = search needs
-
-same-length-6 : tie.Need-same-length-6
-same-length-6 c = search needs
-
 returns-3 : tie.Need-returns-3
 returns-3 c =
     let q = c .before .before .before .before .before .before .before .before .before .before .before .before .before .before .before .before .before .before .before .before .before .before .before .before .before .before in
@@ -77,19 +47,19 @@ pub scoped-spec : {M : Type 1} → statement M
 scoped-spec =
     tie.close
     (tie.spec
-    begin-requires
+    (λ c κs. search needs)
     parts-requires
-    enum-known-next
-    enum-told
-    same-length
-    same-length-2
+    (λ c. search needs)
+    (λ c. search needs)
+    (λ c. search needs)
+    (λ c. search needs)
     returns
     tag-of-requires
-    bare-requires
-    same-length-3
-    same-length-4
+    (λ c κs. search needs)
+    (λ c. search needs)
+    (λ c. search needs)
     returns-2
     close-requires
-    same-length-5
-    same-length-6
+    (λ c. search needs)
+    (λ c. search needs)
     returns-3)

@@ -20,12 +20,6 @@ loop-holds c = turned-none
 ty-requires : tie.Need-ty-requires Inv-loop μ-loop
 ty-requires c κs = let y = turned-from (c .before .before .before .before .loop .inv) (c .before .before .before .before .before .before .before .before .pre) in (y .state, y .holds)
 
-enum-known-q : tie.Need-enum-known-q Inv-loop μ-loop
-enum-known-q c = search needs
-
-enum-told : tie.Need-enum-told Inv-loop μ-loop
-enum-told c = search needs
-
 same-length : tie.Need-same-length Inv-loop μ-loop
 same-length c = omega (arith, c .before .before .before .before .before .before .before .before .before .before .before .loop .inv .out-kept, c .before .before .before .before .before .before .ty .kept)
 
@@ -39,9 +33,6 @@ tag-of-requires : tie.Need-tag-of-requires Inv-loop μ-loop
 tag-of-requires c κs =
     let t = turn-told (turned-from (c .before .before .before .before .before .before .before .before .before .before .before .before .before .loop .inv) (c .before .before .before .before .before .before .before .before .before .before .before .before .before .before .before .before .before .pre)) (c .before .before .before .before .before .before .before .before .before .before .before .if1 .taken) (c .before .before .before .before .before .before .before .before .ty .ensures) (c .before .before .q .given .1) in
     (_, (_, (t .state, t .holds)))
-
-cast-if2 : tie.Need-cast-if2 Inv-loop μ-loop
-cast-if2 c = search needs
 
 same-length-3 : tie.Need-same-length-3 Inv-loop μ-loop
 same-length-3 c = omega (arith, c .before .before .before .before .before .before .before .before .before .before .before .before .before .before .before .loop .inv .out-kept, c .before .before .before .before .before .before .before .before .before .before .ty .kept)
@@ -82,13 +73,13 @@ types-spec =
     μ-loop
     loop-holds
     ty-requires
-    enum-known-q
-    enum-told
+    (λ c. search needs)
+    (λ c. search needs)
     same-length
     same-length-2
     returns
     tag-of-requires
-    cast-if2
+    (λ c. search needs)
     same-length-3
     same-length-4
     returns-2

@@ -19,40 +19,13 @@ use borrow.Author.Needs.{needs}
 use Rattle.writer.proofs.symbol.write_symbol.Statement.{statement}
 use Rattle.writer.proofs.symbol.write_symbol.Tie as tie
 
-slice-aggregate-starts-with : tie.Need-slice-aggregate-starts-with
-slice-aggregate-starts-with c = search needs
-
-starts-with-requires : tie.Need-starts-with-requires
-starts-with-requires c κs = search needs
-
 returns : tie.Need-returns
 returns c = outside-by (symbol-not (c .before .before .before .before .before .before .args .s .now) (sym (c .before .starts-with .ensures) ∙ not-true _ (c .if1 .taken)))
-
-function-requires : tie.Need-function-requires
-function-requires c κs = search needs
-
-enum-known-p : tie.Need-enum-known-p
-enum-known-p c = search needs
-
-enum-told : tie.Need-enum-told
-enum-told c = search needs
-
-same-length : tie.Need-same-length
-same-length c = search needs
-
-same-length-2 : tie.Need-same-length-2
-same-length-2 c = search needs
 
 returns-2 : tie.Need-returns-2
 returns-2 c =
     let y = sym (c .before .before .before .before .before .before .before .before .before .before .starts-with .ensures) ∙ not-false _ (c .before .before .before .before .before .before .before .before .before .if1 .left) in
     outside-by (symbol-nameless y (c .before .before .before .before .before .before .function .ensures) (c .enum-told .given .1))
-
-same-length-3 : tie.Need-same-length-3
-same-length-3 c = search needs
-
-same-length-4 : tie.Need-same-length-4
-same-length-4 c = search needs
 
 returns-3 : tie.Need-returns-3
 returns-3 c =
@@ -65,18 +38,6 @@ types-requires c κs =
     let h = symbol-headed y (c .before .before .before .before .before .before .before .before .before .before .function .ensures) (c .before .before .before .before .p .given .1) in
     (h .state, h .holds)
 
-enum-known-q : tie.Need-enum-known-q
-enum-known-q c = search needs
-
-enum-told-2 : tie.Need-enum-told-2
-enum-told-2 c = search needs
-
-same-length-5 : tie.Need-same-length-5
-same-length-5 c = search needs
-
-same-length-6 : tie.Need-same-length-6
-same-length-6 c = search needs
-
 returns-4 : tie.Need-returns-4
 returns-4 c =
     let y = sym (c .before .before .before .before .before .before .before .before .before .before .before .before .before .before .before .before .before .before .before .before .before .starts-with .ensures) ∙ not-false _ (c .before .before .before .before .before .before .before .before .before .before .before .before .before .before .before .before .before .before .before .before .if1 .left) in
@@ -84,24 +45,12 @@ returns-4 c =
     λ x. ⊎-elim (λ w. w .2 .left) (λ w. absurd (false≢true (sym (w .left) ∙ x))) (c .before .before .before .before .before .before .before .before .before .if2 .came) in
     outside-by (symbol-broken y (c .before .before .before .before .before .before .before .before .before .before .before .before .before .before .before .before .before .function .ensures) (c .before .before .before .before .before .before .before .before .before .before .before .p .given .1) h (c .before .before .before .before .before .before .types .ensures) (c .enum-told2 .given .1))
 
-same-length-7 : tie.Need-same-length-7
-same-length-7 c = search needs
-
-same-length-8 : tie.Need-same-length-8
-same-length-8 c = search needs
-
 returns-5 : tie.Need-returns-5
 returns-5 c =
     let y = sym (c .before .before .before .before .before .before .before .before .before .before .before .before .before .before .before .before .before .before .before .before .before .before .before .before .starts-with .ensures) ∙ not-false _ (c .before .before .before .before .before .before .before .before .before .before .before .before .before .before .before .before .before .before .before .before .before .before .before .if1 .left) in
     let h : c .before .before .before .before .before .before .before .before .before .before .before .before .before .before .p .given .0 .1 .0 ≡ true → c .before .before .before .before .before .before .before .before .before .before .before .before .before .before .p .given .0 .0 .at < length (c .before .before .before .before .before .before .before .before .before .before .before .before .before .before .before .before .before .before .before .before .before .before .before .before .before .before .before .before .before .args .s .now) =
     λ x. ⊎-elim (λ w. w .2 .left) (λ w. absurd (false≢true (sym (w .left) ∙ x))) (c .before .before .before .before .before .before .before .before .before .before .before .before .if2 .came) in
     outside-by (symbol-many y (c .before .before .before .before .before .before .before .before .before .before .before .before .before .before .before .before .before .before .before .before .function .ensures) (c .before .before .before .before .before .before .before .before .before .before .before .before .before .before .p .given .1) h (c .before .before .before .before .before .before .before .before .before .types .ensures) (c .before .before .before .q .given .1) (c .if4 .taken))
-
-same-length-9 : tie.Need-same-length-9
-same-length-9 c = search needs
-
-same-length-10 : tie.Need-same-length-10
-same-length-10 c = search needs
 
 returns-6 : tie.Need-returns-6
 returns-6 c =
@@ -114,27 +63,27 @@ pub write-symbol-spec : {M : Type 1} → statement M
 write-symbol-spec =
     tie.close
     (tie.spec
-    slice-aggregate-starts-with
-    starts-with-requires
+    (λ c. search needs)
+    (λ c κs. search needs)
     returns
-    function-requires
-    enum-known-p
-    enum-told
-    same-length
-    same-length-2
+    (λ c κs. search needs)
+    (λ c. search needs)
+    (λ c. search needs)
+    (λ c. search needs)
+    (λ c. search needs)
     returns-2
-    same-length-3
-    same-length-4
+    (λ c. search needs)
+    (λ c. search needs)
     returns-3
     types-requires
-    enum-known-q
-    enum-told-2
-    same-length-5
-    same-length-6
+    (λ c. search needs)
+    (λ c. search needs)
+    (λ c. search needs)
+    (λ c. search needs)
     returns-4
-    same-length-7
-    same-length-8
+    (λ c. search needs)
+    (λ c. search needs)
     returns-5
-    same-length-9
-    same-length-10
+    (λ c. search needs)
+    (λ c. search needs)
     returns-6)

@@ -4,9 +4,6 @@ use Rattle.grammar.specs.Places.{rest-some, rest-none}
 use Rattle.parser.proofs.state.Parser.peek.Statement.{statement}
 use Rattle.parser.proofs.state.Parser.peek.Tie as tie
 
-shared-slice-read-t8 : tie.Need-shared-slice-read-t8
-shared-slice-read-t8 c = search needs
-
 returns : tie.Need-returns
 returns c = rw (rest-some _ _ (c .before .if1 .taken))
 
@@ -14,4 +11,4 @@ returns-2 : tie.Need-returns-2
 returns-2 c = rw (rest-none _ _ (c .if1 .left))
 
 pub peek-spec : {M : Type 1} → statement M
-peek-spec = tie.close (tie.spec shared-slice-read-t8 returns returns-2)
+peek-spec = tie.close (tie.spec (λ c. search needs) returns returns-2)

@@ -4,15 +4,6 @@ use Rattle.grammar.specs.Places.{rest-some, rest-none}
 use Rattle.parser.proofs.state.Parser.take.Statement.{statement}
 use Rattle.parser.proofs.state.Parser.take.Tie as tie
 
-shared-slice-read-t8 : tie.Need-shared-slice-read-t8
-shared-slice-read-t8 c = search needs
-
-add-moved : tie.Need-add-moved
-add-moved c = search needs
-
-moved-requires : tie.Need-moved-requires
-moved-requires c κs = search needs
-
 returns : tie.Need-returns
 returns c = rw (rest-some _ _ (c .before .before .if1 .taken), c .moved .ensures)
 
@@ -21,4 +12,4 @@ returns-2 c = rw (rest-none _ _ (c .if1 .left))
 
 pub take-spec : {M : Type 1} → statement M
 take-spec =
-    tie.close (tie.spec shared-slice-read-t8 add-moved moved-requires returns returns-2)
+    tie.close (tie.spec (λ c. search needs) (λ c. search needs) (λ c κs. search needs) returns returns-2)

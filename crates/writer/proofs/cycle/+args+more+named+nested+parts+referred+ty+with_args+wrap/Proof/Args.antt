@@ -2,7 +2,6 @@
 use mathlib.Core.Path.{sym, _∙_}
 use Prim.Native.Nat.{ℕ, _-_}
 use lib.ListN.{length}
-use borrow.Author.Needs.{needs}
 use native.Mathlib.Omega.{arith}
 use Rattle.writer.specs.Loops.{nothing-yet}
 use Rattle.writer.specs.Types.{ArgsSoFar, arg-refused, arg-next, count-refused, counted-next, args-end, args-again}
@@ -23,12 +22,6 @@ pub ty-requires : (t : ℕ) → lts.Need-ty-requires (args-calls t) (args-at t) 
 ty-requires t c κs =
     let w = c .before .before .loop .inv in (omega (arith, c .before .before .before .before .before .before .pre .0, w .further, w .ready .1 .place), w .ready)
 
-pub enum-known-behind : (t : ℕ) → lts.Need-enum-known-behind (args-calls t) (args-at t) args.Post Inv-loop μ-loop
-enum-known-behind t c = search needs
-
-pub enum-told : (t : ℕ) → lts.Need-enum-told (args-calls t) (args-at t) args.Post Inv-loop μ-loop
-enum-told t c = search needs
-
 pub same-length : (t : ℕ) → lts.Need-same-length (args-calls t) (args-at t) args.Post Inv-loop μ-loop
 same-length t c = omega (arith, c .before .before .before .before .before .before .ty .kept, c .before .before .before .before .before .before .before .before .before .loop .inv .out-same)
 
@@ -42,12 +35,6 @@ pub arg-requires : (t : ℕ) → lts.Need-arg-requires (args-calls t) (args-at t
 arg-requires t c κs =
     let w = c .before .before .before .before .before .before .before .before .before .before .before .loop .inv in arg-next _ (c .before .before .before .before .before .before .before .before .ty .ensures) (c .before .before .behind .given .1) (w .small) (w .ready)
 
-pub enum-known-counted : (t : ℕ) → lts.Need-enum-known-counted (args-calls t) (args-at t) args.Post Inv-loop μ-loop
-enum-known-counted t c = search needs
-
-pub enum-told-2 : (t : ℕ) → lts.Need-enum-told-2 (args-calls t) (args-at t) args.Post Inv-loop μ-loop
-enum-told-2 t c = search needs
-
 pub same-length-3 : (t : ℕ) → lts.Need-same-length-3 (args-calls t) (args-at t) args.Post Inv-loop μ-loop
 same-length-3 t c = omega (arith, c .before .before .before .before .before .before .before .before .before .before .before .before .before .ty .kept, c .before .before .before .before .before .before .before .before .before .before .before .before .before .before .before .before .loop .inv .out-same)
 
@@ -57,19 +44,10 @@ same-length-4 t c = omega (arith, c .before .before .before .before .arg .kept, 
 pub returns-2 : (t : ℕ) → lts.Need-returns-2 (args-calls t) (args-at t) args.Post Inv-loop μ-loop
 returns-2 t c = c .before .before .before .before .before .before .before .before .before .before .before .before .before .before .before .before .loop .inv .whole _ _ _ (count-refused _ (c .before .before .before .before .before .before .before .before .before .before .before .before .before .ty .ensures) (c .before .before .before .before .before .before .before .behind .given .1) (c .before .before .before .before .arg .ensures) (c .enum-told2 .given .1))
 
-pub slice-aggregate-starts-with : (t : ℕ) → lts.Need-slice-aggregate-starts-with (args-calls t) (args-at t) args.Post Inv-loop μ-loop
-slice-aggregate-starts-with t c = search needs
-
-pub starts-with-requires : (t : ℕ) → lts.Need-starts-with-requires (args-calls t) (args-at t) args.Post Inv-loop μ-loop
-starts-with-requires t c κs = search needs
-
 pub add-moved : (t : ℕ) → lts.Need-add-moved (args-calls t) (args-at t) args.Post Inv-loop μ-loop
 add-moved t c =
     let (τ, (h, k)) = counted-next _ (c .before .before .before .before .before .before .before .before .before .before .before .before .before .before .before .before .before .ty .ensures) (c .before .before .before .before .before .before .before .before .before .before .before .behind .given .1) (c .before .before .before .before .before .before .before .before .arg .ensures) (c .before .before .before .before .counted .given .1) (c .before .before .before .before .before .before .before .before .before .before .before .before .before .before .before .before .before .before .before .before .loop .inv .ready) in
     omega (arith, h .place, h .source)
-
-pub moved-requires : (t : ℕ) → lts.Need-moved-requires (args-calls t) (args-at t) args.Post Inv-loop μ-loop
-moved-requires t c κs = search needs
 
 pub same-length-5 : (t : ℕ) → lts.Need-same-length-5 (args-calls t) (args-at t) args.Post Inv-loop μ-loop
 same-length-5 t c = omega (arith, c .before .before .before .before .before .before .before .before .before .before .before .before .before .before .before .before .before .before .ty .kept, c .before .before .before .before .before .before .before .before .before .before .before .before .before .before .before .before .before .before .before .before .before .loop .inv .out-same)

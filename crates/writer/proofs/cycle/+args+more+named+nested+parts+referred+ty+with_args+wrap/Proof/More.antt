@@ -3,7 +3,6 @@ use mathlib.Core.Bool.{false}
 use mathlib.Core.Path.{refl, sym, _∙_}
 use Prim.Native.Nat.{ℕ, _-_}
 use lib.ListN.{length}
-use borrow.Author.Needs.{needs}
 use borrow.Author.Tests.{not-true, not-false}
 use native.Mathlib.Omega.{arith}
 use Rattle.grammar.specs.Places.{starts-inside}
@@ -37,20 +36,8 @@ abbrev pub μ-loop : lts.MeasureT-loop
 pub loop-holds : (t : ℕ) → lts.Need-loop-holds (more-calls t) (more-at t) more.Post Inv-loop μ-loop
 loop-holds t c = more-start _ (c .before .before .before .pre .1 .0 .0) (c .before .before .before .pre .1 .0 .1) (c .before .before .before .pre .1 .1)
 
-pub slice-aggregate-starts-with : (t : ℕ) → lts.Need-slice-aggregate-starts-with (more-calls t) (more-at t) more.Post Inv-loop μ-loop
-slice-aggregate-starts-with t c = search needs
-
-pub starts-with-requires : (t : ℕ) → lts.Need-starts-with-requires (more-calls t) (more-at t) more.Post Inv-loop μ-loop
-starts-with-requires t c κs = search needs
-
 pub part-requires : (t : ℕ) → lts.Need-part-requires (more-calls t) (more-at t) more.Post Inv-loop μ-loop
 part-requires t c κs = (c .before .before .before .before .before .loop .inv .1 .small, c .before .before .before .before .before .loop .inv .1 .ready)
-
-pub enum-known-behind : (t : ℕ) → lts.Need-enum-known-behind (more-calls t) (more-at t) more.Post Inv-loop μ-loop
-enum-known-behind t c = search needs
-
-pub enum-told : (t : ℕ) → lts.Need-enum-told (more-calls t) (more-at t) more.Post Inv-loop μ-loop
-enum-told t c = search needs
 
 pub same-length : (t : ℕ) → lts.Need-same-length (more-calls t) (more-at t) more.Post Inv-loop μ-loop
 same-length t c = omega (arith, c .before .before .before .before .before .before .part .kept, c .before .before .before .before .before .before .before .before .before .before .before .before .loop .inv .1 .out-same)
@@ -61,19 +48,10 @@ same-length-2 t c = omega (arith, c .before .before .before .before .before .bef
 pub returns : (t : ℕ) → lts.Need-returns (more-calls t) (more-at t) more.Post Inv-loop μ-loop
 returns t c = c .before .before .before .before .before .before .before .before .before .before .before .before .loop .inv .1 .whole _ _ _ (part-refused _ _ _ (sym (c .before .before .before .before .before .before .before .before .before .before .starts-with .ensures) ∙ not-true _ (c .before .before .before .before .before .before .before .before .before .if1 .taken)) (c .before .before .before .before .before .before .part .ensures) (c .enum-told .given .1))
 
-pub slice-aggregate-starts-with-2 : (t : ℕ) → lts.Need-slice-aggregate-starts-with-2 (more-calls t) (more-at t) more.Post Inv-loop μ-loop
-slice-aggregate-starts-with-2 t c = search needs
-
-pub starts-with-requires-2 : (t : ℕ) → lts.Need-starts-with-requires-2 (more-calls t) (more-at t) more.Post Inv-loop μ-loop
-starts-with-requires-2 t c κs = search needs
-
 pub add-moved : (t : ℕ) → lts.Need-add-moved (more-calls t) (more-at t) more.Post Inv-loop μ-loop
 add-moved t c =
     let a = part-next (c .before .before .before .before .before .before .before .before .before .before .before .before .before .before .before .before .loop .of) (c .before .before .before .before .before .before .before .before .before .before .before .before .before .before .before .before .loop .alone) _ (sym (c .before .before .before .before .before .before .before .before .before .before .before .before .before .before .starts-with .ensures) ∙ not-true _ (c .before .before .before .before .before .before .before .before .before .before .before .before .before .if1 .taken)) (c .before .before .before .before .before .before .before .before .before .before .part .ensures) (c .before .before .before .before .behind .given .1) (c .before .before .before .before .before .before .before .before .before .before .before .before .before .before .before .before .loop .inv .0) (c .before .before .before .before .before .before .before .before .before .before .before .before .before .before .before .before .loop .inv .1 .ready) in
     omega (arith, a .ready .1 .place, a .ready .1 .source)
-
-pub moved-requires : (t : ℕ) → lts.Need-moved-requires (more-calls t) (more-at t) more.Post Inv-loop μ-loop
-moved-requires t c κs = search needs
 
 pub same-length-3 : (t : ℕ) → lts.Need-same-length-3 (more-calls t) (more-at t) more.Post Inv-loop μ-loop
 same-length-3 t c = omega (arith, c .before .before .before .before .before .before .before .before .before .before .before .part .kept, c .before .before .before .before .before .before .before .before .before .before .before .before .before .before .before .before .before .loop .inv .1 .out-same)
@@ -105,9 +83,6 @@ loop-again t c =
 pub tag-of-requires : (t : ℕ) → lts.Need-tag-of-requires (more-calls t) (more-at t) more.Post Inv-loop μ-loop
 tag-of-requires t c κs = (_, (_, c .before .before .before .before .loop .inv .1 .ready))
 
-pub bare-requires : (t : ℕ) → lts.Need-bare-requires (more-calls t) (more-at t) more.Post Inv-loop μ-loop
-bare-requires t c κs = search needs
-
 pub same-length-5 : (t : ℕ) → lts.Need-same-length-5 (more-calls t) (more-at t) more.Post Inv-loop μ-loop
 same-length-5 t c = omega (arith, c .before .before .before .before .before .before .before .loop .inv .1 .out-same)
 
@@ -125,12 +100,6 @@ args-requires t c κs =
     let l = starts-inside (c .before .before .before .before .before .before .before .before .before .before .before .before .before .before .before .before .before .args .s .now) (c .before .before .before .before .before .before .before .before .before .before .before .before .before .loop .next .at) 73 (sym (c .before .before .before .before .before .before .before .before .before .before .before .starts-with .ensures) ∙ not-false _ (c .before .before .before .before .before .before .before .before .before .before .if1 .left)) in
     (omega (arith, c .before .before .before .before .before .before .before .before .before .before .before .before .before .before .before .before .before .pre .0, c .before .before .before .before .before .before .before .before .before .before .before .before .before .loop .inv .1 .further, l, c .before .before .before .before .copy-byte .ensures .0), (c .before .before .before .before .before .before .before .before .before .before .before .before .before .loop .inv .1 .small, copied-ready (c .before .before .before .before .copy-byte .ensures) l (c .before .before .before .before .before .before .before .before .before .before .before .before .before .loop .inv .1 .ready)))
 
-pub enum-known-last : (t : ℕ) → lts.Need-enum-known-last (more-calls t) (more-at t) more.Post Inv-loop μ-loop
-enum-known-last t c = search needs
-
-pub enum-told-2 : (t : ℕ) → lts.Need-enum-told-2 (more-calls t) (more-at t) more.Post Inv-loop μ-loop
-enum-told-2 t c = search needs
-
 pub same-length-7 : (t : ℕ) → lts.Need-same-length-7 (more-calls t) (more-at t) more.Post Inv-loop μ-loop
 same-length-7 t c = omega (arith, c .before .before .before .before .before .before .args2 .kept, c .before .before .before .before .before .before .before .before .before .before .before .copy-byte .kept, c .before .before .before .before .before .before .before .before .before .before .before .before .before .before .before .before .before .before .before .before .loop .inv .1 .out-same)
 
@@ -142,12 +111,6 @@ returns-4 t c = c .before .before .before .before .before .before .before .befor
 
 pub close-requires : (t : ℕ) → lts.Need-close-requires (more-calls t) (more-at t) more.Post Inv-loop μ-loop
 close-requires t c κs = close-next (c .before .before .before .before .before .before .before .before .before .before .before .before .before .before .before .before .before .before .before .before .before .before .loop .inv .1 .ready .1) (args-told _ (sym (c .before .before .before .before .before .before .before .before .before .before .before .before .before .before .before .before .before .before .before .before .starts-with .ensures) ∙ not-false _ (c .before .before .before .before .before .before .before .before .before .before .before .before .before .before .before .before .before .before .before .if1 .left)) (c .before .before .before .before .before .before .before .before .before .before .before .before .before .copy-byte .ensures) (c .before .before .before .before .before .before .before .before .args2 .ensures) (c .before .before .last .given .1) (c .before .before .before .before .before .before .before .before .before .before .before .before .before .before .before .before .before .before .before .before .before .before .loop .inv .1 .ready))
-
-pub slice-aggregate-starts-with-3 : (t : ℕ) → lts.Need-slice-aggregate-starts-with-3 (more-calls t) (more-at t) more.Post Inv-loop μ-loop
-slice-aggregate-starts-with-3 t c = search needs
-
-pub starts-with-requires-3 : (t : ℕ) → lts.Need-starts-with-requires-3 (more-calls t) (more-at t) more.Post Inv-loop μ-loop
-starts-with-requires-3 t c κs = search needs
 
 pub same-length-9 : (t : ℕ) → lts.Need-same-length-9 (more-calls t) (more-at t) more.Post Inv-loop μ-loop
 same-length-9 t c = omega (arith, c .before .before .before .before .before .before .close .kept, c .before .before .before .before .before .before .before .before .before .before .before .before .before .before .before .args2 .kept, c .before .before .before .before .before .before .before .before .before .before .before .before .before .before .before .before .before .before .before .before .copy-byte .kept, c .before .before .before .before .before .before .before .before .before .before .before .before .before .before .before .before .before .before .before .before .before .before .before .before .before .before .before .before .before .loop .inv .1 .out-same)
@@ -162,9 +125,6 @@ pub add-moved-2 : (t : ℕ) → lts.Need-add-moved-2 (more-calls t) (more-at t) 
 add-moved-2 t c =
     let a = closed-next (c .before .before .before .before .before .before .before .before .before .before .before .before .before .before .before .before .before .before .before .before .before .before .before .before .before .before .before .before .before .loop .inv .1 .ready .1) (args-told _ (sym (c .before .before .before .before .before .before .before .before .before .before .before .before .before .before .before .before .before .before .before .before .before .before .before .before .before .before .before .starts-with .ensures) ∙ not-false _ (c .before .before .before .before .before .before .before .before .before .before .before .before .before .before .before .before .before .before .before .before .before .before .before .before .before .before .if1 .left)) (c .before .before .before .before .before .before .before .before .before .before .before .before .before .before .before .before .before .before .before .before .copy-byte .ensures) (c .before .before .before .before .before .before .before .before .before .before .before .before .before .before .before .args2 .ensures) (c .before .before .before .before .before .before .before .before .before .last .given .1) (c .before .before .before .before .before .before .before .before .before .before .before .before .before .before .before .before .before .before .before .before .before .before .before .before .before .before .before .before .before .loop .inv .1 .ready)) (c .before .before .before .before .before .before .before .before .before .before .before .before .before .before .before .before .before .before .before .before .before .before .before .before .before .before .before .before .before .loop .inv .0) (c .before .before .before .before .before .before .close .ensures) in
     omega (arith, a .ready .1 .place, a .ready .1 .source)
-
-pub moved-requires-2 : (t : ℕ) → lts.Need-moved-requires-2 (more-calls t) (more-at t) more.Post Inv-loop μ-loop
-moved-requires-2 t c κs = search needs
 
 pub same-length-11 : (t : ℕ) → lts.Need-same-length-11 (more-calls t) (more-at t) more.Post Inv-loop μ-loop
 same-length-11 t c = omega (arith, c .before .before .before .before .before .before .before .close .kept, c .before .before .before .before .before .before .before .before .before .before .before .before .before .before .before .before .args2 .kept, c .before .before .before .before .before .before .before .before .before .before .before .before .before .before .before .before .before .before .before .before .before .copy-byte .kept, c .before .before .before .before .before .before .before .before .before .before .before .before .before .before .before .before .before .before .before .before .before .before .before .before .before .before .before .before .before .before .loop .inv .1 .out-same)

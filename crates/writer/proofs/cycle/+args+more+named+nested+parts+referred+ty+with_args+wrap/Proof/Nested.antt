@@ -1,6 +1,5 @@
 -- The answers of `nested`. Assumes nothing.
 use Prim.Native.Nat.{ℕ}
-use borrow.Author.Needs.{needs}
 use native.Mathlib.Omega.{arith}
 use Rattle.normal.specs.Moves.{copied-ready}
 use Rattle.writer.specs.Types.{close-next, closed-next}
@@ -9,23 +8,8 @@ use Rattle.writer.proofs.cycle.nested.Reads as nested
 use Rattle.writer.proofs.cycle.+args+more+named+nested+parts+referred+ty+with_args+wrap.Lts-nested as lts
 use Rattle.writer.proofs.cycle.+args+more+named+nested+parts+referred+ty+with_args+wrap.Proof.Cycle.{nested-at, nested-calls}
 
-pub copy-byte-requires : (t : ℕ) → lts.Need-copy-byte-requires (nested-calls t) (nested-at t) nested.Post
-copy-byte-requires t c κs = search needs
-
 pub parts-requires : (t : ℕ) → lts.Need-parts-requires (nested-calls t) (nested-at t) nested.Post
 parts-requires t c κs = (omega (arith, c .before .before .before .before .before .before .before .before .before .pre .0, c .before .before .before .before .before .before .before .before .before .pre .1 .0, c .before .before .before .before .copy-byte .ensures .0), copied-ready (c .before .before .before .before .copy-byte .ensures) (c .before .before .before .before .before .before .before .before .before .pre .1 .0) (c .before .before .before .before .before .before .before .before .before .pre .1 .1))
-
-pub enum-known-next : (t : ℕ) → lts.Need-enum-known-next (nested-calls t) (nested-at t) nested.Post
-enum-known-next t c = search needs
-
-pub enum-told : (t : ℕ) → lts.Need-enum-told (nested-calls t) (nested-at t) nested.Post
-enum-told t c = search needs
-
-pub same-length : (t : ℕ) → lts.Need-same-length (nested-calls t) (nested-at t) nested.Post
-same-length t c = search needs
-
-pub same-length-2 : (t : ℕ) → lts.Need-same-length-2 (nested-calls t) (nested-at t) nested.Post
-same-length-2 t c = search needs
 
 pub returns : (t : ℕ) → lts.Need-returns (nested-calls t) (nested-at t) nested.Post
 returns t c = nested-refused (c .before .before .before .before .before .before .before .before .before .before .before .copy-byte .ensures) (c .before .before .before .before .before .before .parts .ensures) (c .enum-told .given .1)

@@ -1,6 +1,5 @@
 -- The answers of `parts`. Assumes nothing.
 use Prim.Native.Nat.{ℕ}
-use borrow.Author.Needs.{needs}
 use native.Mathlib.Omega.{arith}
 use mathlib.Core.List.{List, [], _∷_}
 use mathlib.Core.Path.{_≡_, refl, sym, _∙_, subst}
@@ -34,30 +33,6 @@ module _ (l : Lead) (h : Run.OneOf others (Declared.tagOf lead-type.the-type l))
 pub returns : (t : ℕ) → lts.Need-returns (parts-calls t) (parts-at t) parts.Post
 returns t c = parts-end (c .if1 .taken)
 
-pub shared-slice-read-lead-of : (t : ℕ) → lts.Need-shared-slice-read-lead-of (parts-calls t) (parts-at t) parts.Post
-shared-slice-read-lead-of t c = search needs
-
-pub lead-of-requires : (t : ℕ) → lts.Need-lead-of-requires (parts-calls t) (parts-at t) parts.Post
-lead-of-requires t c κs = search needs
-
-pub enum-told : (t : ℕ) → lts.Need-enum-told (parts-calls t) (parts-at t) parts.Post
-enum-told t c = search needs
-
-pub first-name-requires : (t : ℕ) → lts.Need-first-name-requires (parts-calls t) (parts-at t) parts.Post
-first-name-requires t c κs = search needs
-
-pub enum-known-next : (t : ℕ) → lts.Need-enum-known-next (parts-calls t) (parts-at t) parts.Post
-enum-known-next t c = search needs
-
-pub enum-told-2 : (t : ℕ) → lts.Need-enum-told-2 (parts-calls t) (parts-at t) parts.Post
-enum-told-2 t c = search needs
-
-pub same-length : (t : ℕ) → lts.Need-same-length (parts-calls t) (parts-at t) parts.Post
-same-length t c = search needs
-
-pub same-length-2 : (t : ℕ) → lts.Need-same-length-2 (parts-calls t) (parts-at t) parts.Post
-same-length-2 t c = search needs
-
 pub returns-2 : (t : ℕ) → lts.Need-returns-2 (parts-calls t) (parts-at t) parts.Post
 returns-2 t c = parts-by (c .before .before .before .before .before .before .before .before .before .before .before .before .before .if1 .left) (lead-is _ Digit (sym (c .before .before .before .before .before .before .before .before .before .enum-told .given .1) ∙ c .before .before .before .before .before .before .before .before .before .before .before .lead-of .ensures)) (parts-unnamed (first-named (c .before .before .before .before .before .before .first-name .ensures)) (c .enum-told2 .given .1))
 
@@ -66,29 +41,8 @@ more-requires t c κs =
     let w = first-next by-name (first-named (c .before .before .before .before .before .before .before .before .before .first-name .ensures)) (c .before .before .before .next .given .1) (c .before .before .before .before .before .before .before .before .before .before .before .before .before .before .before .before .if1 .left) (c .before .before .before .before .before .before .before .before .before .before .before .before .before .before .before .before .before .before .before .before .pre .1) in
     (omega (arith, w .limits .0, w .holds .place, c .before .before .before .before .before .before .before .before .before .before .before .before .before .before .before .before .before .before .before .before .pre .0), ((w .small, w .limits .1 .stands), (w .state, w .holds)))
 
-pub enum-told-3 : (t : ℕ) → lts.Need-enum-told-3 (parts-calls t) (parts-at t) parts.Post
-enum-told-3 t c = search needs
-
-pub add-moved : (t : ℕ) → lts.Need-add-moved (parts-calls t) (parts-at t) parts.Post
-add-moved t c = search needs
-
-pub moved-requires : (t : ℕ) → lts.Need-moved-requires (parts-calls t) (parts-at t) parts.Post
-moved-requires t c κs = search needs
-
 pub first-reference-requires : (t : ℕ) → lts.Need-first-reference-requires (parts-calls t) (parts-at t) parts.Post
 first-reference-requires t c κs = moved-ready (c .moved .ensures) (c .before .before .before .before .before .before .before .if1 .left) (c .before .before .before .before .before .before .before .before .before .before .before .pre .1)
-
-pub enum-known-next-2 : (t : ℕ) → lts.Need-enum-known-next-2 (parts-calls t) (parts-at t) parts.Post
-enum-known-next-2 t c = search needs
-
-pub enum-told-4 : (t : ℕ) → lts.Need-enum-told-4 (parts-calls t) (parts-at t) parts.Post
-enum-told-4 t c = search needs
-
-pub same-length-3 : (t : ℕ) → lts.Need-same-length-3 (parts-calls t) (parts-at t) parts.Post
-same-length-3 t c = search needs
-
-pub same-length-4 : (t : ℕ) → lts.Need-same-length-4 (parts-calls t) (parts-at t) parts.Post
-same-length-4 t c = search needs
 
 pub returns-3 : (t : ℕ) → lts.Need-returns-3 (parts-calls t) (parts-at t) parts.Post
 returns-3 t c = parts-by (c .before .before .before .before .before .before .before .before .before .before .before .before .before .before .if1 .left) (lead-is _ S (sym (c .before .before .before .before .before .before .before .before .before .before .enum-told3 .given .1) ∙ c .before .before .before .before .before .before .before .before .before .before .before .before .lead-of .ensures)) (parts-unreferred (first-referred (c .before .before .before .before .before .before .before .moved .ensures) (c .before .before .before .before .before .before .first-reference .ensures)) (c .enum-told4 .given .1))
@@ -98,40 +52,16 @@ tag-of-requires t c κs =
     let w = first-next by-reference (first-referred (c .before .before .before .before .before .before .before .before .before .moved .ensures) (c .before .before .before .before .before .before .before .before .first-reference .ensures)) (c .before .before .next2 .given .1) (c .before .before .before .before .before .before .before .before .before .before .before .before .before .before .before .before .if1 .left) (c .before .before .before .before .before .before .before .before .before .before .before .before .before .before .before .before .before .before .before .before .pre .1) in
     (_, (_, (w .state, w .holds)))
 
-pub class-requires : (t : ℕ) → lts.Need-class-requires (parts-calls t) (parts-at t) parts.Post
-class-requires t c κs = search needs
-
-pub same-length-5 : (t : ℕ) → lts.Need-same-length-5 (parts-calls t) (parts-at t) parts.Post
-same-length-5 t c = search needs
-
-pub same-length-6 : (t : ℕ) → lts.Need-same-length-6 (parts-calls t) (parts-at t) parts.Post
-same-length-6 t c = search needs
-
 pub returns-4 : (t : ℕ) → lts.Need-returns-4 (parts-calls t) (parts-at t) parts.Post
 returns-4 t c = parts-by (c .before .before .before .before .before .before .before .before .before .before .before .before .before .before .before .before .before .before .before .if1 .left) (lead-is _ S (sym (c .before .before .before .before .before .before .before .before .before .before .before .before .before .before .before .enum-told3 .given .1) ∙ c .before .before .before .before .before .before .before .before .before .before .before .before .before .before .before .before .before .lead-of .ensures)) (parts-barred (first-referred (c .before .before .before .before .before .before .before .before .before .before .before .before .moved .ensures) (c .before .before .before .before .before .before .before .before .before .before .before .first-reference .ensures)) (c .before .before .before .before .before .next2 .given .1) (c .before .before .tag-of .ensures) (sym (c .before .class .ensures) ∙ not-true _ (c .if2 .taken)))
-
-pub cast-more : (t : ℕ) → lts.Need-cast-more (parts-calls t) (parts-at t) parts.Post
-cast-more t c = search needs
 
 pub more-requires-2 : (t : ℕ) → lts.Need-more-requires-2 (parts-calls t) (parts-at t) parts.Post
 more-requires-2 t c κs =
     let w = first-next by-reference (first-referred (c .before .before .before .before .before .before .before .before .before .before .before .before .before .before .moved .ensures) (c .before .before .before .before .before .before .before .before .before .before .before .before .before .first-reference .ensures)) (c .before .before .before .before .before .before .before .next2 .given .1) (c .before .before .before .before .before .before .before .before .before .before .before .before .before .before .before .before .before .before .before .before .before .if1 .left) (c .before .before .before .before .before .before .before .before .before .before .before .before .before .before .before .before .before .before .before .before .before .before .before .before .before .pre .1) in
     (omega (arith, w .limits .0, w .holds .place, c .before .before .before .before .before .before .before .before .before .before .before .before .before .before .before .before .before .before .before .before .before .before .before .before .before .pre .0), ((w .small, w .limits .1 .stands), (w .state, w .holds)))
 
-pub same-length-7 : (t : ℕ) → lts.Need-same-length-7 (parts-calls t) (parts-at t) parts.Post
-same-length-7 t c = search needs
-
-pub same-length-8 : (t : ℕ) → lts.Need-same-length-8 (parts-calls t) (parts-at t) parts.Post
-same-length-8 t c = search needs
-
 pub returns-5 : (t : ℕ) → lts.Need-returns-5 (parts-calls t) (parts-at t) parts.Post
 returns-5 t c = parts-by (c .before .before .before .before .before .before .before .before .before .before .before .before .before .before .before .before .before .before .before .before .before .if1 .left) (lead-is _ Digit (sym (c .before .before .before .before .before .before .before .before .before .before .before .before .before .before .before .before .before .enum-told .given .1) ∙ c .before .before .before .before .before .before .before .before .before .before .before .before .before .before .before .before .before .before .before .lead-of .ensures)) (parts-named (first-named (c .before .before .before .before .before .before .before .before .before .before .before .before .before .before .first-name .ensures)) (c .before .before .before .before .before .before .before .before .next .given .1) (c .before .before .before .before .more .ensures))
-
-pub same-length-9 : (t : ℕ) → lts.Need-same-length-9 (parts-calls t) (parts-at t) parts.Post
-same-length-9 t c = search needs
-
-pub same-length-10 : (t : ℕ) → lts.Need-same-length-10 (parts-calls t) (parts-at t) parts.Post
-same-length-10 t c = search needs
 
 pub returns-6 : (t : ℕ) → lts.Need-returns-6 (parts-calls t) (parts-at t) parts.Post
 returns-6 t c = parts-by (c .before .before .before .before .before .before .before .before .before .before .before .before .before .before .before .before .before .before .before .before .before .before .before .before .before .before .if1 .left) (lead-is _ S (sym (c .before .before .before .before .before .before .before .before .before .before .before .before .before .before .before .before .before .before .before .before .before .before .enum-told3 .given .1) ∙ c .before .before .before .before .before .before .before .before .before .before .before .before .before .before .before .before .before .before .before .before .before .before .before .before .lead-of .ensures)) (parts-referred (first-referred (c .before .before .before .before .before .before .before .before .before .before .before .before .before .before .before .before .before .before .before .moved .ensures) (c .before .before .before .before .before .before .before .before .before .before .before .before .before .before .before .before .before .before .first-reference .ensures)) (c .before .before .before .before .before .before .before .before .before .before .before .before .next2 .given .1) (c .before .before .before .before .before .before .before .before .before .tag-of .ensures) (sym (c .before .before .before .before .before .before .before .before .class .ensures) ∙ not-false _ (c .before .before .before .before .before .before .before .if2 .left)) (c .before .before .before .before .more2 .ensures))

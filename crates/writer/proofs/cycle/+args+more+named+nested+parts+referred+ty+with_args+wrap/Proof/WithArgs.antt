@@ -1,6 +1,5 @@
 -- The answers of `with_args`. Assumes nothing.
 use Prim.Native.Nat.{ℕ}
-use borrow.Author.Needs.{needs}
 use native.Mathlib.Omega.{arith}
 use mathlib.Core.Path.{sym, _∙_}
 use borrow.Author.Tests.{not-true, not-false, eq-eqb, ne-eqb}
@@ -11,23 +10,11 @@ use Rattle.writer.proofs.cycle.with_args.Reads as with-args
 use Rattle.writer.proofs.cycle.+args+more+named+nested+parts+referred+ty+with_args+wrap.Lts-with_args as lts
 use Rattle.writer.proofs.cycle.+args+more+named+nested+parts+referred+ty+with_args+wrap.Proof.Cycle.{with-args-at, with-args-calls}
 
-pub slice-aggregate-starts-with : (t : ℕ) → lts.Need-slice-aggregate-starts-with (with-args-calls t) (with-args-at t) with-args.Post
-slice-aggregate-starts-with t c = search needs
-
-pub starts-with-requires : (t : ℕ) → lts.Need-starts-with-requires (with-args-calls t) (with-args-at t) with-args.Post
-starts-with-requires t c κs = search needs
-
 pub returns : (t : ℕ) → lts.Need-returns (with-args-calls t) (with-args-at t) with-args.Post
 returns t c = without-args _ _ (sym (c .before .starts-with .ensures) ∙ not-true _ (c .if1 .taken)) (c .before .before .before .before .before .before .pre .1 .0 .0) (c .before .before .before .before .before .before .pre .1 .0 .1)
 
 pub tag-of-requires : (t : ℕ) → lts.Need-tag-of-requires (with-args-calls t) (with-args-at t) with-args.Post
 tag-of-requires t c κs = (_, (_, c .before .before .before .before .before .before .before .pre .1 .1))
-
-pub cast-if2 : (t : ℕ) → lts.Need-cast-if2 (with-args-calls t) (with-args-at t) with-args.Post
-cast-if2 t c = search needs
-
-pub same-length : (t : ℕ) → lts.Need-same-length (with-args-calls t) (with-args-at t) with-args.Post
-same-length t c = search needs
 
 pub returns-2 : (t : ℕ) → lts.Need-returns-2 (with-args-calls t) (with-args-at t) with-args.Post
 returns-2 t c = args-barred _ _ (sym (c .before .before .before .before .starts-with .ensures) ∙ not-false _ (c .before .before .before .if1 .left)) (c .before .tag-of .ensures) (ne-eqb _ _ (c .if2 .taken))
@@ -39,18 +26,6 @@ pub args-requires : (t : ℕ) → lts.Need-args-requires (with-args-calls t) (wi
 args-requires t c κs =
     let l = starts-inside (c .before .before .before .before .before .before .before .before .before .before .before .before .before .before .before .args .s .now) (c .before .before .before .before .before .before .before .before .before .before .before .before .before .before .before .args .p .at) 73 (sym (c .before .before .before .before .before .before .before .before .before .before .starts-with .ensures) ∙ not-false _ (c .before .before .before .before .before .before .before .before .before .if1 .left)) in
     (omega (arith, c .before .before .before .before .before .before .before .before .before .before .before .before .before .before .before .pre .0, l, c .before .before .before .before .copy-byte .ensures .0), (c .before .before .before .before .before .before .before .before .before .before .before .before .before .before .before .pre .1 .0 .0, copied-ready (c .before .before .before .before .copy-byte .ensures) l (c .before .before .before .before .before .before .before .before .before .before .before .before .before .before .before .pre .1 .1)))
-
-pub enum-known-next : (t : ℕ) → lts.Need-enum-known-next (with-args-calls t) (with-args-at t) with-args.Post
-enum-known-next t c = search needs
-
-pub enum-told : (t : ℕ) → lts.Need-enum-told (with-args-calls t) (with-args-at t) with-args.Post
-enum-told t c = search needs
-
-pub same-length-2 : (t : ℕ) → lts.Need-same-length-2 (with-args-calls t) (with-args-at t) with-args.Post
-same-length-2 t c = search needs
-
-pub same-length-3 : (t : ℕ) → lts.Need-same-length-3 (with-args-calls t) (with-args-at t) with-args.Post
-same-length-3 t c = search needs
 
 pub returns-3 : (t : ℕ) → lts.Need-returns-3 (with-args-calls t) (with-args-at t) with-args.Post
 returns-3 t c = args-refused _ _ (sym (c .before .before .before .before .before .before .before .before .before .before .before .before .before .before .before .before .before .starts-with .ensures) ∙ not-false _ (c .before .before .before .before .before .before .before .before .before .before .before .before .before .before .before .before .if1 .left)) (c .before .before .before .before .before .before .before .before .before .before .before .before .before .before .tag-of .ensures) (eq-eqb _ _ (c .before .before .before .before .before .before .before .before .before .before .before .before .before .if2 .left)) (c .before .before .before .before .before .before .before .before .before .before .before .copy-byte .ensures) (c .before .before .before .before .before .before .args2 .ensures) (c .enum-told .given .1)
