@@ -1,5 +1,5 @@
 -- The ways of a catalogue symbol through the productions: which reader the first byte of a type, an argument or a part picks.
-use mathlib.Core.Bool.{Bool, true, not, _&&_}
+use mathlib.Core.Bool.{Bool, true, not}
 use mathlib.Core.List.{List, [], _∷_}
 use mathlib.Core.Option.{none, some}
 use mathlib.Core.Path.{_≡_, refl}

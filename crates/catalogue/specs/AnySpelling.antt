@@ -3,9 +3,9 @@ use mathlib.Core.Bool.{false≢true, not, _&&_, _||_}
 use mathlib.Core.List.{List, []}
 use mathlib.Core.Option.{Option, none, some}
 use mathlib.Core.Path.{_≡_, refl}
-use Prim.Native.Nat.{suc, _≤_}
+use Prim.Native.Nat.{_≤_}
 use native.Mathlib.Omega.{arith}
-use lib.ListN.{length, getElem?}
+use lib.ListN.{getElem?}
 use Rattle.catalogue.specs.Bytes.{and-left, and-right, not-true}
 use Rattle.catalogue.specs.Tree.{Ty, Args, Enc, root, isClass, isBare, single}
 use Rattle.catalogue.specs.Spelling.{
@@ -32,7 +32,6 @@ use Rattle.catalogue.specs.Spelling.{
   flat,
   scoped,
   symbol,
-  nameBytes,
 }
 use Rattle.catalogue.specs.Class.{
   nameOk,

@@ -2,7 +2,6 @@
 use mathlib.Core.Bool.{Bool, true, false, false≢true, not, _&&_}
 use mathlib.Core.List.{List, [], _∷_}
 use mathlib.Core.Path.{_≡_, refl, sym, _∙_, ap}
-use Prim.Native.Nat.{_<_}
 use Prim.Native.String.{String}
 use Rattle.grammar.specs.Text.{Text, b, if_then_else_, choose, same, run, past, digit, digit-value, number, decimal}
 use Rattle.grammar.specs.Tables.{Row, _⇒_, letters}

@@ -1,5 +1,5 @@
 -- The tree of a catalogue symbol, its references resolved, and the name that it prints.
-use mathlib.Core.Bool.{Bool, Bool-discrete, true, false, _&&_}
+use mathlib.Core.Bool.{Bool, Bool-discrete, true, false}
 use mathlib.Core.List.{[], _∷_, _++_}
 use mathlib.Core.Option.{Option, none, some}
 use mathlib.Core.Path.{_≡_, refl}

@@ -1,15 +1,15 @@
 -- Two results agree: they are the same, no refusal 0, and fewer than n bytes are left unread where they are texts.
 -- One law for each way in which readers are joined; two readers that differ in the productions they call agree by these.
-use mathlib.Core.Bool.{Bool, true, false, not, _&&_, _||_}
-use mathlib.Core.List.{List, [], _∷_, _++_}
+use mathlib.Core.Bool.{Bool, true, false, _&&_}
+use mathlib.Core.List.{List, [], _∷_}
 use mathlib.Core.Option.{Option, none, some}
-use mathlib.Core.Path.{_≡_, refl, ap, subst, sym}
-use Prim.Native.Nat.{ℕ, zero, suc, _+_, _-_, _*_, _<_, _≤_}
+use mathlib.Core.Path.{_≡_, refl}
+use Prim.Native.Nat.{ℕ, zero, suc, _-_, _<_, _≤_}
 use Prim.Native.String.{String}
 use native.Mathlib.Omega.{arith}
-use lib.ListN.{length, take, drop, length-drop}
-use lib.Dec.{T, eqb, leb, ltb}
-use Rattle.grammar.specs.Text.{Text, b, if_then_else_, choose, same, starts, past}
+use lib.ListN.{length, drop, length-drop}
+use lib.Dec.{T, ltb}
+use Rattle.grammar.specs.Text.{Text, b, if_then_else_, choose, starts, past}
 use Rattle.grammar.specs.Laws.{both}
 use Rattle.grammar.specs.Tables.{Row, _⇒_}
 use Rattle.grammar.specs.Reader.{
@@ -21,7 +21,6 @@ use Rattle.grammar.specs.Reader.{
   onto,
   find,
   by-code,
-  cases,
   at-code,
   go-to,
   set-subs,
@@ -29,7 +28,6 @@ use Rattle.grammar.specs.Reader.{
   set-depth,
   set-cv,
   set-templated,
-  fits,
   push-sub,
   push-arg,
   give,

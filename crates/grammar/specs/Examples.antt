@@ -1,8 +1,7 @@
 -- Symbols and their answers, proved from the definition by computation.
 use mathlib.Core.Bool.{Bool, true, false, _&&_}
-use mathlib.Core.List.{List, [], _∷_, _++_}
+use mathlib.Core.List.{List, [], _∷_}
 use mathlib.Core.Path.{_≡_, ap}
-use Prim.Native.Nat.{ℕ}
 use lib.Dec.{T, eqb, eqb→eq}
 use Rattle.grammar.specs.Text as t
 use Rattle.grammar.specs.Tables as w
@@ -10,7 +9,7 @@ use Rattle.grammar.specs.Reader as r
 use Rattle.grammar.specs.Grammar as g
 use Rattle.grammar.specs.Names as n
 use Rattle.grammar.specs.Laws.{both, same→eq}
-use Rattle.grammar.specs.Text.{Text, b, same}
+use Rattle.grammar.specs.Text.{b, same}
 use Rattle.grammar.specs.Tables.{Row, _⇒_}
 use Rattle.grammar.specs.Names.{Answer, named, refusal, demangle, most-symbol-bytes}
 

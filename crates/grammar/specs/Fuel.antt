@@ -1,26 +1,17 @@
 -- Fuel can be forgotten: no reading runs out of it, and `reading` is made of its productions with itself as their `read`.
 -- Each production reads a byte before it reads one of no lower rank; two readings that agree on fewer bytes agree.
-use mathlib.Core.Bool.{Bool, true, false, not, _&&_, _||_}
-use mathlib.Core.List.{List, [], _∷_, _++_}
+use mathlib.Core.Bool.{Bool, true, false, _&&_}
+use mathlib.Core.List.{[], _∷_}
 use mathlib.Core.Option.{Option, none, some}
-use mathlib.Core.Path.{_≡_, refl, ap, _∙_}
+use mathlib.Core.Path.{_≡_, ap, _∙_}
 use Prim.Native.Nat.{ℕ, zero, suc, _+_, _*_, _<_, _≤_}
 use native.Mathlib.Omega.{arith}
-use lib.ListN.{length, take, drop, length-drop}
-use lib.Dec.{T, leb, ltb, leb→le}
+use lib.ListN.{length, drop, length-drop}
+use lib.Dec.{T, leb, leb→le}
 use Prim.Native.String.{String}
-use Rattle.grammar.specs.Text.{Text, b, if_then_else_, choose, starts, digit, number}
+use Rattle.grammar.specs.Text.{Text, b, if_then_else_, choose, number}
 use Rattle.grammar.specs.Laws.{both}
-use Rattle.grammar.specs.Tables.{
-  Row,
-  _⇒_,
-  letters,
-  d-letters,
-  operators,
-  labels,
-  abbreviations,
-  wrappers,
-}
+use Rattle.grammar.specs.Tables.{letters, d-letters, operators, labels, abbreviations, wrappers}
 use Rattle.grammar.specs.Reader.{State, Result, ok, refused, Reader, onto, give, go-to, set-args, push-arg, one-more, start}
 use Rattle.grammar.specs.Grammar.{
   Production,
@@ -37,8 +28,6 @@ use Rattle.grammar.specs.Grammar.{
   ⟨expr-primary⟩,
   ⟨substitution⟩,
   Parts,
-  ended,
-  index,
   skipped,
   open-after,
   unnamed-type-name,

@@ -28,22 +28,8 @@ use Rattle.grammar.specs.Text.{
   number,
   decimal,
 }
-use Rattle.grammar.specs.Tables.{
-  Row,
-  _⇒_,
-  letters,
-  d-letters,
-  operators,
-  labels,
-  abbreviations,
-  qualifiers,
-  wrappers,
-  suffixes,
-}
+use Rattle.grammar.specs.Tables.{_⇒_, letters, d-letters, operators, labels, abbreviations, qualifiers, wrappers, suffixes}
 use Rattle.grammar.specs.Reader.{
-  State,
-  Result,
-  ok,
   refused,
   Reader,
   onto,

@@ -1,6 +1,6 @@
 -- The loops of the reading, one step at a time, without a count of steps.
 use mathlib.Core.Bool.{Bool, true, false, not, _||_}
-use mathlib.Core.List.{List, [], _∷_, _++_}
+use mathlib.Core.List.{List, [], _∷_}
 use mathlib.Core.Path.{_≡_, refl}
 use Prim.Native.Nat.{ℕ, zero, suc, _<_}
 use lib.Dec.{eqb}
@@ -10,8 +10,6 @@ use Rattle.grammar.specs.Text.{Text, b, if_then_else_, same, starts}
 use Rattle.grammar.specs.Reader.{
   State,
   Result,
-  ok,
-  refused,
   Reader,
   onto,
   _>>=_,
@@ -27,8 +25,8 @@ use Rattle.grammar.specs.Reader.{
   up-to-E,
   one-more,
 }
-use Rattle.grammar.specs.Grammar.{Production, ⟨type⟩, ⟨template-arg⟩, Parts, prefix, reading}
-use Rattle.grammar.specs.Agree.{unread, moved, Agree, reads, refuses, agree-eq, bind, branch, push-arg-keeps, while-is}
+use Rattle.grammar.specs.Grammar.{Production, ⟨template-arg⟩, Parts, prefix, reading}
+use Rattle.grammar.specs.Agree.{unread, moved, Agree, reads, refuses, bind, push-arg-keeps, while-is}
 use Rattle.grammar.specs.Fuel.{reading-ends, prefix-shrinks}
 
 -- a step of a loop, and the loop from there

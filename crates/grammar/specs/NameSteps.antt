@@ -1,37 +1,17 @@
 -- Names, template arguments and literals one step at a time, each way by the test that leads there.
-use mathlib.Core.Bool.{Bool, true, false, not, _&&_, _||_, false≢true}
-use mathlib.Core.List.{List, [], _∷_, _++_}
-use mathlib.Core.Option.{Option, none, some}
+use mathlib.Core.Bool.{Bool, true, false, _&&_, false≢true}
+use mathlib.Core.List.{[], _∷_}
+use mathlib.Core.Option.{none}
 use mathlib.Core.Path.{_≡_, refl, ap, _∙_}
-use Prim.Native.Nat.{ℕ, suc, _+_}
+use Prim.Native.Nat.{ℕ}
 use Prim.Native.Char.{code}
-use Prim.Native.String.{String}
 use borrow.Author.Tests.{eqb-true}
-use lib.Dec.{T, eqb}
-use lib.ListN.{length, drop}
-use Rattle.grammar.specs.Text.{Text, b, if_then_else_, choose, same, starts, holds, digit}
-use Rattle.grammar.specs.Tables.{Row, _⇒_, operators}
-use Rattle.grammar.specs.Reader.{
-  State,
-  Result,
-  ok,
-  refused,
-  Reader,
-  onto,
-  go-to,
-  set-templated,
-  give,
-  find,
-  word-for,
-  by-code,
-  at-code,
-  eat,
-  need,
-  first,
-  any,
-}
+use lib.Dec.{eqb}
+use lib.ListN.{drop}
+use Rattle.grammar.specs.Text.{Text, b, if_then_else_, choose, starts, holds, digit}
+use Rattle.grammar.specs.Tables.{operators}
+use Rattle.grammar.specs.Reader.{State, refused, onto, go-to, give, find, by-code, at-code, eat, need, first, any}
 use Rattle.grammar.specs.Grammar.{
-  Production,
   ⟨name⟩,
   ⟨nested-name⟩,
   ⟨unqualified-name⟩,
@@ -44,9 +24,7 @@ use Rattle.grammar.specs.Grammar.{
 }
 use Rattle.grammar.specs.Grammar as g
 use Rattle.grammar.specs.Agree.{moved, coded, all-coded}
-use Rattle.grammar.specs.Laws.{starts-nothing}
 use Rattle.grammar.specs.Fuel.{reading-is}
-use Rattle.grammar.specs.Finds.{all-of, by-word}
 use Rattle.grammar.specs.Steps.{heads, within, no-row-of, by-code-none, at-code-none}
 
 -- ---------------------------------------------------------------- unqualified names

@@ -1,14 +1,13 @@
 -- The answer for a symbol: the name printed for it, or the number of the first refusal.
-use mathlib.Core.Bool.{Bool, true, false, _&&_, _||_}
-use mathlib.Core.List.{List, [], _∷_, _++_}
-use mathlib.Core.Option.{Option, none, some}
+use mathlib.Core.Bool.{Bool, false, _&&_, _||_}
+use mathlib.Core.List.{[], _∷_, _++_}
 use Prim.Native.Nat.{ℕ}
 use lib.ListN.{length, drop}
 use lib.Dec.{eqb, leb, ltb}
-use Rattle.grammar.specs.Text.{Text, b, if_then_else_, choose, starts, each}
-use Rattle.grammar.specs.Tables.{Row, _⇒_}
-use Rattle.grammar.specs.Reader.{State, Result, ok, refused, start, find}
-use Rattle.grammar.specs.Grammar.{Production, ⟨encoding⟩, reading, ended, slot}
+use Rattle.grammar.specs.Text.{Text, if_then_else_, choose, each}
+use Rattle.grammar.specs.Tables.{_⇒_}
+use Rattle.grammar.specs.Reader.{Result, ok, refused, start, find}
+use Rattle.grammar.specs.Grammar.{⟨encoding⟩, reading, ended, slot}
 
 pub data Answer : Type 0 where
   named : Text → Answer

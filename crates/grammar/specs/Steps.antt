@@ -1,9 +1,9 @@
 -- The reading one step at a time, each way by the test that leads there: what code that reads needs to know of the definition.
-use mathlib.Core.Bool.{Bool, true, false, not, _&&_, _||_, true≢false}
-use mathlib.Core.List.{List, [], _∷_, _++_}
+use mathlib.Core.Bool.{Bool, true, false, _&&_, _||_, true≢false}
+use mathlib.Core.List.{List, [], _∷_}
 use mathlib.Core.Option.{Option, none, some}
 use mathlib.Core.Path.{_≡_, refl, ap, _∙_, subst⁻¹}
-use Prim.Native.Nat.{ℕ, suc, _+_, _≤_, _<_}
+use Prim.Native.Nat.{ℕ, _+_, _≤_, _<_}
 use Prim.Native.Char.{code}
 use Prim.Native.String.{String}
 use borrow.Author.Tests.{lt-ltb, le-ltb, eqb-true}
@@ -18,44 +18,20 @@ use Rattle.grammar.specs.Reader.{
   refused,
   Reader,
   onto,
-  return,
-  refuse,
-  the,
   ahead,
   go-to,
   set-depth,
-  set-args,
-  set-cv,
-  set-templated,
   give,
-  recorded,
-  push-sub,
   entered,
   find,
   word-for,
   by-code,
   at-code,
-  see,
   eat,
   need,
   every,
 }
-use Rattle.grammar.specs.Grammar.{
-  Production,
-  ⟨encoding⟩,
-  ⟨name⟩,
-  ⟨nested-name⟩,
-  ⟨unqualified-name⟩,
-  ⟨source-name⟩,
-  ⟨operator-name⟩,
-  ⟨type⟩,
-  ⟨template-param⟩,
-  ⟨template-args⟩,
-  ⟨template-arg⟩,
-  ⟨expr-primary⟩,
-  ⟨substitution⟩,
-  reading,
-}
+use Rattle.grammar.specs.Grammar.{⟨source-name⟩, ⟨template-param⟩, reading}
 use Rattle.grammar.specs.Grammar as g
 use Rattle.grammar.specs.Agree.{moved, coded, all-coded}
 use Rattle.grammar.specs.Laws.{both, neither}

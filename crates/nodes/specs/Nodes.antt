@@ -9,7 +9,7 @@ use lib.Dec.{eqb, leb, ltb}
 use lib.ListN.{length, take, getElem?}
 use Rattle.grammar.specs.Text.{Text, if_then_else_, choose, same}
 use Rattle.catalogue.specs.Tree.{Ty, letter, wrap, root, sub, app, lit, kindCode}
-use Rattle.catalogue.specs.Spelling.{refBytes, nameBytes, constByte}
+use Rattle.catalogue.specs.Spelling.{refBytes, nameBytes}
 use Rattle.catalogue.specs.Class.{most-arguments}
 use Rattle.catalogue.specs.Recogniser.{Rd, rd, stop, ifNext, Lead, leadLetter, leadWrap, leadDigit, leadS, leadN, leadL, leadNone, lead}
 use Rattle.walk.specs.Walk.{name, reference, literal, litBytes}

@@ -1,6 +1,5 @@
 -- What the reader's state and the work slices mean in the grammar.
-use mathlib.Core.Bool.{Bool, true, false}
-use mathlib.Core.List.{List, [], _∷_, _++_}
+use mathlib.Core.List.{List, _++_}
 use mathlib.Core.Path.{_≡_}
 use Prim.Native.Nat.{ℕ, _+_, _*_, _-_, _≤_, min}
 use lib.Dec.{leb}
@@ -13,7 +12,7 @@ use Rattle.store.specs.Table.{Entries}
 use Rattle.parser.specs.declared.state.Parser.{Parser}
 use Rattle.parser.specs.declared.state.Read.{Read}
 use Rattle.parser.specs.declared.state.Read.the-variants.{Text as read, Refused}
-use Rattle.parser.specs.States.{raised-to, subs-to, args-to}
+use Rattle.parser.specs.States.{raised-to}
 
 -- what the work slices hold
 pub record Memory : Type 0 where

@@ -1,8 +1,8 @@
 -- Laws of what the state holds, and of answers. Assumes nothing.
 use mathlib.Core.Bool.{Bool, true, false}
-use mathlib.Core.List.{List, [], _∷_, _++_, append-assoc, append-nil}
-use mathlib.Core.Path.{_≡_, refl, sym, ap, _∙_, subst}
-use Prim.Native.Nat.{ℕ, _+_, _*_, _-_, _≤_, _<_, min}
+use mathlib.Core.List.{_++_, append-assoc}
+use mathlib.Core.Path.{_≡_, refl, sym, ap, subst}
+use Prim.Native.Nat.{ℕ, _+_, _-_, _≤_, _<_}
 use native.Mathlib.Omega.{arith}
 use borrow.Author.Tests.{le-leb, lt-leb, leb-true, leb-false}
 use lib.Dec.{leb}
@@ -12,29 +12,12 @@ use Rattle.grammar.specs.Reader.{State, Result, ok, refused, Reader, onto, give
 use Rattle.grammar.specs.Grammar.{qualifier}
 use Rattle.grammar.specs.Agree.{moved}
 use Rattle.store.specs.Stack.{Stack, Tail, Put, Cut}
-use Rattle.store.specs.Tails.{chain, both, put-tail, weaken}
+use Rattle.store.specs.Tails.{put-tail, weaken}
 use Rattle.parser.specs.declared.state.Parser.{Parser}
 use Rattle.parser.specs.declared.state.Read.{Read}
 use Rattle.parser.specs.declared.state.Read.the-variants.{Text as read, Refused}
 use Rattle.parser.specs.States.{moved-to, raised-to, deeper, at-depth, cv-to, templated-to}
-use Rattle.parser.specs.Holds.{
-  Memory,
-  mem,
-  window,
-  part,
-  Holds,
-  Wrote,
-  Stands,
-  Refines,
-  reads,
-  refuses,
-  Puts,
-  Cuts,
-  Pushes,
-  pushed,
-  full,
-  given-of,
-}
+use Rattle.parser.specs.Holds.{Memory, mem, part, Holds, Wrote, Stands, Refines, reads, refuses, Puts, Cuts, given-of}
 
 -- ---------------------------------------------------------------- states
 

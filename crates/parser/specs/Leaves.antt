@@ -10,7 +10,7 @@ use borrow.Author.Tests.{ne-eqb}
 use lib.Dec.{eqb}
 use lib.ListN.{length, take, drop, getD, length-drop}
 use lib.Seq.{drop-drop, take-suc, getD-drop, append-snoc}
-use Rattle.grammar.specs.Text.{Text, b, if_then_else_, choose, starts, holds, run, past, after-last, digit}
+use Rattle.grammar.specs.Text.{Text, b, if_then_else_, choose, starts, holds, run, after-last, digit}
 use Rattle.grammar.specs.Grammar.{last, class-of, skipped, open-after, structor-ahead, std-ahead}
 use Rattle.grammar.specs.Laws.{starts-nothing}
 use Rattle.parser.specs.declared.leaf.Skipped.{Skipped}

@@ -1,6 +1,6 @@
 -- How a literal is printed: by the text of its type, and what is put on the stack for its value.
 use mathlib.Core.Bool.{Bool, true, false, _&&_, and-true}
-use mathlib.Core.List.{List, [], _∷_, _++_, append-nil, append-assoc}
+use mathlib.Core.List.{List, [], _∷_, _++_, append-nil}
 use mathlib.Core.Option.{Option, none, some}
 use mathlib.Core.Path.{_≡_, refl, sym, ap, _∙_, subst}
 use Prim.Native.Nat.{ℕ, suc, _+_, _-_, _≤_, _<_, min}
@@ -22,7 +22,7 @@ use Rattle.parser.specs.declared.state.Read.{Read}
 use Rattle.parser.specs.declared.literal.Kind.{Kind}
 use Rattle.parser.specs.declared.literal.Kind.the-variants.{Truth, Suffix, Cast}
 use Rattle.parser.specs.Holds.{mem, part, Stands, Refines, Puts, Cuts}
-use Rattle.parser.specs.Laws.{by-state, holds-text, holds-puts, tail-puts}
+use Rattle.parser.specs.Laws.{by-state, holds-text, holds-puts}
 use Rattle.grammar.specs.Places.{rest-some}
 use Rattle.parser.specs.Wraps.{stands-puts}
 

@@ -1,6 +1,6 @@
 -- The reader's next states, each an equation of the whole record.
-use mathlib.Core.Bool.{Bool, true, false}
-use mathlib.Core.List.{List, [], _∷_}
+use mathlib.Core.Bool.{Bool, false}
+use mathlib.Core.List.{[], _∷_}
 use Prim.Native.Nat.{ℕ, _+_}
 use Rattle.grammar.specs.Text.{Text}
 use Rattle.parser.specs.declared.state.Parser.{Parser}

@@ -1,7 +1,7 @@
 // The Rust's `Parser`, by value, and what a reading answers.
 ghost use mathlib.Core.Path.{_≡_};
-ghost use Prim.Native.Nat.{_+_, _≤_, _<_};
-ghost use lib.ListN.{length, drop};
+ghost use Prim.Native.Nat.{_+_, _<_};
+ghost use lib.ListN.{drop};
 ghost use Rattle.parser.specs.States.{fresh, peeked, taken, deeper, at-depth, moved-to, raised-to, subs-to, args-to, cv-to, templated-to};
 
 // How much of a table is used.

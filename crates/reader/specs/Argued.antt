@@ -10,7 +10,6 @@ use Rattle.grammar.specs.Text.{Text, b, choose, join, starts}
 use Rattle.grammar.specs.Reader.{State, Result, ok, refused, Reader, onto, unfit, see, set-args, set-templated, push-sub}
 use Rattle.grammar.specs.Grammar.{reading, ⟨template-args⟩, last, onto-last}
 use Rattle.grammar.specs.Grammar as g
-use Rattle.store.specs.Tails.{size}
 use Rattle.parser.specs.Holds.{Memory, mem, Wrote, Pushes, pushed, keep}
 use Rattle.parser.specs.Laws.{with-templated, holds-templated}
 use Rattle.parser.specs.Halves.{with-args}

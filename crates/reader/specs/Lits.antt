@@ -7,7 +7,7 @@ use native.Mathlib.Omega.{arith}
 use borrow.Author.Tests.{not-false}
 use lib.Dec.{eqb}
 use lib.ListN.{length, take, drop, getD, length-append}
-use Rattle.grammar.specs.Text.{Text, b, same, starts, run}
+use Rattle.grammar.specs.Text.{Text, b, starts, run}
 use Rattle.grammar.specs.Tables.{_⇒_}
 use Rattle.grammar.specs.Reader.{State, ok, refused, Reader, onto, give, by-code, eat, need, every}
 use Rattle.grammar.specs.Grammar.{reading, production, expr-primary, literal, local-name, local-encoding, ⟨expr-primary⟩, ⟨name⟩, ⟨type⟩}

@@ -7,7 +7,6 @@ use normal::memory;
 use normal::state::Told;
 use normal::state::Writer;
 use normal::steps;
-ghost use mathlib.Core.Bool.{Bool};
 ghost use Prim.Native.Nat.{ℕ, _≤_, _<_};
 ghost use lib.ListN.{length};
 ghost use Rattle.catalogue.specs.Tree.{Wrap};

@@ -3,7 +3,7 @@ use borrow.Author.Needs.{needs}
 use Rattle.reader.proofs.lists.ctor_dtor.Statement.{statement}
 use Rattle.reader.proofs.lists.ctor_dtor.Tie as tie
 use native.Mathlib.Omega.{arith}
-use mathlib.Core.Path.{_≡_, ap, _∙_}
+use mathlib.Core.Path.{_≡_, ap}
 use Prim.Native.Nat.{_+_, _-_, _*_, _≤_, min}
 use lib.ListN.{length}
 use Rattle.parser.specs.Wraps.{puts-top}

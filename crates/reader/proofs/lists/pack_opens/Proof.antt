@@ -1,12 +1,9 @@
 -- `reader::lists::pack_opens` meets its contract. Assumes nothing.
 use mathlib.Core.Bool.{Bool, _&&_}
-use mathlib.Core.Path.{_≡_, refl, sym, ap}
-use Prim.Native.Nat.{ℕ}
+use mathlib.Core.Path.{sym, ap}
 use native.Mathlib.Omega.{arith}
-use borrow.Author.Needs.{needs}
 use borrow.Author.Tests.{eq-eqb, ne-eqb}
 use lib.Dec.{ltb}
-use Rattle.reader.specs.Lists.{opens-pack}
 use Rattle.reader.proofs.lists.pack_opens.Statement.{statement}
 use Rattle.reader.proofs.lists.pack_opens.Tie as tie
 

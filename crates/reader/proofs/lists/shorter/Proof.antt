@@ -1,5 +1,4 @@
 -- `reader::lists::shorter` meets its contract. Assumes nothing.
-use borrow.Author.Needs.{needs}
 use Rattle.reader.proofs.lists.shorter.Statement.{statement}
 use Rattle.reader.proofs.lists.shorter.Tie as tie
 use native.Mathlib.Omega.{arith}

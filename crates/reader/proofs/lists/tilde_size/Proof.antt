@@ -1,5 +1,4 @@
 -- `reader::lists::tilde_size` meets its contract. Assumes nothing.
-use borrow.Author.Needs.{needs}
 use Rattle.reader.proofs.lists.tilde_size.Statement.{statement}
 use Rattle.reader.proofs.lists.tilde_size.Tie as tie
 use mathlib.Core.Path.{sym, ap}

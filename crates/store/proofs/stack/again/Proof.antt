@@ -7,8 +7,6 @@ use Rattle.store.proofs.Stacks.{again-put}
 use borrow.Author.Needs.{needs}
 use Rattle.store.proofs.stack.again.Statement.{statement}
 use Rattle.store.proofs.stack.again.Tie as tie
-use Rattle.store.proofs.stack.room.Reads as room-reads
-use Rattle.store.proofs.stack.shift.Reads as shift-reads
 
 shift-requires : tie.Need-shift-requires
 shift-requires c κs = (omega arith, (omega arith, inr (omega arith)))

@@ -7,7 +7,6 @@ use Rattle.store.proofs.Stacks.{cut-is}
 use borrow.Author.Needs.{needs}
 use Rattle.store.proofs.stack.cut.Statement.{statement}
 use Rattle.store.proofs.stack.cut.Tie as tie
-use Rattle.store.proofs.stack.shift.Reads as shift-reads
 
 shift-requires : tie.Need-shift-requires
 shift-requires c κs = (omega arith, (omega arith, inl (omega arith)))

@@ -9,8 +9,6 @@ use Rattle.store.proofs.Stacks.{slot-room, byte-room, slot-put, byte-pu
 use borrow.Author.Needs.{needs}
 use Rattle.store.proofs.stack.piece.Statement.{statement}
 use Rattle.store.proofs.stack.piece.Tie as tie
-use Rattle.store.proofs.stack.copy.Reads as copy-reads
-use Rattle.store.proofs.stack.shift.Reads as shift-reads
 
 shift-requires : tie.Need-shift-requires
 shift-requires c κs =

@@ -11,7 +11,6 @@ use Rattle.store.specs.Stack.{Grown, newest, below-newest}
 use Rattle.store.proofs.Stacks.{pieces-none, pieces-done, piece-fits, piece-more}
 use Rattle.store.proofs.stack.pieces.Statement.{statement}
 use Rattle.store.proofs.stack.pieces.Tie as tie
-use Rattle.store.proofs.stack.piece.Reads as piece-reads
 
 abbrev Inv-loop : tie.InvT-loop
 Inv-loop text₀ top n d word from low at₀ i₀ text at i =

@@ -5,8 +5,6 @@ use Rattle.store.proofs.Stacks.{put-put}
 use borrow.Author.Needs.{needs}
 use Rattle.store.proofs.stack.put.Statement.{statement}
 use Rattle.store.proofs.stack.put.Tie as tie
-use Rattle.store.proofs.stack.copy.Reads as copy-reads
-use Rattle.store.proofs.stack.room.Reads as room-reads
 
 returns : tie.Need-returns
 returns c = put-put (c .before .before .before .before .before .before .before .before .before .before .args .word .now) (c .before .before .before .before .before .before .before .before .before .before .pre .0) (c .before .before .before .before .before .before .room .ensures) (c .before .before .copy .ensures)

@@ -8,7 +8,6 @@ use Rattle.store.proofs.Stacks.{room-here, room-cut}
 use borrow.Author.Needs.{needs}
 use Rattle.store.proofs.stack.room.Statement.{statement}
 use Rattle.store.proofs.stack.room.Tie as tie
-use Rattle.store.proofs.stack.cut.Reads as cut-reads
 
 returns : tie.Need-returns
 returns c = room-here (c .before .before .pre .0) (omega arith)

@@ -8,7 +8,6 @@ use Rattle.store.specs.Stack.{newest}
 use Rattle.store.proofs.Loops.{same-lengths, same-newest}
 use Rattle.store.proofs.stack.same.Statement.{statement}
 use Rattle.store.proofs.stack.same.Tie as tie
-use Rattle.store.proofs.stack.same_part.Reads as same-part-reads
 
 returns : tie.Need-returns
 returns c =

@@ -9,9 +9,6 @@ use Rattle.store.proofs.Stacks.{counted, weave-fits, weave-put}
 use borrow.Author.Needs.{needs}
 use Rattle.store.proofs.stack.weave.Statement.{statement}
 use Rattle.store.proofs.stack.weave.Tie as tie
-use Rattle.store.proofs.stack.pieces.Reads as pieces-reads
-use Rattle.store.proofs.stack.room.Reads as room-reads
-use Rattle.store.proofs.stack.slots.Reads as slots-reads
 
 mul-size : tie.Need-mul-size
 mul-size c =

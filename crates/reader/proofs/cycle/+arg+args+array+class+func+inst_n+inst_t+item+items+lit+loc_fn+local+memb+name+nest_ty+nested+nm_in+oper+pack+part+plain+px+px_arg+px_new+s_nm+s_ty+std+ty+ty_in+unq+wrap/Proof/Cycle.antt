@@ -104,7 +104,6 @@ use Rattle.parser.proofs.leaf.structor.Reads as structor-reads
 use Rattle.parser.proofs.literal.literal.Reads as literal-reads
 use Rattle.parser.proofs.leaf.digit_ahead.Reads as digit-ahead-reads
 use Rattle.parser.proofs.memory.clear_args.Reads as clear-args-reads
-use Rattle.parser.proofs.memory.cut.Reads as cut-reads
 use Rattle.parser.proofs.memory.given.Reads as given-reads
 use Rattle.parser.proofs.memory.newest_entry.Reads as newest-entry-reads
 use Rattle.parser.proofs.memory.push_arg.Reads as push-arg-reads
@@ -143,7 +142,6 @@ use Rattle.reader.proofs.lists.stops.Reads as stops-reads
 use Rattle.reader.proofs.lists.unlisted.Reads as unlisted-reads
 use Rattle.reader.proofs.lists.unprefixed.Reads as unprefixed-reads
 use Rattle.reader.proofs.lists.unread.Reads as unread-reads
-use Rattle.store.proofs.stack.same.Reads as same-reads
 use lib.ListN.{length}
 
 abbrev pub μ-arg : Measures 4 arg-kinds.ps ℕ

@@ -1,6 +1,5 @@
 -- The answers of `nm_in`. Assumes nothing.
 use Prim.Native.Nat.{ℕ, _+_}
-use mathlib.Core.Path.{_∙_}
 use Rattle.grammar.specs.Grammar.{reading, ⟨nested-name⟩, name-inner, s-name, local-name, unscoped-name}
 use Rattle.grammar.specs.Steps.{from-text, same-from}
 use Rattle.grammar.specs.NameSteps.{name-N, name-S, name-L, name-Z, name-other, name-end}
