@@ -12,11 +12,11 @@ use Rattle.grammar.specs.Text.{Text, b, if_then_else_, choose, same, starts}
 use Rattle.grammar.specs.Reader.{State, Result, ok, refused, start, find, most-open, most-text-bytes}
 use Rattle.grammar.specs.Grammar.{⟨encoding⟩, reading, ended}
 use Rattle.grammar.specs.Names.{named, refusal, demangle, front, mangled-name, finished, high}
-use Rattle.catalogue.specs.Tree.{Ty, Enc, printEnc}
-use Rattle.catalogue.specs.Spelling.{Sym, symbol, spellName, spellParams, spellSym}
-use Rattle.catalogue.specs.Class.{resolveSym}
+use Rattle.catalogue.specs.Tree.{Ty, Enc, print-enc}
+use Rattle.catalogue.specs.Spelling.{Sym, symbol, spell-name, spell-params, spell-sym}
+use Rattle.catalogue.specs.Class.{resolve-sym}
 use Rattle.catalogue.specs.Class as class
-use Rattle.catalogue.specs.Limits.{depthSym}
+use Rattle.catalogue.specs.Limits.{depth-sym}
 use Rattle.catalogue.specs.WellFormed.{WfEnc, sym-wf}
 use Rattle.catalogue.specs.SymbolReadsBack.{sym-ok}
 use Rattle.agreement.specs.Verdict.{at, Verdict, reads, stops}
@@ -28,14 +28,14 @@ use Rattle.agreement.specs.Ascii.{symbol-ascii}
 
 -- the symbol behind its _Z
 abbrev behind-Z : Sym → Text
-behind-Z (symbol m ps) = spellName m ++ spellParams ps
+behind-Z (symbol m ps) = spell-name m ++ spell-params ps
 
 -- what an accepted symbol tells: its name is the tree's, and its reading kept the limits
 pub record Accepted (σ : Sym) (e : Enc) (us : List Ty) (x : Text) : Type 0 where
-  pub name : x ≡ printEnc e
+  pub name : x ≡ print-enc e
   pub table : Fits us
-  pub deep : depthSym σ ≤ most-open
-  pub short : length (printEnc e) ≤ most-text-bytes
+  pub deep : depth-sym σ ≤ most-open
+  pub short : length (print-enc e) ≤ most-text-bytes
 
 refused-not : (n : ℕ) (x : Text) → refusal n ≡ named x → ⊥
 refused-not n x i = let z : _≡_ {A = ℕ} 0 1 = cc in omega arith
@@ -43,18 +43,18 @@ refused-not n x i = let z : _≡_ {A = ℕ} 0 1 = cc in omega arith
 -- ---------------------------------------------------------------- behind _Z
 
 module _ (σ : Sym) (e : Enc) (us : List Ty) (wf : WfEnc e) where
-  finished-named : (x : Text) (s : State) → Told σ e us x s → finished (ok x s) ≡ named (printEnc e)
+  finished-named : (x : Text) (s : State) → Told σ e us x s → finished (ok x s) ≡ named (print-enc e)
   unfolding finished ended same if_then_else_
   finished-named x s h = rw (h .whole, h .text, printed-clean e wf)
 
   told : (o : Result Text) (x : Text) → Verdict (RoomSym σ e us) (Told σ e us) o → finished o ≡ named x → Accepted σ e us x
   told (ok y s) x (reads h) i =
       let k = finished-named y s h in
-      let j : named x ≡ named (printEnc e) = sym i ∙ k in
+      let j : named x ≡ named (print-enc e) = sym i ∙ k in
       record { name = cc; table = h .table; deep = h .deep; short = h .short }
   told (refused n) x (stops h) i = absurd (refused-not n x (unfold finished in i))
 
-  fits-told : (o : Result Text) → Verdict (RoomSym σ e us) (Told σ e us) o → RoomSym σ e us → finished o ≡ named (printEnc e)
+  fits-told : (o : Result Text) → Verdict (RoomSym σ e us) (Told σ e us) o → RoomSym σ e us → finished o ≡ named (print-enc e)
   fits-told (ok y s) (reads h) r = finished-named y s h
   fits-told (refused n) (stops h) r = absurd (h r)
 
@@ -78,23 +78,23 @@ mangled-is : (u : Text) → mangled-name u ≡ finished (reading ⟨encoding⟩ 
 unfolding mangled-name start
 mangled-is u = refl
 
-symbol-read : (σ : Sym) (e : Enc) (us : List Ty) → resolveSym σ ≡ class.ok e us
+symbol-read : (σ : Sym) (e : Enc) (us : List Ty) → resolve-sym σ ≡ class.ok e us
     → Verdict (RoomSym σ e us) (Told σ e us) (reading ⟨encoding⟩ (at (behind-Z σ) [] [] 0 [] false))
-symbol-read (symbol m ps) e us h = after-is (SymRead (symbol m ps)) (resolveSym (symbol m ps)) e us h (reads-symbol (symbol m ps))
+symbol-read (symbol m ps) e us h = after-is (SymRead (symbol m ps)) (resolve-sym (symbol m ps)) e us h (reads-symbol (symbol m ps))
 
-spelled : (σ : Sym) → spellSym σ ≡ code "_" ∷ code "Z" ∷ behind-Z σ
-unfolding spellSym
+spelled : (σ : Sym) → spell-sym σ ≡ code "_" ∷ code "Z" ∷ behind-Z σ
+unfolding spell-sym
 spelled (symbol m ps) = refl
 
-module _ (σ : Sym) (e : Enc) (us : List Ty) (h : resolveSym σ ≡ class.ok e us) where
+module _ (σ : Sym) (e : Enc) (us : List Ty) (h : resolve-sym σ ≡ class.ok e us) where
   -- what is accepted is named after its tree
-  pub accepted : (limit : ℕ) (x : Text) → demangle limit (spellSym σ) ≡ named x → Accepted σ e us x
+  pub accepted : (limit : ℕ) (x : Text) → demangle limit (spell-sym σ) ≡ named x → Accepted σ e us x
   accepted limit x i =
       let j : demangle limit (code "_" ∷ code "Z" ∷ behind-Z σ) ≡ named x = rw (spelled σ) at i in
       told σ e us (sym-wf σ e us h) _ x (symbol-read σ e us h) (sym (mangled-is (behind-Z σ)) ∙ accepted-front limit (behind-Z σ) x j)
 
   -- what has room is accepted
-  pub accepts : (limit : ℕ) → length (spellSym σ) ≤ limit → RoomSym σ e us → demangle limit (spellSym σ) ≡ named (printEnc e)
+  pub accepts : (limit : ℕ) → length (spell-sym σ) ≤ limit → RoomSym σ e us → demangle limit (spell-sym σ) ≡ named (print-enc e)
   accepts limit l r =
       let l' : length (code "_" ∷ code "Z" ∷ behind-Z σ) ≤ limit = rw (spelled σ) at l in
       let i : high (code "_" ∷ code "Z" ∷ behind-Z σ) ≡ false = rw (spelled σ) at (symbol-ascii σ (sym-ok σ e us h)) in

@@ -4,7 +4,7 @@ use mathlib.Core.List.{List}
 use mathlib.Core.Option.{Option, none, some}
 use mathlib.Core.Path.{_≡_, refl}
 use Rattle.catalogue.specs.Tree.{Ty}
-use Rattle.catalogue.specs.Class.{Res, ok, wrong, andThen, provided, entry}
+use Rattle.catalogue.specs.Class.{Res, ok, wrong, and-then, provided, entry}
 use Rattle.catalogue.specs.WellFormed.{Post}
 
 unfoldable pub After {ℓ} : {A : Type 0} → Res A → (A → List Ty → Type ℓ) → Type ℓ
@@ -16,7 +16,7 @@ unfolding After
 after-ok x us P h = h
 
 pub after-then {ℓ κ} : {A B : Type 0} (P : A → List Ty → Type ℓ) (Q : B → List Ty → Type κ) (r : Res A) (f : A → List Ty → Res B) → After r P
-    → ((x : A) (us : List Ty) → P x us → After (f x us) Q) → After (andThen r f) Q
+    → ((x : A) (us : List Ty) → P x us → After (f x us) Q) → After (and-then r f) Q
 unfolding After
 after-then P Q (ok x us) f h k = k x us h
 after-then P Q wrong f h k = tt

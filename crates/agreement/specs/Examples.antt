@@ -5,7 +5,7 @@ use Rattle.grammar.specs.Text.{b}
 use Rattle.grammar.specs.Tables.{Row, _⇒_}
 use Rattle.grammar.specs.Names.{Answer, named}
 use Rattle.grammar.specs.Examples.{Answered, answered, by-test}
-use Rattle.catalogue.specs.Normal.{normalOf}
+use Rattle.catalogue.specs.Normal.{normal-of}
 use Rattle.catalogue.specs.Examples.{Written, normals, normals-hold}
 use Rattle.agreement.specs.NormalNames.{demand-3-first}
 
@@ -34,7 +34,7 @@ unfolding normals
 in-full = normals-hold .1 .0
 
 -- one name, so one normal symbol
-one-normal : normalOf (by-reference .is) ≡ normalOf (in-full .is)
+one-normal : normal-of (by-reference .is) ≡ normal-of (in-full .is)
 unfolding normal-cases
 one-normal =
     demand-3-first (by-reference .is) (in-full .is) (b "f(a*, a*)") (b "f(a*, a*)") (normal-cases-answered .0) (normal-cases-answered .1 .0) .1 refl

@@ -11,36 +11,36 @@ use borrow.Author.Tests.{le-leb, ne-eqb, leb-true, ltb-true, ltb-false}
 use Rattle.grammar.specs.Text.{Text, b, if_then_else_, same, starts, holds, digit, digit-value}
 use Rattle.grammar.specs.Grammar as g
 use Rattle.catalogue.specs.Bytes.{all, first, and-left, not-true, all-append}
-use Rattle.catalogue.specs.Tree.{Letter, Wrap, wP, wR, wO, wK, wV, letterCode, wrapCode}
+use Rattle.catalogue.specs.Tree.{Letter, Wrap, w-p, wR, wO, wK, wV, letter-code, wrap-code}
 use Rattle.catalogue.specs.Spelling.{
   Sp,
   Pre,
   SpArgs,
-  sLetter,
-  sWrap,
-  sRef,
+  s-letter,
+  s-wrap,
+  s-ref,
   plain,
   templ,
   retempl,
-  nestSub,
-  nestApp,
-  sLit,
-  pRef,
-  pRoot,
-  pSub,
-  pApp,
-  sOne,
-  sAlso,
+  nest-sub,
+  nest-app,
+  s-lit,
+  p-ref,
+  p-root,
+  p-sub,
+  p-app,
+  s-one,
+  s-also,
   spell,
-  spellPre,
-  spellArgs,
-  nameBytes,
-  lengthDigits,
-  refDigits,
+  spell-pre,
+  spell-args,
+  name-bytes,
+  length-digits,
+  ref-digits,
   base36,
-  digitOf,
+  digit-of,
 }
-use Rattle.catalogue.specs.Class.{nameOk, wordByte, listed, reserved}
+use Rattle.catalogue.specs.Class.{name-ok, word-byte, listed, reserved}
 use Rattle.catalogue.specs.Numbers.{Some, digit-low, decimal-value, decimal-all, decimal-some, ref-all}
 use Rattle.agreement.specs.Letters.{every-letter}
 use Rattle.agreement.specs.Leaves.{starts-miss, first-of, Named, Numbered, low}
@@ -51,20 +51,20 @@ some-first : (p : ℕ → Bool) (t : Text) → Some t → all p t ≡ true → f
 some-first p [] h e = absurd h
 some-first p (x ∷ t) h e = and-left (p x) (all p t) e
 
-pub length-digit : (n : Text) → first (digit 10) (lengthDigits n) ≡ true
-length-digit n = some-first (digit 10) (lengthDigits n) (decimal-some (length n) (length n)) (decimal-all (suc (length n)) (length n))
+pub length-digit : (n : Text) → first (digit 10) (length-digits n) ≡ true
+length-digit n = some-first (digit 10) (length-digits n) (decimal-some (length n) (length n)) (decimal-all (suc (length n)) (length n))
 
-pub name-long : (n : Text) → nameOk n ≡ true → 1 ≤ length n
-unfolding nameOk
+pub name-long : (n : Text) → name-ok n ≡ true → 1 ≤ length n
+unfolding name-ok
 name-long [] h = absurd (false≢true h)
 name-long (x ∷ n) h = omega arith
 
-name-lead : (n : Text) → nameOk n ≡ true → first (digit 10) n ≡ false
-unfolding nameOk
+name-lead : (n : Text) → name-ok n ≡ true → first (digit 10) n ≡ false
+unfolding name-ok
 name-lead [] h = refl
-name-lead (x ∷ n) h = not-true (digit 10 x) (and-left (not (digit 10 x)) (all wordByte (x ∷ n) && not (listed (x ∷ n) reserved)) h)
+name-lead (x ∷ n) h = not-true (digit 10 x) (and-left (not (digit 10 x)) (all word-byte (x ∷ n) && not (listed (x ∷ n) reserved)) h)
 
-pub named : (n : Text) → nameOk n ≡ true → Named (lengthDigits n) n
+pub named : (n : Text) → name-ok n ≡ true → Named (length-digits n) n
 named n h =
     record {
       digits = decimal-all (suc (length n)) (length n);
@@ -76,8 +76,8 @@ named n h =
 
 -- ---------------------------------------------------------------- references
 
-digit-of-low : (d : ℕ) → d < 36 → low (digitOf d) ≡ true
-unfolding digitOf if_then_else_
+digit-of-low : (d : ℕ) → d < 36 → low (digit-of d) ≡ true
+unfolding digit-of if_then_else_
 digit-of-low d h = go (ltb d 10) refl
   where
     go : (p : Bool) → ltb d 10 ≡ p → low (if p then 48 + d else 65 + (d - 10)) ≡ true
@@ -90,18 +90,18 @@ base36-low zero n h = rw (digit-of-low n (omega arith)) refl
 base36-low (suc k) n h = go (ltb n 36) refl (λ l. base36-low k (n / 36) l)
   where
     go : (p : Bool) → ltb n 36 ≡ p → (n / 36 ≤ k → all low (base36 k (n / 36)) ≡ true)
-        → all low (if p then digitOf n ∷ [] else base36 k (n / 36) ++ (digitOf (n % 36) ∷ [])) ≡ true
+        → all low (if p then digit-of n ∷ [] else base36 k (n / 36) ++ (digit-of (n % 36) ∷ [])) ≡ true
     go true e ih = rw (digit-of-low n (ltb-true n 36 e)) refl
     go false e ih =
         let l = ltb-false n 36 e in
-        all-append low (base36 k (n / 36)) (digitOf (n % 36) ∷ []) (ih (omega arith)) (rw (digit-of-low (n % 36) (omega arith)) refl)
+        all-append low (base36 k (n / 36)) (digit-of (n % 36) ∷ []) (ih (omega arith)) (rw (digit-of-low (n % 36) (omega arith)) refl)
 
-pub ref-low : (i : ℕ) → all low (refDigits i) ≡ true
-unfolding refDigits
+pub ref-low : (i : ℕ) → all low (ref-digits i) ≡ true
+unfolding ref-digits
 ref-low zero = refl
 ref-low (suc i) = base36-low i i (omega arith)
 
-pub numbered : (i : ℕ) → Numbered (refDigits i)
+pub numbered : (i : ℕ) → Numbered (ref-digits i)
 numbered i = record { digits = ref-all i; capitals = ref-low i }
 
 std-miss : (y : ℕ) (t : Text) → eqb y (code "t") ≡ false → g.std-ahead (code "S" ∷ y ∷ t) ≡ false
@@ -116,8 +116,8 @@ std-low : (ds r : Text) → all low ds ≡ true → g.std-ahead (code "S" ∷ (d
 std-low [] r h = std-miss (code "_") r refl
 std-low (y ∷ ds) r h = std-miss y (ds ++ (code "_" ∷ r)) (low-not-t y (and-left (low y) (all low ds) h))
 
-pub no-std : (i : ℕ) (r : Text) → g.std-ahead (code "S" ∷ (refDigits i ++ (code "_" ∷ r))) ≡ false
-no-std i r = std-low (refDigits i) r (ref-low i)
+pub no-std : (i : ℕ) (r : Text) → g.std-ahead (code "S" ∷ (ref-digits i ++ (code "_" ∷ r))) ≡ false
+no-std i r = std-low (ref-digits i) r (ref-low i)
 
 -- ---------------------------------------------------------------- first bytes
 
@@ -148,20 +148,20 @@ pub first-map : (p q : ℕ → Bool) → ((x : ℕ) → p x ≡ true → q x ≡
 first-map p q f [] h = absurd (false≢true h)
 first-map p q f (x ∷ t) h = f x h
 
-pub name-first : (n r : Text) → first (digit 10) (nameBytes n ++ r) ≡ true
-name-first n r = rw (append-assoc (lengthDigits n) n r) (first-of (digit 10) (lengthDigits n) (n ++ r) (length-digit n))
+pub name-first : (n r : Text) → first (digit 10) (name-bytes n ++ r) ≡ true
+name-first n r = rw (append-assoc (length-digits n) n r) (first-of (digit 10) (length-digits n) (n ++ r) (length-digit n))
 
-pub name-opens : (n r : Text) → first opens (nameBytes n ++ r) ≡ true
-name-opens n r = first-map (digit 10) opens digit-opens (nameBytes n ++ r) (name-first n r)
+pub name-opens : (n r : Text) → first opens (name-bytes n ++ r) ≡ true
+name-opens n r = first-map (digit 10) opens digit-opens (name-bytes n ++ r) (name-first n r)
 
-letter-opens : (l : Letter) → opens (letterCode l) ≡ true
+letter-opens : (l : Letter) → opens (letter-code l) ≡ true
 unfolding opens holds b
 letter-opens l = every-letter (λ x. opens
-    (letterCode x) ≡ true) refl refl refl refl refl refl refl refl refl refl refl refl refl refl refl refl refl refl refl refl refl l
+    (letter-code x) ≡ true) refl refl refl refl refl refl refl refl refl refl refl refl refl refl refl refl refl refl refl refl refl l
 
-wrap-opens : (c : Wrap) → opens (wrapCode c) ≡ true
+wrap-opens : (c : Wrap) → opens (wrap-code c) ≡ true
 unfolding opens holds b
-wrap-opens wP = refl
+wrap-opens w-p = refl
 wrap-opens wR = refl
 wrap-opens wO = refl
 wrap-opens wK = refl
@@ -169,33 +169,33 @@ wrap-opens wV = refl
 
 pub spell-opens : (s : Sp) (r : Text) → first opens (spell s ++ r) ≡ true
 unfolding spell opens holds b
-spell-opens (sLetter l) r = letter-opens l
-spell-opens (sWrap c s) r = wrap-opens c
-spell-opens (sRef i) r = refl
+spell-opens (s-letter l) r = letter-opens l
+spell-opens (s-wrap c s) r = wrap-opens c
+spell-opens (s-ref i) r = refl
 spell-opens (plain n) r = name-opens n r
-spell-opens (templ n ss) r = rw (append-assoc (nameBytes n) (73 ∷ (spellArgs ss ++ (69 ∷ []))) r) (name-opens n ((73 ∷ (spellArgs ss ++
+spell-opens (templ n ss) r = rw (append-assoc (name-bytes n) (73 ∷ (spell-args ss ++ (69 ∷ []))) r) (name-opens n ((73 ∷ (spell-args ss ++
     (69 ∷ []))) ++ r))
 spell-opens (retempl i ss) r = refl
-spell-opens (nestSub q n) r = refl
-spell-opens (nestApp q ss) r = refl
-spell-opens (sLit k g v) r = refl
+spell-opens (nest-sub q n) r = refl
+spell-opens (nest-app q ss) r = refl
+spell-opens (s-lit k g v) r = refl
 
-pub args-opens : (ss : SpArgs) (r : Text) → first opens (spellArgs ss ++ r) ≡ true
+pub args-opens : (ss : SpArgs) (r : Text) → first opens (spell-args ss ++ r) ≡ true
 unfolding spell
-args-opens (sOne s) r = spell-opens s r
-args-opens (sAlso s ss) r = rw (append-assoc (spell s) (spellArgs ss) r) (spell-opens s (spellArgs ss ++ r))
+args-opens (s-one s) r = spell-opens s r
+args-opens (s-also s ss) r = rw (append-assoc (spell s) (spell-args ss) r) (spell-opens s (spell-args ss ++ r))
 
 digit-heads : (x : ℕ) → digit 10 x ≡ true → heads x ≡ true
 unfolding heads
 digit-heads x h = rw h refl
 
-pub pre-heads : (q : Pre) (r : Text) → first heads (spellPre q ++ r) ≡ true
+pub pre-heads : (q : Pre) (r : Text) → first heads (spell-pre q ++ r) ≡ true
 unfolding spell heads digit digit-value if_then_else_
-pre-heads (pRef i) r = refl
-pre-heads (pRoot n) r = first-map (digit 10) heads digit-heads (nameBytes n ++ r) (name-first n r)
-pre-heads (pSub q n) r = rw (append-assoc (spellPre q) (nameBytes n) r) (pre-heads q (nameBytes n ++ r))
-pre-heads (pApp q ss) r =
-    rw (append-assoc (spellPre q) (73 ∷ (spellArgs ss ++ (69 ∷ []))) r) (pre-heads q ((73 ∷ (spellArgs ss ++ (69 ∷ []))) ++ r))
+pre-heads (p-ref i) r = refl
+pre-heads (p-root n) r = first-map (digit 10) heads digit-heads (name-bytes n ++ r) (name-first n r)
+pre-heads (p-sub q n) r = rw (append-assoc (spell-pre q) (name-bytes n) r) (pre-heads q (name-bytes n ++ r))
+pre-heads (p-app q ss) r =
+    rw (append-assoc (spell-pre q) (73 ∷ (spell-args ss ++ (69 ∷ []))) r) (pre-heads q ((73 ∷ (spell-args ss ++ (69 ∷ []))) ++ r))
 
 -- ---------------------------------------------------------------- what they rule out
 

@@ -31,20 +31,20 @@ use Rattle.catalogue.specs.Tree.{
   lit,
   one,
   also,
-  letterCode,
-  kindCode,
+  letter-code,
+  kind-code,
   word,
   literal,
   print,
-  printArgs,
+  print-args,
 }
 use borrow.Author.Tests.{ne-eqb}
 use Rattle.catalogue.specs.Numbers.{digit-low}
 use Rattle.catalogue.specs.Spelling.{minus}
-use Rattle.catalogue.specs.Class.{litOk}
-use Rattle.catalogue.specs.NormalForm.{argBytes, nbytes}
+use Rattle.catalogue.specs.Class.{lit-ok}
+use Rattle.catalogue.specs.NormalForm.{arg-bytes, nbytes}
 use Rattle.catalogue.specs.WellFormed.{WfArgs}
-use Rattle.catalogue.specs.Count.{numberOf, nargs}
+use Rattle.catalogue.specs.Count.{number-of, nargs}
 use Rattle.agreement.specs.Verdict.{
   at,
   Verdict,
@@ -76,39 +76,39 @@ use Rattle.agreement.specs.Verdict.{
 use Rattle.agreement.specs.Leaves.{find-miss, clear, starts-miss}
 use Rattle.agreement.specs.Heads.{opens, some-bytes}
 use Rattle.agreement.specs.Steps.{literal-arg-by}
-use Rattle.agreement.specs.Printed.{items, listText, angled-items, lit-numeral}
+use Rattle.agreement.specs.Printed.{items, list-text, angled-items, lit-numeral}
 use Rattle.agreement.specs.Rooms.{texts, Grown, sum-grown, fits-grown, bytes, bytes-snoc, fits-list, Room, Kept}
 use Rattle.agreement.specs.TypeNodes.{Says, SaysList, SaysItems, letter-says}
 
 -- ---------------------------------------------------------------- literals
 
 -- the letter of a literal's type
-abbrev letterOf : Kind → Letter
-letterOf kb = lb
-letterOf ki = li
-letterOf kj = lj
-letterOf kl = ll
-letterOf km = lm
+abbrev letter-of : Kind → Letter
+letter-of kb = lb
+letter-of ki = li
+letter-of kj = lj
+letter-of kl = ll
+letter-of km = lm
 
-kind-code : (k : Kind) → kindCode k ≡ letterCode (letterOf k)
-kind-code kb = refl
-kind-code ki = refl
-kind-code kj = refl
-kind-code kl = refl
-kind-code km = refl
+kind-code-is : (k : Kind) → kind-code k ≡ letter-code (letter-of k)
+kind-code-is kb = refl
+kind-code-is ki = refl
+kind-code-is kj = refl
+kind-code-is kl = refl
+kind-code-is km = refl
 
 -- not the _ of L_
 abbrev not-line : ℕ → Bool
 not-line x = not (eqb x (code "_"))
 
-kind-line : (k : Kind) → not-line (letterCode (letterOf k)) ≡ true
+kind-line : (k : Kind) → not-line (letter-code (letter-of k)) ≡ true
 kind-line kb = refl
 kind-line ki = refl
 kind-line kj = refl
 kind-line kl = refl
 kind-line km = refl
 
-kind-short : (k : Kind) → length (word (letterOf k)) ≤ most-text-bytes
+kind-short : (k : Kind) → length (word (letter-of k)) ≤ most-text-bytes
 unfolding word word-for letters choose same b if_then_else_
 kind-short kb = omega arith
 kind-short ki = omega arith
@@ -142,8 +142,8 @@ no-minus (x ∷ v) h =
     let k1 = k .1 in
     rw (ne-eqb x 110 (λ e. omega arith))
 
-literal-is : (k : Kind) (s : Bool) (v : Text) → litOk k s v ≡ true → g.literal (word (letterOf k)) (minus s ++ v) ≡ literal k s v
-unfolding g.literal word word-for letters suffixes choose same litOk if_then_else_ b
+literal-is : (k : Kind) (s : Bool) (v : Text) → lit-ok k s v ≡ true → g.literal (word (letter-of k)) (minus s ++ v) ≡ literal k s v
+unfolding g.literal word word-for letters suffixes choose same lit-ok if_then_else_ b
 literal-is kb true v h = absurd (false≢true h)
 literal-is kb false v h = rw (no-minus v (lit-numeral kb false v h))
 literal-is ki true v h = unfold starts in refl
@@ -160,17 +160,17 @@ unfolding clear b
 line-clear x = refl
 
 -- L, the type's letter, the value, E
-pub literal-says : (k : Kind) (s : Bool) (v : Text) (us : List Ty) (r : Text) (a : List Text) (d : ℕ) (c : Text) (q : Bool) → litOk k s v ≡ true
-    → Says us us (lit k s v) r a d 1 (reading ⟨template-arg⟩ (at (code "L" ∷ kindCode k ∷ (minus s ++ (v ++ (code "E" ∷ r)))) (texts us) a d c q))
+pub literal-says : (k : Kind) (s : Bool) (v : Text) (us : List Ty) (r : Text) (a : List Text) (d : ℕ) (c : Text) (q : Bool) → lit-ok k s v ≡ true
+    → Says us us (lit k s v) r a d 1 (reading ⟨template-arg⟩ (at (code "L" ∷ kind-code k ∷ (minus s ++ (v ++ (code "E" ∷ r)))) (texts us) a d c q))
 unfolding production print g.expr-primary every onto go-to
 literal-says k s v us r a d c q h =
     let ne = minus-not-E s v (lit-numeral k s v h) in
     literal-arg-by _ _ _ _ _ _
     (in-reading _ _
     (need-by "L" _ _ _ _ _ _ _ _ byte-L
-    (rw (kind-code k, sym (append-assoc (minus s) v (code "E" ∷ r)))
+    (rw (kind-code-is k, sym (append-assoc (minus s) v (code "E" ∷ r)))
     (by-code-miss _ _ _ _ (find-miss not-line _ _ (kind-line k) (line-clear _))
-    (next _ (letter-says (letterOf k) us ((minus s ++ v) ++ (code "E" ∷ r)) a d c q)
+    (next _ (letter-says (letter-of k) us ((minus s ++ v) ++ (code "E" ∷ r)) a d c q)
     (λ p. record { table = p .table; deep = p .deep; text = kind-short k; few = p .few; small = p .small })
     (λ e c' q' j.
     rw (run-of not-E (minus s ++ v) (code "E" ∷ r) ne refl, past-of not-E (minus s ++ v) (code "E" ∷ r) ne refl)
@@ -197,7 +197,7 @@ loops-on t h = (rw (starts-miss opens t (b "E") h refl), some-bytes opens t h)
 
 -- the first argument of a list, with room for the rest
 arg-fits : (t : Ty) (xs : Args) (us vs ws : List Ty) (a e : List Text) (d m len d' m' : ℕ)
-    → Room us ws a d m len (suc (numberOf xs)) (bytes t + argBytes xs)
+    → Room us ws a d m len (suc (number-of xs)) (bytes t + arg-bytes xs)
     → Kept us vs a d' m' 0 0 e → Grown vs ws → fits (e ++ (print t ∷ [])) ≡ true
 arg-fits t xs us vs ws a e d m len d' m' r k gr =
     let x = sum-grown nargs vs ws gr in
@@ -230,7 +230,7 @@ last-kept t us vs a e d m k =
     record { deep = k .deep; table = k .table; few = omega arith; small = omega arith }
 
 first-room : (t : Ty) (xs : Args) (us vs ws : List Ty) (a : List Text) (d m m' len : ℕ) → m ≤ m' → bytes t ≤ len
-    → Room us ws a d m' len (suc (numberOf xs)) (bytes t + argBytes xs) → Grown vs ws → Room us vs a d m (bytes t) 0 0
+    → Room us ws a d m' len (suc (number-of xs)) (bytes t + arg-bytes xs) → Grown vs ws → Room us vs a d m (bytes t) 0 0
 first-room t xs us vs ws a d m m' len h l r gr =
     let x = sum-grown nargs vs ws gr in
     let y = sum-grown nbytes vs ws gr in
@@ -241,8 +241,8 @@ first-room t xs us vs ws a d m m' len h l r gr =
     record { table = fits-grown vs ws gr (r .table); deep = omega arith; text = omega arith; few = omega arith; small = omega arith }
 
 rest-room : (t : Ty) (xs : Args) (us vs ws : List Ty) (a e : List Text) (d m m' m'' len len' : ℕ) → m' ≤ m'' → len' ≤ len
-    → Room us ws a d m'' len (suc (numberOf xs)) (bytes t + argBytes xs) → Kept us vs a d m 0 0 e → Grown vs ws
-    → Room vs ws (e ++ (print t ∷ [])) d m' len' (numberOf xs) (argBytes xs)
+    → Room us ws a d m'' len (suc (number-of xs)) (bytes t + arg-bytes xs) → Kept us vs a d m 0 0 e → Grown vs ws
+    → Room vs ws (e ++ (print t ∷ [])) d m' len' (number-of xs) (arg-bytes xs)
 rest-room t xs us vs ws a e d m m' m'' len len' h l r k gr =
     let z1 = r .few in
     let z2 = r .small in
@@ -255,7 +255,7 @@ rest-room t xs us vs ws a e d m m' m'' len len' h l r k gr =
     record { table = r .table; deep = omega arith; text = omega arith; few = omega arith; small = omega arith }
 
 also-kept : (t : Ty) (xs : Args) (us vs ws : List Ty) (a e g : List Text) (d m m' m'' : ℕ) → d + m'' ≤ most-open → Kept us vs a d m 0 0 e
-    → Kept vs ws (e ++ (print t ∷ [])) d m' (numberOf xs) (argBytes xs) g → Kept us ws a d m'' (suc (numberOf xs)) (bytes t + argBytes xs) g
+    → Kept vs ws (e ++ (print t ∷ [])) d m' (number-of xs) (arg-bytes xs) g → Kept us ws a d m'' (suc (number-of xs)) (bytes t + arg-bytes xs) g
 also-kept t xs us vs ws a e g d m m' m'' h k j =
     let z1 = k .few in
     let z2 = k .small in
@@ -288,7 +288,7 @@ pub one-says : (t : Ty) (us vs : List Ty) (l : List Text) (x r : Text) (n : ℕ)
     → first opens x ≡ true → 1 < n
     → Says us vs t (code "E" ∷ r) a d m (reading ⟨template-arg⟩ (at x (texts us) a d c q))
     → SaysItems us vs (one t) l r a d m (args-loop n l (at x (texts us) a d c q))
-unfolding print items argBytes starts b
+unfolding print items arg-bytes starts b
 one-says t us vs l x r n a d m c q f u s =
     let o = loops-on x f in
     step-on _ _ _ _ _ (omega arith) (o .0)
@@ -304,7 +304,7 @@ pub also-says : (t : Ty) (xs : Args) (us vs ws : List Ty) (l : List Text) (x y r
     → ((n' : ℕ) (e : List Text) (c' : Text) (q' : Bool) → length y < n'
     → SaysItems vs ws xs (l ++ (print t ∷ [])) r e d m' (args-loop n' (l ++ (print t ∷ [])) (at y (texts vs) e d c' q')))
     → SaysItems us ws (also t xs) l r a d (max m m') (args-loop n l (at x (texts us) a d c q))
-unfolding print items argBytes
+unfolding print items arg-bytes
 also-says t xs us vs ws l x y r n a d m m' c q f u gr s h =
     let o = loops-on x f in
     step-on _ _ _ _ _ (omega arith) (o .0)
@@ -323,7 +323,7 @@ pub list-says : (xs : Args) (us ws : List Ty) (x r : Text) (a : List Text) (d m 
     → SaysList us ws xs r a d m (reading ⟨template-args⟩ (at (code "I" ∷ x) (texts us) a d c q))
 unfolding production g.template-args
 list-says xs us ws x r a d m c q f h =
-    let len : length (printArgs xs) ≤ length (listText xs) = simp length-append (omega arith) in
+    let len : length (print-args xs) ≤ length (list-text xs) = simp length-append (omega arith) in
     in-reading _ _
     (need-by "I" _ _ _ _ _ _ _ _ byte-I
     (entered-by _ _ _ _ _ _ (λ p. let z = p .deep in omega arith)

@@ -14,9 +14,9 @@ use Rattle.grammar.specs.Grammar as g
 use Rattle.grammar.specs.Grammar.{⟨name⟩, production, reading}
 use Rattle.catalogue.specs.Bytes.{first}
 use Rattle.catalogue.specs.Tree.{Ty, root, sub, print}
-use Rattle.catalogue.specs.Spelling.{Pre, SpName, flat, scoped, spellName, spellPre, nameBytes, constByte}
-use Rattle.catalogue.specs.Class.{nameOk, resolvePre, resolveName, isConst}
-use Rattle.catalogue.specs.Limits.{depthPre, depthName}
+use Rattle.catalogue.specs.Spelling.{Pre, SpName, flat, scoped, spell-name, spell-pre, name-bytes, const-byte}
+use Rattle.catalogue.specs.Class.{name-ok, resolve-pre, resolve-name, is-const}
+use Rattle.catalogue.specs.Limits.{depth-pre, depth-name}
 use Rattle.agreement.specs.Verdict.{
   at,
   Verdict,
@@ -84,30 +84,30 @@ module _ {B : Type 0} {room room' : Type 0} {y r : Text} {l : List Text} {d : �
 
 -- what the qualifier of a name prints
 abbrev pub qualified : Bool → Text
-qualified k = each g.qualifier (constByte k)
+qualified k = each g.qualifier (const-byte k)
 
 abbrev pub SaysName : Bool → Ty → List Ty → Text → ℕ → Result Text → Type 0
 SaysName k t us r m o = Verdict (Room [] us [] 0 m (bytes t) 0 0) (Names (print t) r (texts us) 0 (qualified k) (Kept [] us [] 0 m 0 0)) o
 
-flat-says : (n r : Text) → nameOk n ≡ true → starts r (b "I") ≡ false → starts r (b "B") ≡ false
-    → SaysName false (root n) [] r 1 (reading ⟨name⟩ (at (nameBytes n ++ r) [] [] 0 [] false))
+flat-says : (n r : Text) → name-ok n ≡ true → starts r (b "I") ≡ false → starts r (b "B") ≡ false
+    → SaysName false (root n) [] r 1 (reading ⟨name⟩ (at (name-bytes n ++ r) [] [] 0 [] false))
 unfolding production g.name g.name-inner g.unscoped-name print texts each clear b digit digit-value if_then_else_
 flat-says n r o e f =
     in-reading _ _ (entered-name _ _ _ _ _ _ (λ p. let z = p .deep in omega arith)
-    (λ k. at-code-miss _ _ _ (find-miss (digit 10) _ (nameBytes n ++ r) (name-first n r) refl)
+    (λ k. at-code-miss _ _ _ (find-miss (digit 10) _ (name-bytes n ++ r) (name-first n r) refl)
     (by-equal _ _ _ (unqualified-gives n r [] [] 1 [] false o f)
     (give-by _ _ _ (λ p. p .text) (at-code-miss _ _ _ (I-miss _ r e) (reads (names (kept-same [] [] 0 1 (omega arith)))))))))
 
-scoped-says : (k : Bool) (n : Text) (t : Ty) (us : List Ty) (x r : Text) (m : ℕ) → nameOk n ≡ true → first heads x ≡ true
-    → SaysPre [] us t x (nameBytes n ++ (code "E" ∷ r)) [] 1 m [] false
-    → SaysName k (sub t n) us r (suc m) (reading ⟨name⟩ (at (code "N" ∷ (constByte k ++ x)) [] [] 0 [] false))
+scoped-says : (k : Bool) (n : Text) (t : Ty) (us : List Ty) (x r : Text) (m : ℕ) → name-ok n ≡ true → first heads x ≡ true
+    → SaysPre [] us t x (name-bytes n ++ (code "E" ∷ r)) [] 1 m [] false
+    → SaysName k (sub t n) us r (suc m) (reading ⟨name⟩ (at (code "N" ∷ (const-byte k ++ x)) [] [] 0 [] false))
 unfolding production g.name g.name-inner print texts find starts b if_then_else_
 scoped-says k n t us x r m o h s =
     let len = name-longer n (code "E" ∷ r) in
     let part : length (print t) ≤ length (print t ++ (b "::" ++ n)) = rw (length-append (print t) (b "::" ++ n)) (omega arith) in
     let part' : length n ≤ length (print t ++ (b "::" ++ n)) = rw (length-append (print t) (b "::" ++ n), length-append (b "::") n) (omega arith) in
     in-reading _ _ (entered-name _ _ _ _ _ _ (λ p. let z = p .deep in omega arith)
-    (λ y. at-code-hit _ _ _ _ (constByte k ++ x) refl
+    (λ y. at-code-hit _ _ _ _ (const-byte k ++ x) refl
     (in-onto _ (nested-by (λ v u. ok v u) k x _ _ _ _ _ h
     (s Text _ _ (ending (λ v u. ok v u) k) (suc (length x)) (omega arith) (omega arith)
     (λ p. room-part _ _ _ _ _ _ _ _ _ _ p (grown-refl us) (omega arith) part)
@@ -122,23 +122,23 @@ scoped-says k n t us x r m o h s =
 
 -- ---------------------------------------------------------------- names
 
-name-bytes : (k : Bool) (p : Pre) (n r : Text) → spellName (scoped k p n) ++ r ≡ code "N" ∷ (constByte k ++ (spellPre p ++ (nameBytes n ++
+name-bytes-are : (k : Bool) (p : Pre) (n r : Text) → spell-name (scoped k p n) ++ r ≡ code "N" ∷ (const-byte k ++ (spell-pre p ++ (name-bytes n ++
     (code "E" ∷ r))))
-name-bytes k p n r = simp append-assoc
+name-bytes-are k p n r = simp append-assoc
 
 abbrev pub NameRead : SpName → Text → Ty → List Ty → Type 0
-NameRead m r t us = SaysName (isConst m) t us r (depthName m) (reading ⟨name⟩ (at (spellName m ++ r) [] [] 0 [] false))
+NameRead m r t us = SaysName (is-const m) t us r (depth-name m) (reading ⟨name⟩ (at (spell-name m ++ r) [] [] 0 [] false))
 
-scoped-read : (k : Bool) (p : Pre) (n r : Text) (t : Ty) (us : List Ty) → nameOk n ≡ true → PreRead p [] (nameBytes n ++ (code "E" ∷ r)) 1 t us
+scoped-read : (k : Bool) (p : Pre) (n r : Text) (t : Ty) (us : List Ty) → name-ok n ≡ true → PreRead p [] (name-bytes n ++ (code "E" ∷ r)) 1 t us
     → NameRead (scoped k p n) r (sub t n) us
 unfolding texts
-scoped-read k p n r t us o h = rw (name-bytes k p n r) (scoped-says k n t us _ r (depthPre p) o (pre-heads p _) (h [] [] false))
+scoped-read k p n r t us o h = rw (name-bytes-are k p n r) (scoped-says k n t us _ r (depth-pre p) o (pre-heads p _) (h [] [] false))
 
 -- every name that resolves is read, where no arguments and no tag follow it
-pub reads-name : (m : SpName) (r : Text) → starts r (b "I") ≡ false → starts r (b "B") ≡ false → After (resolveName m) (NameRead m r)
-unfolding resolveName
-reads-name (flat n) r e f = after-if _ (nameOk n) _ (λ o. after-ok _ _ (NameRead (flat n) r) (flat-says n r o e f))
+pub reads-name : (m : SpName) (r : Text) → starts r (b "I") ≡ false → starts r (b "B") ≡ false → After (resolve-name m) (NameRead m r)
+unfolding resolve-name
+reads-name (flat n) r e f = after-if _ (name-ok n) _ (λ o. after-ok _ _ (NameRead (flat n) r) (flat-says n r o e f))
 reads-name (scoped k p n) r e f =
-    after-then (PreRead p [] (nameBytes n ++ (code "E" ∷ r)) 1) (NameRead (scoped k p n) r) (resolvePre p []) _
-    (reads-pre p [] tt (nameBytes n ++ (code "E" ∷ r)) (name-tag n _) (name-more n _) 1)
-    (λ t us h. after-if _ (nameOk n) _ (λ o. after-ok _ _ (NameRead (scoped k p n) r) (scoped-read k p n r t us o h)))
+    after-then (PreRead p [] (name-bytes n ++ (code "E" ∷ r)) 1) (NameRead (scoped k p n) r) (resolve-pre p []) _
+    (reads-pre p [] tt (name-bytes n ++ (code "E" ∷ r)) (name-tag n _) (name-more n _) 1)
+    (λ t us h. after-if _ (name-ok n) _ (λ o. after-ok _ _ (NameRead (scoped k p n) r) (scoped-read k p n r t us o h)))

@@ -37,10 +37,10 @@ use Rattle.grammar.specs.Grammar.{⟨template-args⟩, ⟨nested-name⟩, produ
 use Rattle.grammar.specs.Fuel.{reading-is}
 use Rattle.catalogue.specs.Bytes.{all, first, run-of, past-of}
 use Rattle.catalogue.specs.Tree.{Ty, Args, root, sub, app, print}
-use Rattle.catalogue.specs.Spelling.{refDigits, lengthDigits, nameBytes, constByte}
-use Rattle.catalogue.specs.Class.{nameOk, push}
-use Rattle.catalogue.specs.Count.{numberOf}
-use Rattle.catalogue.specs.NormalForm.{argBytes}
+use Rattle.catalogue.specs.Spelling.{ref-digits, length-digits, name-bytes, const-byte}
+use Rattle.catalogue.specs.Class.{name-ok, push}
+use Rattle.catalogue.specs.Count.{number-of}
+use Rattle.catalogue.specs.NormalForm.{arg-bytes}
 use Rattle.agreement.specs.Verdict.{
   at,
   Verdict,
@@ -60,7 +60,7 @@ use Rattle.agreement.specs.Verdict.{
 use Rattle.agreement.specs.Leaves.{starts-miss}
 use Rattle.agreement.specs.Heads.{heads, name-first, length-digit, some-bytes}
 use Rattle.agreement.specs.Steps.{prefix-name, prefix-ref, prefix-list}
-use Rattle.agreement.specs.Printed.{listText, join-snoc, join-onto-last, length-onto-last, last-some, not-last, first-long}
+use Rattle.agreement.specs.Printed.{list-text, join-snoc, join-onto-last, length-onto-last, last-some, not-last, first-long}
 use Rattle.agreement.specs.Rooms.{texts, Fits, Grown, grown-push, grown-trans, bytes, Room, Kept}
 use Rattle.agreement.specs.Pushes.{enter-by, kept-same, kept-push, kept-app, room-part, room-list}
 use Rattle.agreement.specs.TypeNodes.{SaysList, unqualified-gives, reference-gives}
@@ -151,23 +151,23 @@ module _ {B : Type 0} {room : Type 0} {Q : B → State → Type 0} (K : Parts �
   pub ref-part :
       (i : ℕ) (t : Ty) (us : List Ty) (ts : List Text) (r : Text) (a : List Text) (d : ℕ) (c : Text) (q : Bool) → getElem? us i ≡ some t →
       (room → bytes t ≤ most-text-bytes) → Verdict room Q (K (parts (ts ++ (print t ∷ []))) (at r (texts us) a d c q)) →
-      Verdict room Q (onto K (g.prefix reading (parts ts) (at (code "S" ∷ (refDigits i ++ (code "_" ∷ r))) (texts us) a d c q)))
+      Verdict room Q (onto K (g.prefix reading (parts ts) (at (code "S" ∷ (ref-digits i ++ (code "_" ∷ r))) (texts us) a d c q)))
   unfolding g.old-prefix
   ref-part i t us ts r a d c q e w h =
       by-equal K _ (onto (old ts) (give (print t) (at r (texts us) a d c q)))
-      (prefix-ref (parts ts) (texts us) a d c q (refDigits i ++ (code "_" ∷ r)) ∙ ap (onto (old ts)) (reference-gives i us t r a d c q e))
+      (prefix-ref (parts ts) (texts us) a d c q (ref-digits i ++ (code "_" ∷ r)) ∙ ap (onto (old ts)) (reference-gives i us t r a d c q e))
       (assoc (old ts) K _ (give-by _ _ _ w (then-by K _ _ h)))
 
   -- a part before others: an entry
   pub name-part :
-      (n : Text) (u : Ty) (us : List Ty) (ts : List Text) (r : Text) (a : List Text) (d : ℕ) (c : Text) (q : Bool) → nameOk n ≡ true →
+      (n : Text) (u : Ty) (us : List Ty) (ts : List Text) (r : Text) (a : List Text) (d : ℕ) (c : Text) (q : Bool) → name-ok n ≡ true →
       starts r (b "B") ≡ false → starts r (b "E") ≡ false → join (b "::") (ts ++ (n ∷ [])) ≡ print u → (room → length n ≤ most-text-bytes) →
       (room → Fits (push u us)) → (Fits (push u us) → Verdict room Q (K (parts (ts ++ (n ∷ []))) (at r (texts (push u us)) a d c q))) →
-      Verdict room Q (onto K (g.prefix reading (parts ts) (at (nameBytes n ++ r) (texts us) a d c q)))
+      Verdict room Q (onto K (g.prefix reading (parts ts) (at (name-bytes n ++ r) (texts us) a d c q)))
   unfolding g.new-prefix
   name-part n u us ts r a d c q o tag more e w v h =
       by-equal K _ (onto (new ts) (give n (at r (texts us) a d c q)))
-      (prefix-name (parts ts) (texts us) a d c q (nameBytes n ++ r) (name-first n r) ∙ ap (onto (new ts)) (unqualified-gives n r
+      (prefix-name (parts ts) (texts us) a d c q (name-bytes n ++ r) (name-first n r) ∙ ap (onto (new ts)) (unqualified-gives n r
       (texts us) a d c q o tag))
       (assoc (new ts) K _ (give-by _ _ _ w
       (by-equal K _ _ (new-more ts n (texts us) a d c q r more)
@@ -175,24 +175,24 @@ module _ {B : Type 0} {room : Type 0} {Q : B → State → Type 0} (K : Parts �
 
   -- the last part: no entry
   pub last-part :
-      (n : Text) (us : List Ty) (ts : List Text) (r : Text) (a : List Text) (d : ℕ) (c : Text) (q : Bool) → nameOk n ≡ true →
+      (n : Text) (us : List Ty) (ts : List Text) (r : Text) (a : List Text) (d : ℕ) (c : Text) (q : Bool) → name-ok n ≡ true →
       (room → length n ≤ most-text-bytes) → Verdict room Q (K (parts (ts ++ (n ∷ []))) (at (code "E" ∷ r) (texts us) a d c q)) →
-      Verdict room Q (onto K (g.prefix reading (parts ts) (at (nameBytes n ++ (code "E" ∷ r)) (texts us) a d c q)))
+      Verdict room Q (onto K (g.prefix reading (parts ts) (at (name-bytes n ++ (code "E" ∷ r)) (texts us) a d c q)))
   unfolding g.new-prefix starts b
   last-part n us ts r a d c q o w h =
       by-equal K _ (onto (new ts) (give n (at (code "E" ∷ r) (texts us) a d c q)))
-      (prefix-name (parts ts) (texts us) a d c q (nameBytes n ++ (code "E" ∷ r)) (name-first n (code "E" ∷ r))
+      (prefix-name (parts ts) (texts us) a d c q (name-bytes n ++ (code "E" ∷ r)) (name-first n (code "E" ∷ r))
       ∙ ap (onto (new ts)) (unqualified-gives n (code "E" ∷ r) (texts us) a d c q o refl))
       (assoc (new ts) K _ (give-by _ _ _ w (by-equal K _ _ (new-last ts n (texts us) a d c q r) (then-by K _ _ h))))
 
   -- arguments behind a part: an entry
   pub list-part :
       (xs : Args) (u : Ty) (vs ws : List Ty) (ts : List Text) (x r : Text) (a : List Text) (d m : ℕ) (c : Text) (q : Bool) →
-      1 ≤ length ts → join (b "::") (onto-last (listText xs) ts) ≡ print u →
+      1 ≤ length ts → join (b "::") (onto-last (list-text xs) ts) ≡ print u →
       SaysList vs ws xs r [] d m (reading ⟨template-args⟩ (at (code "I" ∷ x) (texts vs) [] d c q)) →
-      (room → Room vs ws [] d (suc m) (length (listText xs)) (numberOf xs) (argBytes xs)) → (room → Fits (push u ws)) →
-      ((e : List Text) (c' : Text) → Kept vs ws [] d (suc m) (numberOf xs) (argBytes xs) e → Fits (push u ws) →
-      Verdict room Q (K (parts (onto-last (listText xs) ts)) (at r (texts (push u ws)) e d c' (starts r (b "E"))))) →
+      (room → Room vs ws [] d (suc m) (length (list-text xs)) (number-of xs) (arg-bytes xs)) → (room → Fits (push u ws)) →
+      ((e : List Text) (c' : Text) → Kept vs ws [] d (suc m) (number-of xs) (arg-bytes xs) e → Fits (push u ws) →
+      Verdict room Q (K (parts (onto-last (list-text xs) ts)) (at r (texts (push u ws)) e d c' (starts r (b "E"))))) →
       Verdict room Q (onto K (g.prefix reading (parts ts) (at (code "I" ∷ x) (texts vs) a d c q)))
   list-part xs u vs ws ts x r a d m c q l e s w v h =
       let y = last-some ts l in
@@ -200,9 +200,9 @@ module _ {B : Type 0} {room : Type 0} {Q : B → State → Type 0} (K : Parts �
       (prefix-list (parts ts) (texts vs) a d c q x ∙ prefix-args-is ts (code "I" ∷ x) (texts vs) a d c q)
       (assoc (args ts) K _ (next _ s w
       (λ z c' q' k.
-      by-equal K _ _ (args-is ts (listText xs) (texts ws) z d c' q' r (y .0) (y .1))
-      (assoc (listed ts (listText xs)) K _ (rw e (enter-by u ws _ _ _ _ _ _ v
-      (λ f. by-equal K _ _ (listed-is ts (listText xs) (texts (push u ws)) z d c' q' r) (then-by K _ _ (h z c' k f)))))))))
+      by-equal K _ _ (args-is ts (list-text xs) (texts ws) z d c' q' r (y .0) (y .1))
+      (assoc (listed ts (list-text xs)) K _ (rw e (enter-by u ws _ _ _ _ _ _ v
+      (λ f. by-equal K _ _ (listed-is ts (list-text xs) (texts (push u ws)) z d c' q' r) (then-by K _ _ (h z c' k f)))))))))
 
 -- ---------------------------------------------------------------- N .. E
 
@@ -213,7 +213,7 @@ no-qualifier [] h = refl
 no-qualifier (x ∷ t) h =
     rw (not-last heads 75 x refl h, not-last heads 86 x refl h, not-last heads 114 x refl h, not-last heads 82 x refl h, not-last heads 79 x refl h)
 
-const-qualifies : (k : Bool) → all (λ x. holds x (b "KVrRO")) (constByte k) ≡ true
+const-qualifies : (k : Bool) → all (λ x. holds x (b "KVrRO")) (const-byte k) ≡ true
 unfolding holds b
 const-qualifies true = refl
 const-qualifies false = refl
@@ -222,17 +222,17 @@ const-qualifies false = refl
 abbrev pub finish : Bool → Parts → Reader Text
 finish k p =
     λ s. onto (λ _ u. onto (λ _. give (join (b "::") (p .texts))) ((if p .structor then set-templated false else return tt) u)) (set-cv
-    (each g.qualifier (constByte k)) s)
+    (each g.qualifier (const-byte k)) s)
 
 nested-name-is : (k : Bool) (x : Text) (l a : List Text) (d : ℕ) (c : Text) (q : Bool) → first heads x ≡ true
-    → reading ⟨nested-name⟩ (at (code "N" ∷ (constByte k ++ x)) l a d c q)
+    → reading ⟨nested-name⟩ (at (code "N" ∷ (const-byte k ++ x)) l a d c q)
     ≡ onto (finish k) (onto closed (parts-loop (suc (length x)) (parts []) (at x l a d c q)))
 unfolding production g.nested-name need eat every onto go-to up-to-E while starts b if_then_else_
 nested-name-is k x l a d c q h =
     rw (
-      reading-is ⟨nested-name⟩ (at (code "N" ∷ (constByte k ++ x)) l a d c q),
-      run-of (λ y. holds y (b "KVrRO")) (constByte k) x (const-qualifies k) (no-qualifier x h),
-      past-of (λ y. holds y (b "KVrRO")) (constByte k) x (const-qualifies k) (no-qualifier x h),
+      reading-is ⟨nested-name⟩ (at (code "N" ∷ (const-byte k ++ x)) l a d c q),
+      run-of (λ y. holds y (b "KVrRO")) (const-byte k) x (const-qualifies k) (no-qualifier x h),
+      past-of (λ y. holds y (b "KVrRO")) (const-byte k) x (const-qualifies k) (no-qualifier x h),
     )
 
 -- what comes when the parts are read
@@ -240,7 +240,7 @@ abbrev pub ending : {B : Type 0} → (Text → Reader B) → Bool → Parts → 
 ending F k p = λ s. onto (λ y u. onto F (finish k y u)) (closed p s)
 
 finish-is : (k : Bool) (ts : List Text) (r : Text) (l a : List Text) (d : ℕ) (c : Text) (q : Bool)
-    → finish k (parts ts) (at r l a d c q) ≡ give (join (b "::") ts) (at r l a d (each g.qualifier (constByte k)) q)
+    → finish k (parts ts) (at r l a d c q) ≡ give (join (b "::") ts) (at r l a d (each g.qualifier (const-byte k)) q)
 unfolding onto set-cv if_then_else_
 finish-is k ts r l a d c q = refl
 
@@ -248,20 +248,20 @@ module _ {B : Type 0} {room : Type 0} {Q : B → State → Type 0} (F : Text →
   pub nested-by :
       (k : Bool) (x : Text) (l a : List Text) (d : ℕ) (c : Text) (q : Bool) → first heads x ≡ true →
       Verdict room Q (onto (ending F k) (parts-loop (suc (length x)) (parts []) (at x l a d c q))) →
-      Verdict room Q (onto F (reading ⟨nested-name⟩ (at (code "N" ∷ (constByte k ++ x)) l a d c q)))
+      Verdict room Q (onto F (reading ⟨nested-name⟩ (at (code "N" ∷ (const-byte k ++ x)) l a d c q)))
   nested-by k x l a d c q f h =
       by-equal F _ _ (nested-name-is k x l a d c q f) (assoc (finish k) F _ (assoc closed _ _ h))
 
   pub ending-by :
       (k : Bool) (ts : List Text) (r : Text) (l a : List Text) (d : ℕ) (c : Text) (q : Bool) → (room → length (join (b "::") ts) ≤ most-text-bytes) →
-      Verdict room Q (F (join (b "::") ts) (at r l a d (each g.qualifier (constByte k)) q))
+      Verdict room Q (F (join (b "::") ts) (at r l a d (each g.qualifier (const-byte k)) q))
       → Verdict room Q (ending F k (parts ts) (at (code "E" ∷ r) l a d c q))
   ending-by k ts r l a d c q w h = closed-by _ _ _ _ _ _ _ _ (by-equal F _ _ (finish-is k ts r l a d c q) (give-by _ _ _ w h))
 
 -- ---------------------------------------------------------------- leading parts
 
-pub name-longer : (n r : Text) → length r < length (nameBytes n ++ r)
-name-longer n r = let k = first-long (digit 10) (lengthDigits n) (length-digit n) in simp length-append (omega arith)
+pub name-longer : (n r : Text) → length r < length (name-bytes n ++ r)
+name-longer n r = let k = first-long (digit 10) (length-digits n) (length-digit n) in simp length-append (omega arith)
 
 pub nothing : (e : List Text) → bytes-of [] ≤ bytes-of e
 unfolding bytes-of
@@ -277,16 +277,16 @@ SaysPre us vs t x r a d m c q =
     Verdict room Q (onto K (parts-loop n (parts []) (at x (texts us) a d c q)))
 
 pub pre-ref-says : (i : ℕ) (t : Ty) (us : List Ty) (r : Text) (a : List Text) (d : ℕ) (c : Text) (q : Bool) → getElem? us i ≡ some t
-    → SaysPre us us t (code "S" ∷ (refDigits i ++ (code "_" ∷ r))) r a d 0 c q
+    → SaysPre us us t (code "S" ∷ (ref-digits i ++ (code "_" ∷ r))) r a d 0 c q
 unfolding heads join digit digit-value if_then_else_
 pre-ref-says i t us r a d c q e B room Q K n l h w k =
-    let len : length r < length (refDigits i ++ (code "_" ∷ r)) = rw (length-append (refDigits i) (code "_" ∷ r)) (omega arith) in
+    let len : length r < length (ref-digits i ++ (code "_" ∷ r)) = rw (length-append (ref-digits i) (code "_" ∷ r)) (omega arith) in
     part-by K n (parts []) _ (omega arith) (goes-heads _ refl)
     (λ m j. ref-part _ i t us [] r a d c q e (λ p. w p .text)
     (k m (print t ∷ []) a c q (omega arith) (omega arith) refl (λ z. z) (kept-same us a d 0 (omega arith))))
 
-pub pre-root-says : (n : Text) (us : List Ty) (r : Text) (a : List Text) (d : ℕ) (c : Text) (q : Bool) → nameOk n ≡ true → starts r (b "B") ≡ false
-    → starts r (b "E") ≡ false → SaysPre us (push (root n) us) (root n) (nameBytes n ++ r) r a d 0 c q
+pub pre-root-says : (n : Text) (us : List Ty) (r : Text) (a : List Text) (d : ℕ) (c : Text) (q : Bool) → name-ok n ≡ true → starts r (b "B") ≡ false
+    → starts r (b "E") ≡ false → SaysPre us (push (root n) us) (root n) (name-bytes n ++ r) r a d 0 c q
 unfolding join print
 pre-root-says n us r a d c q o tag more B room Q K n' l h w k =
     let len = name-longer n r in
@@ -295,9 +295,9 @@ pre-root-says n us r a d c q o tag more B room Q K n' l h w k =
     (λ f. k m (n ∷ []) a c q (omega arith) (omega arith) refl (λ z. z)
     (kept-push (root n) us us a a d 0 d 0 refl refl (kept-same us a d 0 (omega arith)) (omega arith) f)))
 
-pub pre-sub-says : (n : Text) (t : Ty) (us vs : List Ty) (x r : Text) (a : List Text) (d m : ℕ) (c : Text) (q : Bool) → nameOk n ≡ true
+pub pre-sub-says : (n : Text) (t : Ty) (us vs : List Ty) (x r : Text) (a : List Text) (d m : ℕ) (c : Text) (q : Bool) → name-ok n ≡ true
     → starts r (b "B") ≡ false → starts r (b "E") ≡ false
-    → SaysPre us vs t x (nameBytes n ++ r) a d m c q → SaysPre us (push (sub t n) vs) (sub t n) x r a d m c q
+    → SaysPre us vs t x (name-bytes n ++ r) a d m c q → SaysPre us (push (sub t n) vs) (sub t n) x r a d m c q
 unfolding print
 pre-sub-says n t us vs x r a d m c q o tag more s B room Q K n' l h w k =
     let len = name-longer n r in
@@ -319,13 +319,13 @@ pub pre-app-says : (t : Ty) (xs : Args) (us vs ws : List Ty) (x y r : Text) (a :
     → SaysPre us (push (app t xs) ws) (app t xs) x r a d (max m (suc m')) c q
 unfolding print
 pre-app-says t xs us vs ws x y r a d m m' c q more len gr s h B room Q K n l o' w k =
-    let part : length (print t) ≤ length (print t ++ listText xs) = rw (length-append (print t) (listText xs)) (omega arith) in
-    let part' : length (listText xs) ≤ length (print t ++ listText xs) = rw (length-append (print t) (listText xs)) (omega arith) in
+    let part : length (print t) ≤ length (print t ++ list-text xs) = rw (length-append (print t) (list-text xs)) (omega arith) in
+    let part' : length (list-text xs) ≤ length (print t ++ list-text xs) = rw (length-append (print t) (list-text xs)) (omega arith) in
     s B room Q K n l o' (λ p. room-part _ _ _ _ _ _ _ _ _ _ (w p) (grown-trans vs ws _ gr (grown-push (app t xs) ws)) (omega arith) part)
     (λ n1 ts e c' z l1 l2 j f g.
-    let j' : join (b "::") (onto-last (listText xs) ts) ≡ print t ++ listText xs = join-onto-last (b "::") (listText xs) ts l2 ∙ ap
-    (λ v. v ++ listText xs) j in
-    let same-parts = length-onto-last (listText xs) ts in
+    let j' : join (b "::") (onto-last (list-text xs) ts) ≡ print t ++ list-text xs = join-onto-last (b "::") (list-text xs) ts l2 ∙ ap
+    (λ v. v ++ list-text xs) j in
+    let same-parts = length-onto-last (list-text xs) ts in
     part-by K n1 (parts ts) _ (omega arith) (goes-I y)
     (λ n2 i. list-part _ xs (app t xs) vs ws ts y r e d m' c' z l2 j' (h c' z)
     (λ p. room-list t xs us vs ws a e [] d (max m (suc m')) _ d m d (suc m') (w p) g (omega arith) (nothing e) (grown-push (app t xs) ws)
@@ -334,5 +334,5 @@ pre-app-says t xs us vs ws x y r a d m m' c q more len gr s h B room Q K n l o' 
     (λ u c'' o fit.
     let dp = g .deep in
     let dp' = o .deep in
-    k n2 (onto-last (listText xs) ts) u c'' (starts r (b "E")) (omega arith) (omega arith) j' (λ _. more)
+    k n2 (onto-last (list-text xs) ts) u c'' (starts r (b "E")) (omega arith) (omega arith) j' (λ _. more)
     (kept-app t xs us vs ws a e [] u d m d (suc m') d (max m (suc m')) g (omega arith) (nothing e) o (omega arith) fit))))

@@ -23,7 +23,7 @@ use Rattle.catalogue.specs.Tree.{
   Ty,
   Args,
   Enc,
-  wP,
+  w-p,
   wR,
   wO,
   wK,
@@ -47,16 +47,16 @@ use Rattle.catalogue.specs.Tree.{
   sign,
   literal,
   closes,
-  lastCloses,
+  last-closes,
   shut,
   print,
-  printArgs,
-  isVoid,
+  print-args,
+  is-void,
   inside,
   tail,
-  printEnc,
+  print-enc,
 }
-use Rattle.catalogue.specs.Class.{nameOk, wordByte, listed, reserved, numeral, leadingZero, litOk}
+use Rattle.catalogue.specs.Class.{name-ok, word-byte, listed, reserved, numeral, leading-zero, lit-ok}
 use Rattle.catalogue.specs.Numbers.{digit-36}
 use Rattle.agreement.specs.Letters.{every-letter}
 use Rattle.agreement.specs.Heads.{name-long}
@@ -105,7 +105,7 @@ unfolding items
 items-some (one t) = omega arith
 items-some (also t xs) = omega arith
 
-pub join-items : (xs : Args) → join (b ", ") (items xs) ≡ printArgs xs
+pub join-items : (xs : Args) → join (b ", ") (items xs) ≡ print-args xs
 unfolding items join print
 join-items (one t) = refl
 join-items (also t xs) = join-cons (b ", ") (print t) (items xs) (items-some xs) ∙ rw (join-items xs) refl
@@ -142,16 +142,16 @@ unlike p c e x h = go (eqb c x) refl
 abbrev free : ℕ → Bool
 free x = not (eqb slot x)
 
-pub name-words : (n : Text) → nameOk n ≡ true → all wordByte n ≡ true
-unfolding nameOk
+pub name-words : (n : Text) → name-ok n ≡ true → all word-byte n ≡ true
+unfolding name-ok
 name-words [] h = refl
 name-words (x ∷ n) h =
-    and-left (all wordByte (x ∷ n)) (not (listed (x ∷ n) reserved))
-    (and-right (not (digit 10 x)) (all wordByte (x ∷ n) && not (listed (x ∷ n) reserved)) h)
+    and-left (all word-byte (x ∷ n)) (not (listed (x ∷ n) reserved))
+    (and-right (not (digit 10 x)) (all word-byte (x ∷ n) && not (listed (x ∷ n) reserved)) h)
 
-word-free : (x : ℕ) → wordByte x ≡ true → free x ≡ true
-unfolding wordByte digit digit-value if_then_else_
-word-free = unlike wordByte slot refl
+word-free : (x : ℕ) → word-byte x ≡ true → free x ≡ true
+unfolding word-byte digit digit-value if_then_else_
+word-free = unlike word-byte slot refl
 
 digit-free : (x : ℕ) → digit 10 x ≡ true → free x ≡ true
 unfolding digit digit-value if_then_else_
@@ -164,7 +164,7 @@ letter-free l = every-letter (λ x. all free
 
 suffix-free : (c : Wrap) → all free (suffix c) ≡ true
 unfolding b
-suffix-free wP = refl
+suffix-free w-p = refl
 suffix-free wR = refl
 suffix-free wO = refl
 suffix-free wK = refl
@@ -173,15 +173,15 @@ suffix-free wV = refl
 numeral-digits : (v : Text) → numeral v ≡ true → all (digit 10) v ≡ true
 unfolding numeral
 numeral-digits v h =
-    and-left (all (digit 10) v) (not (leadingZero v)) (and-right (first (digit 10) v) (all (digit 10) v && not (leadingZero v)) h)
+    and-left (all (digit 10) v) (not (leading-zero v)) (and-right (first (digit 10) v) (all (digit 10) v && not (leading-zero v)) h)
 
 numeral-some : (v : Text) → numeral v ≡ true → first (digit 10) v ≡ true
 unfolding numeral
-numeral-some v h = and-left (first (digit 10) v) (all (digit 10) v && not (leadingZero v)) h
+numeral-some v h = and-left (first (digit 10) v) (all (digit 10) v && not (leading-zero v)) h
 
 -- the digits of a number's literal
-pub lit-numeral : (k : Kind) (g : Bool) (v : Text) → litOk k g v ≡ true → all (digit 10) v ≡ true
-unfolding litOk same b digit digit-value if_then_else_
+pub lit-numeral : (k : Kind) (g : Bool) (v : Text) → lit-ok k g v ≡ true → all (digit 10) v ≡ true
+unfolding lit-ok same b digit digit-value if_then_else_
 lit-numeral kb g v h = go v (and-right (not g) (same v (b "0") || same v (b "1")) h)
   where
     go : (v : Text) → same v (b "0") || same v (b "1") ≡ true → all (digit 10) v ≡ true
@@ -205,7 +205,7 @@ unfolding b if_then_else_
 truth-free true = refl
 truth-free false = refl
 
-lit-free : (k : Kind) (g : Bool) (v : Text) → litOk k g v ≡ true → all free (literal k g v) ≡ true
+lit-free : (k : Kind) (g : Bool) (v : Text) → lit-ok k g v ≡ true → all free (literal k g v) ≡ true
 unfolding b
 lit-free kb g v h = truth-free (same v (b "1"))
 lit-free ki g v h = signed-free g v [] (lit-numeral ki g v h) refl
@@ -218,8 +218,8 @@ unfolding b
 shut-free true = refl
 shut-free false = refl
 
-name-free : (n : Text) → nameOk n ≡ true → all free n ≡ true
-name-free n h = all-map wordByte free word-free n (name-words n h)
+name-free : (n : Text) → name-ok n ≡ true → all free n ≡ true
+name-free n h = all-map word-byte free word-free n (name-words n h)
 
 mutual
   unfolding print b
@@ -230,13 +230,13 @@ mutual
   free-print (root n) f = name-free n f
   free-print (sub t n) f = all-both free (print t) (b "::" ++ n) (free-print t (f .0)) (name-free n (f .2))
   free-print (app t xs) f =
-      all-both free (print t) (b "<" ++ (printArgs xs ++ shut (lastCloses xs))) (free-print t (f .0))
-      (all-both free (printArgs xs) (shut (lastCloses xs)) (free-args xs (f .2)) (shut-free (lastCloses xs)))
+      all-both free (print t) (b "<" ++ (print-args xs ++ shut (last-closes xs))) (free-print t (f .0))
+      (all-both free (print-args xs) (shut (last-closes xs)) (free-args xs (f .2)) (shut-free (last-closes xs)))
   free-print (lit k g v) f = lit-free k g v f
 
-  free-args : (xs : Args) → WfArgs xs → all free (printArgs xs) ≡ true
+  free-args : (xs : Args) → WfArgs xs → all free (print-args xs) ≡ true
   free-args (one t) f = free-print t f
-  free-args (also t xs) f = all-both free (print t) (b ", " ++ printArgs xs) (free-print t (f .0)) (free-args xs (f .1))
+  free-args (also t xs) f = all-both free (print t) (b ", " ++ print-args xs) (free-print t (f .0)) (free-args xs (f .1))
 
 free-holds : (t : Text) → all free t ≡ true → holds slot t ≡ false
 unfolding holds
@@ -260,12 +260,12 @@ inside-free : (z : Bool) (xs : Args) → WfArgs xs → all free (inside z xs) �
 inside-free true xs f = refl
 inside-free false xs f = free-args xs f
 
-enc-free : (e : Enc) → WfEnc e → all free (printEnc e) ≡ true
-unfolding printEnc b
+enc-free : (e : Enc) → WfEnc e → all free (print-enc e) ≡ true
+unfolding print-enc b
 enc-free (enc c t none) f = all-both free (print t) (tail c) (name-free-enc c t (f .0)) (tail-free c)
 enc-free (enc c t (some xs)) f =
-    all-both free (print t) (b "(" ++ (inside (isVoid xs) xs ++ (b ")" ++ tail c))) (name-free-enc c t (f .0))
-    (all-both free (inside (isVoid xs) xs) (b ")" ++ tail c) (inside-free (isVoid xs) xs (f .1 .0)) (tail-free c))
+    all-both free (print t) (b "(" ++ (inside (is-void xs) xs ++ (b ")" ++ tail c))) (name-free-enc c t (f .0))
+    (all-both free (inside (is-void xs) xs) (b ")" ++ tail c) (inside-free (is-void xs) xs (f .1 .0)) (tail-free c))
 
 no-slots : (t : Text) → all free t ≡ true → without-slots t ≡ t
 unfolding without-slots each if_then_else_
@@ -277,8 +277,8 @@ no-slots (x ∷ t) h =
     not-slot x e = ne-eqb x slot (λ i. eqb-false slot x (not-true (eqb slot x) e) (sym i))
 
 -- what is printed for a symbol is its tree's name
-pub printed-clean : (e : Enc) → WfEnc e → without-slots (printEnc e) ≡ printEnc e
-printed-clean e f = no-slots (printEnc e) (enc-free e f)
+pub printed-clean : (e : Enc) → WfEnc e → without-slots (print-enc e) ≡ print-enc e
+printed-clean e f = no-slots (print-enc e) (enc-free e f)
 
 -- ---------------------------------------------------------------- where a text ends in >
 
@@ -305,9 +305,9 @@ ends-pass p c e (x ∷ y ∷ t) h = ends-pass p c e (y ∷ t) (and-right (p x) (
 abbrev angle : ℕ
 angle = code ">"
 
-ends-word : (n : Text) → nameOk n ≡ true → ends angle n ≡ false
-unfolding wordByte digit digit-value if_then_else_
-ends-word n h = ends-pass wordByte angle refl n (name-words n h)
+ends-word : (n : Text) → name-ok n ≡ true → ends angle n ≡ false
+unfolding word-byte digit digit-value if_then_else_
+ends-word n h = ends-pass word-byte angle refl n (name-words n h)
 
 ends-letter : (l : Letter) → ends angle (word l) ≡ false
 unfolding ends word word-for letters choose same b if_then_else_
@@ -316,7 +316,7 @@ ends-letter l = every-letter (λ x. ends angle
 
 suffix-ends : (c : Wrap) (x : Text) → ends angle (x ++ suffix c) ≡ false
 unfolding ends b
-suffix-ends wP x = ends-append angle x (suffix wP) (omega arith)
+suffix-ends w-p x = ends-append angle x (suffix w-p) (omega arith)
 suffix-ends wR x = ends-append angle x (suffix wR) (omega arith)
 suffix-ends wO x = ends-append angle x (suffix wO) (omega arith)
 suffix-ends wK x = ends-append angle x (suffix wK) (omega arith)
@@ -336,19 +336,19 @@ unfolding ends b if_then_else_
 truth-ends true = refl
 truth-ends false = refl
 
-signed-ends : (g : Bool) (v m : Text) → first (digit 10) v ≡ true → all (digit 10) v ≡ true → all wordByte m ≡ true
+signed-ends : (g : Bool) (v m : Text) → first (digit 10) v ≡ true → all (digit 10) v ≡ true → all word-byte m ≡ true
     → ends angle (sign g ++ (v ++ m)) ≡ false
-unfolding wordByte digit digit-value if_then_else_
+unfolding word-byte digit digit-value if_then_else_
 signed-ends g v m h k e =
     let l = first-long (digit 10) v h in
-    let w : all wordByte (v ++ m) ≡ true = all-both wordByte v m (all-map (digit 10) wordByte digit-word v k) e in
-    ends-append angle (sign g) (v ++ m) (simp length-append (omega arith)) ∙ ends-pass wordByte angle refl (v ++ m) w
+    let w : all word-byte (v ++ m) ≡ true = all-both word-byte v m (all-map (digit 10) word-byte digit-word v k) e in
+    ends-append angle (sign g) (v ++ m) (simp length-append (omega arith)) ∙ ends-pass word-byte angle refl (v ++ m) w
   where
-    digit-word : (x : ℕ) → digit 10 x ≡ true → wordByte x ≡ true
+    digit-word : (x : ℕ) → digit 10 x ≡ true → word-byte x ≡ true
     digit-word x j = rw (digit-36 x j) refl
 
-lit-ends : (k : Kind) (g : Bool) (v : Text) → litOk k g v ≡ true → ends angle (literal k g v) ≡ false
-unfolding litOk wordByte digit digit-value b if_then_else_
+lit-ends : (k : Kind) (g : Bool) (v : Text) → lit-ok k g v ≡ true → ends angle (literal k g v) ≡ false
+unfolding lit-ok word-byte digit digit-value b if_then_else_
 lit-ends kb g v h = truth-ends (same v (b "1"))
 lit-ends ki g v h = signed-ends g v [] (numeral-some v (and-left (numeral v) (not (g && same v (b "0"))) h)) (lit-numeral ki g v h) refl
 lit-ends kj g v h = signed-ends g v (b "u") (numeral-some v (and-right (not g) (numeral v) h)) (lit-numeral kj g v h) refl
@@ -364,9 +364,9 @@ print-ends (sub t n) f =
     let k = name-long n (f .2) in
     ap (ends angle) (sym (append-assoc (print t) (b "::") n)) ∙ ends-append angle (print t ++ b "::") n k ∙ ends-word n (f .2)
 print-ends (app t xs) f =
-    ap (ends angle) (sym (append-assoc (print t) (b "<") (printArgs xs ++ shut (lastCloses xs))) ∙ sym (append-assoc (print t ++ b "<")
-    (printArgs xs) (shut (lastCloses xs))))
-    ∙ shut-ends (lastCloses xs) ((print t ++ b "<") ++ printArgs xs)
+    ap (ends angle) (sym (append-assoc (print t) (b "<") (print-args xs ++ shut (last-closes xs))) ∙ sym (append-assoc (print t ++ b "<")
+    (print-args xs) (shut (last-closes xs))))
+    ∙ shut-ends (last-closes xs) ((print t ++ b "<") ++ print-args xs)
 print-ends (lit k g v) f = lit-ends k g v f
 
 word-long : (l : Letter) → 1 ≤ length (word l)
@@ -383,8 +383,8 @@ unfolding b if_then_else_
 truth-long true = omega arith
 truth-long false = omega arith
 
-lit-long : (k : Kind) (g : Bool) (v : Text) → litOk k g v ≡ true → 1 ≤ length (literal k g v)
-unfolding litOk
+lit-long : (k : Kind) (g : Bool) (v : Text) → lit-ok k g v ≡ true → 1 ≤ length (literal k g v)
+unfolding lit-ok
 lit-long kb g v h = truth-long (same v (b "1"))
 lit-long ki g v h = signed-long g v [] (numeral-some v (and-left (numeral v) (not (g && same v (b "0"))) h))
 lit-long kj g v h = signed-long g v (b "u") (numeral-some v (and-right (not g) (numeral v) h))
@@ -400,29 +400,29 @@ print-long (sub t n) f = simp length-append (omega arith)
 print-long (app t xs) f = simp length-append (omega arith)
 print-long (lit k g v) f = lit-long k g v f
 
-args-long : (xs : Args) → WfArgs xs → 1 ≤ length (printArgs xs)
+args-long : (xs : Args) → WfArgs xs → 1 ≤ length (print-args xs)
 unfolding print b
 args-long (one t) f = print-long t f
 args-long (also t xs) f = simp length-append (omega arith)
 
-args-ends : (xs : Args) → WfArgs xs → ends angle (printArgs xs) ≡ lastCloses xs
+args-ends : (xs : Args) → WfArgs xs → ends angle (print-args xs) ≡ last-closes xs
 unfolding print b
 args-ends (one t) f = print-ends t f
 args-ends (also t xs) f =
-    ap (ends angle) (sym (append-assoc (print t) (b ", ") (printArgs xs)))
-    ∙ ends-append angle (print t ++ b ", ") (printArgs xs) (args-long xs (f .1)) ∙ args-ends xs (f .1)
+    ap (ends angle) (sym (append-assoc (print t) (b ", ") (print-args xs)))
+    ∙ ends-append angle (print t ++ b ", ") (print-args xs) (args-long xs (f .1)) ∙ args-ends xs (f .1)
 
 -- < .. >, as it stands behind a part
-abbrev pub listText : Args → Text
-listText xs = b "<" ++ (printArgs xs ++ shut (lastCloses xs))
+abbrev pub list-text : Args → Text
+list-text xs = b "<" ++ (print-args xs ++ shut (last-closes xs))
 
 shut-is : (z : Bool) → (if z then b " >" else b ">") ≡ shut z
 unfolding if_then_else_
 shut-is true = refl
 shut-is false = refl
 
-pub angled-items : (xs : Args) → WfArgs xs → angled (items xs) ≡ listText xs
+pub angled-items : (xs : Args) → WfArgs xs → angled (items xs) ≡ list-text xs
 unfolding angled
 angled-items xs f =
-    let e : ends angle (b "<" ++ printArgs xs) ≡ lastCloses xs = ends-append angle (b "<") (printArgs xs) (args-long xs f) ∙ args-ends xs f in
-    rw (join-items xs, e, shut-is (lastCloses xs)) (append-assoc (b "<") (printArgs xs) (shut (lastCloses xs)))
+    let e : ends angle (b "<" ++ print-args xs) ≡ last-closes xs = ends-append angle (b "<") (print-args xs) (args-long xs f) ∙ args-ends xs f in
+    rw (join-items xs, e, shut-is (last-closes xs)) (append-assoc (b "<") (print-args xs) (shut (last-closes xs)))

@@ -9,17 +9,17 @@ use Rattle.grammar.specs.Text.{Text, if_then_else_, choose, same}
 use Rattle.grammar.specs.Reader.{State, Reader, onto, return, push-sub, recorded, bytes-of, most-open, most-text-bytes}
 use Rattle.grammar.specs.Grammar.{last}
 use Rattle.catalogue.specs.Bytes.{same-eq, same-yes}
-use Rattle.catalogue.specs.Tree.{Ty, Args, app, print, sameTy, sameTy-eq, sameTy-yes}
-use Rattle.catalogue.specs.Class.{push, lastIs, pushNew}
+use Rattle.catalogue.specs.Tree.{Ty, Args, app, print, same-ty, same-ty-eq, same-ty-yes}
+use Rattle.catalogue.specs.Class.{push, last-is, push-new}
 use Rattle.catalogue.specs.NoDoubles.{sum}
-use Rattle.catalogue.specs.NormalForm.{argBytes, nbytes}
+use Rattle.catalogue.specs.NormalForm.{arg-bytes, nbytes}
 use Rattle.catalogue.specs.WellFormed.{Wf, AllWf}
 use Rattle.catalogue.specs.Words.{lex}
 use Rattle.catalogue.specs.NameReader.{walk, want, have}
 use Rattle.catalogue.specs.Back.{back}
-use Rattle.catalogue.specs.Count.{sum-push, nargs, numberOf}
+use Rattle.catalogue.specs.Count.{sum-push, nargs, number-of}
 use Rattle.agreement.specs.Verdict.{at, Verdict, reads, Gives, gives, push-sub-by, recorded-end}
-use Rattle.agreement.specs.Printed.{listText}
+use Rattle.agreement.specs.Printed.{list-text}
 use Rattle.agreement.specs.Rooms.{
   texts,
   texts-push,
@@ -63,25 +63,25 @@ print-alike t u f g h =
     let z : have t [] ≡ have u [] = sym x ∙ ap (λ s. walk (lex (s ++ [])) (want [])) h ∙ y in
     cc
 
-pub same-trees : (t u : Ty) → Wf t → Wf u → same (print t) (print u) ≡ sameTy t u
-same-trees t u f g = go (same (print t) (print u)) refl (sameTy t u) refl
+pub same-trees : (t u : Ty) → Wf t → Wf u → same (print t) (print u) ≡ same-ty t u
+same-trees t u f g = go (same (print t) (print u)) refl (same-ty t u) refl
   where
-    go : (p : Bool) → same (print t) (print u) ≡ p → (q : Bool) → sameTy t u ≡ q → p ≡ q
+    go : (p : Bool) → same (print t) (print u) ≡ p → (q : Bool) → same-ty t u ≡ q → p ≡ q
     go true e true k = refl
     go false e false k = refl
-    go true e false k = sym (sameTy-yes u) ∙ (rw (print-alike t u f g (same-eq (print t) (print u) e)) at k)
-    go false e true k = sym (rw (sameTy-eq t u k) at e) ∙ same-yes (print u)
+    go true e false k = sym (same-ty-yes u) ∙ (rw (print-alike t u f g (same-eq (print t) (print u) e)) at k)
+    go false e true k = sym (rw (same-ty-eq t u k) at e) ∙ same-yes (print u)
 
-newest : (t : Ty) (us : List Ty) → Wf t → AllWf us → choose (last (texts us)) (same (print t)) false ≡ lastIs t us
-unfolding last lastIs texts choose
+newest : (t : Ty) (us : List Ty) → Wf t → AllWf us → choose (last (texts us)) (same (print t)) false ≡ last-is t us
+unfolding last last-is texts choose
 newest t [] f h = refl
 newest t (u ∷ []) f h = same-trees t u f (h .0)
 newest t (u ∷ v ∷ us) f h = newest t (v ∷ us) f (h .1)
 
-last-push : (t : Ty) (us : List Ty) → lastIs t (push t us) ≡ true
-unfolding lastIs
-last-push t [] = sameTy-yes t
-last-push t (u ∷ []) = sameTy-yes t
+last-push : (t : Ty) (us : List Ty) → last-is t (push t us) ≡ true
+unfolding last-is
+last-push t [] = same-ty-yes t
+last-push t (u ∷ []) = same-ty-yes t
 last-push t (u ∷ v ∷ us) = last-push t (v ∷ us)
 
 module _ {room : Type 0} {K : List Text → Type 0} where
@@ -96,12 +96,12 @@ module _ {room : Type 0} {K : List Text → Type 0} where
 module _ {room : Type 0} {K : List Text → Type 0} where
   -- a nested type is entered unless the newest entry is the same
   pub new-entry-end :
-      (t : Ty) (us : List Ty) (r : Text) (a : List Text) (d : ℕ) (c : Text) (q : Bool) → Wf t → AllWf us → (room → Fits (pushNew t us)) →
-      (room → bytes t ≤ most-text-bytes) → ((Fits us → Fits (pushNew t us)) → K a) →
-      Verdict room (Gives (print t) r (texts (pushNew t us)) d K)
+      (t : Ty) (us : List Ty) (r : Text) (a : List Text) (d : ℕ) (c : Text) (q : Bool) → Wf t → AllWf us → (room → Fits (push-new t us)) →
+      (room → bytes t ≤ most-text-bytes) → ((Fits us → Fits (push-new t us)) → K a) →
+      Verdict room (Gives (print t) r (texts (push-new t us)) d K)
       ((if choose (last (texts us)) (same (print t)) false then return (print t) else recorded (print t)) (at r (texts us) a d c q))
-  unfolding pushNew if_then_else_
-  new-entry-end t us r a d c q f g w v h = rw (newest t us f g) (go (lastIs t us) w h)
+  unfolding push-new if_then_else_
+  new-entry-end t us r a d c q f g w v h = rw (newest t us f g) (go (last-is t us) w h)
     where
       go : (p : Bool) → (room → Fits (if p then us else push t us)) → ((Fits us → Fits (if p then us else push t us)) → K a) →
           Verdict room (Gives (print t) r (texts (if p then us else push t us)) d K)
@@ -132,7 +132,7 @@ kept-new us vs ws a e d m d' m' n s k h f = record { deep = h; table = λ z. f (
 pub kept-app :
     (t : Ty) (xs : Args) (us vs ws : List Ty) (a e f g : List Text) (d p d' m d'' m' : ℕ) → Kept us vs a d p 0 0 e → length f ≤ length e
     → bytes-of f ≤ bytes-of e →
-    Kept vs ws f d' m (numberOf xs) (argBytes xs) g → d'' + m' ≤ most-open → Fits (push (app t xs) ws) → Kept us (push (app t xs) ws) a d'' m' 0 0 g
+    Kept vs ws f d' m (number-of xs) (arg-bytes xs) g → d'' + m' ≤ most-open → Fits (push (app t xs) ws) → Kept us (push (app t xs) ws) a d'' m' 0 0 g
 kept-app t xs us vs ws a e f g d p d' m d'' m' k l s j h i =
     let x = sum-push nargs (app t xs) ws in
     let y = sum-push nbytes (app t xs) ws in
@@ -153,8 +153,8 @@ room-part us vs ws a d m d' m' len len' r g h l =
 pub room-list :
     (t : Ty) (xs : Args) (us vs ws : List Ty) (a e f : List Text) (d m len dd p d' m' : ℕ) → Room us (push (app t xs) ws) a d m len 0 0 →
     Kept us vs a dd p 0 0 e → length f ≤ length e → bytes-of f ≤ bytes-of e → Grown ws (push (app t xs) ws) → d' + m' ≤ d + m
-    → length (listText xs) ≤ len →
-    Room vs ws f d' m' (length (listText xs)) (numberOf xs) (argBytes xs)
+    → length (list-text xs) ≤ len →
+    Room vs ws f d' m' (length (list-text xs)) (number-of xs) (arg-bytes xs)
 room-list t xs us vs ws a e f d m len dd p d' m' r k l s g h i =
     let x = sum-push nargs (app t xs) ws in
     let y = sum-push nbytes (app t xs) ws in

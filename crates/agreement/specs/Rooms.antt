@@ -11,28 +11,28 @@ use borrow.Author.Tests.{le-leb, leb-true}
 use Rattle.grammar.specs.Text.{Text, if_then_else_}
 use Rattle.grammar.specs.Reader.{fits, bytes-of, most-open, most-entries, most-entry-bytes, most-text-bytes}
 use Rattle.catalogue.specs.Bytes.{and-left, and-right, and-both}
-use Rattle.catalogue.specs.Tree.{Ty, Args, wrap, root, sub, app, print, isBare, isClass, single}
+use Rattle.catalogue.specs.Tree.{Ty, Args, wrap, root, sub, app, print, is-bare, is-class, single}
 use Rattle.catalogue.specs.Spelling.{
   Sp,
   Pre,
   SpArgs,
-  sLetter,
-  sWrap,
-  sRef,
+  s-letter,
+  s-wrap,
+  s-ref,
   plain,
   templ,
   retempl,
-  nestSub,
-  nestApp,
-  sLit,
-  pRef,
-  pRoot,
-  pSub,
-  pApp,
-  sOne,
-  sAlso,
+  nest-sub,
+  nest-app,
+  s-lit,
+  p-ref,
+  p-root,
+  p-sub,
+  p-app,
+  s-one,
+  s-also,
 }
-use Rattle.catalogue.specs.Class.{nameOk, litOk, stands, push, lastIs, pushNew, Res, ok, andThen, entry, resolve, resolvePre, resolveArgs}
+use Rattle.catalogue.specs.Class.{name-ok, lit-ok, stands, push, last-is, push-new, Res, ok, and-then, entry, resolve, resolve-pre, resolve-args}
 use Rattle.catalogue.specs.WellFormed.{Post, post-ok, post-then, post-if}
 use Rattle.catalogue.specs.Count.{nargs}
 use Rattle.catalogue.specs.NoDoubles.{sum}
@@ -120,9 +120,9 @@ grown-refl us = ([], sym (append-nil us))
 pub grown-push : (t : Ty) (us : List Ty) → Grown us (push t us)
 grown-push t us = (t ∷ [], refl)
 
-pub grown-pushNew : (t : Ty) (us : List Ty) → Grown us (pushNew t us)
-unfolding pushNew if_then_else_
-grown-pushNew t us = go (lastIs t us)
+pub grown-push-new : (t : Ty) (us : List Ty) → Grown us (push-new t us)
+unfolding push-new if_then_else_
+grown-push-new t us = go (last-is t us)
   where
     go : (p : Bool) → Grown us (if p then us else push t us)
     go true = grown-refl us
@@ -154,7 +154,7 @@ entry-grows none us = tt
 entry-grows (some t) us = grown-refl us
 
 app-grows : (t : Ty) (us vs : List Ty) (r : Res Args) → Grown us vs → Post r (Grows vs)
-    → Post (andThen r (λ xs ws. ok (app t xs) (push (app t xs) ws))) (Grows us)
+    → Post (and-then r (λ xs ws. ok (app t xs) (push (app t xs) ws))) (Grows us)
 app-grows t us vs r h k =
     post-then (Grows vs) (Grows us) r _ k
     (λ xs ws g. post-ok _ _ (Grows us) (grown-trans us ws _ (grown-trans us vs ws h g) (grown-push (app t xs) ws)))
@@ -163,42 +163,42 @@ mutual
   unfolding resolve
 
   pub grows : (s : Sp) (us : List Ty) → Post (resolve s us) (Grows us)
-  grows (sLetter l) us = post-ok _ _ (Grows us) (grown-refl us)
-  grows (sWrap c s) us =
+  grows (s-letter l) us = post-ok _ _ (Grows us) (grown-refl us)
+  grows (s-wrap c s) us =
       post-then (Grows us) (Grows us) (resolve s us) _ (grows s us)
       (λ t vs h. post-if (Grows us) (stands c t) _ (λ e. post-ok _ _ (Grows us) (grown-trans us vs _ h (grown-push (wrap c t) vs))))
-  grows (sRef i) us = entry-grows (getElem? us i) us
-  grows (plain n) us = post-if (Grows us) (nameOk n) _ (λ e. post-ok _ _ (Grows us) (grown-push (root n) us))
+  grows (s-ref i) us = entry-grows (getElem? us i) us
+  grows (plain n) us = post-if (Grows us) (name-ok n) _ (λ e. post-ok _ _ (Grows us) (grown-push (root n) us))
   grows (templ n ss) us =
-      post-if (Grows us) (nameOk n) _ (λ e. app-grows (root n) us (push (root n) us) _ (grown-push (root n) us) (growsArgs ss (push (root n) us)))
+      post-if (Grows us) (name-ok n) _ (λ e. app-grows (root n) us (push (root n) us) _ (grown-push (root n) us) (grows-args ss (push (root n) us)))
   grows (retempl i ss) us =
       post-then (Grows us) (Grows us) (entry (getElem? us i) us) _ (entry-grows (getElem? us i) us)
-      (λ t vs h. post-if (Grows us) (single t && isBare t) _ (λ e. app-grows t us vs _ h (growsArgs ss vs)))
-  grows (nestSub q n) us =
-      post-then (Grows us) (Grows us) (resolvePre q us) _ (growsPre q us)
-      (λ t vs h. post-if (Grows us) (nameOk n) _ (λ e. post-ok _ _ (Grows us) (grown-trans us vs _ h (grown-pushNew (sub t n) vs))))
-  grows (nestApp q ss) us =
-      post-then (Grows us) (Grows us) (resolvePre q us) _ (growsPre q us)
-      (λ t vs h. post-if (Grows us) (not (single t) && isBare t) _ (λ e. app-grows t us vs _ h (growsArgs ss vs)))
-  grows (sLit k g v) us = post-if (Grows us) (litOk k g v) _ (λ e. post-ok _ _ (Grows us) (grown-refl us))
+      (λ t vs h. post-if (Grows us) (single t && is-bare t) _ (λ e. app-grows t us vs _ h (grows-args ss vs)))
+  grows (nest-sub q n) us =
+      post-then (Grows us) (Grows us) (resolve-pre q us) _ (grows-pre q us)
+      (λ t vs h. post-if (Grows us) (name-ok n) _ (λ e. post-ok _ _ (Grows us) (grown-trans us vs _ h (grown-push-new (sub t n) vs))))
+  grows (nest-app q ss) us =
+      post-then (Grows us) (Grows us) (resolve-pre q us) _ (grows-pre q us)
+      (λ t vs h. post-if (Grows us) (not (single t) && is-bare t) _ (λ e. app-grows t us vs _ h (grows-args ss vs)))
+  grows (s-lit k g v) us = post-if (Grows us) (lit-ok k g v) _ (λ e. post-ok _ _ (Grows us) (grown-refl us))
 
-  pub growsPre : (q : Pre) (us : List Ty) → Post (resolvePre q us) (Grows us)
-  growsPre (pRef i) us =
+  pub grows-pre : (q : Pre) (us : List Ty) → Post (resolve-pre q us) (Grows us)
+  grows-pre (p-ref i) us =
       post-then (Grows us) (Grows us) (entry (getElem? us i) us) _ (entry-grows (getElem? us i) us)
-      (λ t vs h. post-if (Grows us) (isClass t) _ (λ e. post-ok _ _ (Grows us) h))
-  growsPre (pRoot n) us = post-if (Grows us) (nameOk n) _ (λ e. post-ok _ _ (Grows us) (grown-push (root n) us))
-  growsPre (pSub q n) us =
-      post-then (Grows us) (Grows us) (resolvePre q us) _ (growsPre q us)
-      (λ t vs h. post-if (Grows us) (nameOk n) _ (λ e. post-ok _ _ (Grows us) (grown-trans us vs _ h (grown-push (sub t n) vs))))
-  growsPre (pApp q ss) us =
-      post-then (Grows us) (Grows us) (resolvePre q us) _ (growsPre q us)
-      (λ t vs h. post-if (Grows us) (isBare t) _ (λ e. app-grows t us vs _ h (growsArgs ss vs)))
+      (λ t vs h. post-if (Grows us) (is-class t) _ (λ e. post-ok _ _ (Grows us) h))
+  grows-pre (p-root n) us = post-if (Grows us) (name-ok n) _ (λ e. post-ok _ _ (Grows us) (grown-push (root n) us))
+  grows-pre (p-sub q n) us =
+      post-then (Grows us) (Grows us) (resolve-pre q us) _ (grows-pre q us)
+      (λ t vs h. post-if (Grows us) (name-ok n) _ (λ e. post-ok _ _ (Grows us) (grown-trans us vs _ h (grown-push (sub t n) vs))))
+  grows-pre (p-app q ss) us =
+      post-then (Grows us) (Grows us) (resolve-pre q us) _ (grows-pre q us)
+      (λ t vs h. post-if (Grows us) (is-bare t) _ (λ e. app-grows t us vs _ h (grows-args ss vs)))
 
-  pub growsArgs : (ss : SpArgs) (us : List Ty) → Post (resolveArgs ss us) (Grows us)
-  growsArgs (sOne s) us = post-then (Grows us) (Grows us) (resolve s us) _ (grows s us) (λ t vs h. post-ok _ _ (Grows us) h)
-  growsArgs (sAlso s ss) us =
+  pub grows-args : (ss : SpArgs) (us : List Ty) → Post (resolve-args ss us) (Grows us)
+  grows-args (s-one s) us = post-then (Grows us) (Grows us) (resolve s us) _ (grows s us) (λ t vs h. post-ok _ _ (Grows us) h)
+  grows-args (s-also s ss) us =
       post-then (Grows us) (Grows us) (resolve s us) _ (grows s us)
-      (λ t vs h. post-then (Grows vs) (Grows us) (resolveArgs ss vs) _ (growsArgs ss vs)
+      (λ t vs h. post-then (Grows vs) (Grows us) (resolve-args ss vs) _ (grows-args ss vs)
       (λ xs ws k. post-ok _ _ (Grows us) (grown-trans us vs ws h k)))
 
 -- ---------------------------------------------------------------- room, and what is kept of it

@@ -40,13 +40,13 @@ use Rattle.catalogue.specs.Tree.{
   le,
   lg,
   lz,
-  wP,
+  w-p,
   wR,
   wO,
   wK,
   wV,
-  letterCode,
-  wrapCode,
+  letter-code,
+  wrap-code,
   word,
   suffix,
 }
@@ -56,7 +56,7 @@ use Rattle.agreement.specs.Heads.{opens, no-structor, first-map}
 
 -- ---------------------------------------------------------------- the 21 letters and the five wrappers
 
-pub letter-find : (l : Letter) (r : Text) → (w : String) × (find letters (letterCode l ∷ r) ≡ some (w, r)) × (b w ≡ word l)
+pub letter-find : (l : Letter) (r : Text) → (w : String) × (find letters (letter-code l ∷ r) ≡ some (w, r)) × (b w ≡ word l)
 unfolding find letters starts b if_then_else_ word word-for choose same
 letter-find lv r = ("void", refl, refl)
 letter-find lw r = ("wchar_t", refl, refl)
@@ -80,17 +80,17 @@ letter-find le r = ("long double", refl, refl)
 letter-find lg r = ("__float128", refl, refl)
 letter-find lz r = ("...", refl, refl)
 
-pub wrap-find : (c : Wrap) (r : Text) → (w : String × String) × (find wrappers (wrapCode c ∷ r) ≡ some (w, r)) × (b (w .0) ≡ suffix c)
+pub wrap-find : (c : Wrap) (r : Text) → (w : String × String) × (find wrappers (wrap-code c ∷ r) ≡ some (w, r)) × (b (w .0) ≡ suffix c)
 unfolding find wrappers starts b if_then_else_
-wrap-find wP r = (("*", "*"), refl, refl)
+wrap-find w-p r = (("*", "*"), refl, refl)
 wrap-find wR r = (("&", "&"), refl, refl)
 wrap-find wO r = (("&&", "&&"), refl, refl)
 wrap-find wK r = ((" const", " const"), refl, refl)
 wrap-find wV r = ((" volatile", " volatile"), refl, refl)
 
-pub wrap-miss : (c : Wrap) (r : Text) → (find letters (wrapCode c ∷ r) ≡ none) × (find d-letters (wrapCode c ∷ r) ≡ none)
+pub wrap-miss : (c : Wrap) (r : Text) → (find letters (wrap-code c ∷ r) ≡ none) × (find d-letters (wrap-code c ∷ r) ≡ none)
 unfolding find letters d-letters starts b if_then_else_
-wrap-miss wP r = (refl, refl)
+wrap-miss w-p r = (refl, refl)
 wrap-miss wR r = (refl, refl)
 wrap-miss wO r = (refl, refl)
 wrap-miss wK r = (refl, refl)
@@ -102,7 +102,7 @@ module _ {room : Type 0} {y r : Text} {l : List Text} {d : ℕ} {K : List Text �
   pub letter-by :
       (x : Letter) (t : Text) (l' a : List Text) (c : Text) (q : Bool) → (room → d < most-open) →
       (d < most-open → Verdict room (Gives y r l (d + 1) K) (give (word x) (at t l' a (d + 1) c q))) →
-      Verdict room (Gives y r l d K) (reading ⟨type⟩ (at (letterCode x ∷ t) l' a d c q))
+      Verdict room (Gives y r l d K) (reading ⟨type⟩ (at (letter-code x ∷ t) l' a d c q))
   unfolding production g.type g.type-inner
   letter-by x t l' a c q w h =
       let f = letter-find x t in
@@ -112,7 +112,7 @@ module _ {room : Type 0} {y r : Text} {l : List Text} {d : ℕ} {K : List Text �
       (x : Wrap) (t : Text) (l' a : List Text) (c : Text) (q : Bool) → (room → d < most-open) →
       ((w : String × String) → b (w .0) ≡ suffix x → d < most-open
       → Verdict room (Gives y r l (d + 1) K) (g.wrapped reading w (at t l' a (d + 1) c q))) →
-      Verdict room (Gives y r l d K) (reading ⟨type⟩ (at (wrapCode x ∷ t) l' a d c q))
+      Verdict room (Gives y r l d K) (reading ⟨type⟩ (at (wrap-code x ∷ t) l' a d c q))
   unfolding production g.type g.type-inner
   wrapped-by x t l' a c q w h =
       let f = wrap-find x t in

@@ -39,40 +39,40 @@ use Rattle.catalogue.specs.Tree.{
   one,
   also,
   print,
-  printArgs,
-  isVoid,
+  print-args,
+  is-void,
   inside,
   tail,
-  printEnc,
+  print-enc,
   word,
-  sameTy,
-  sameTy-eq,
+  same-ty,
+  same-ty-eq,
 }
-use Rattle.catalogue.specs.Spelling.{SpArgs, SpName, Sym, flat, scoped, symbol, spellArgs, spellName, spellParams, nameBytes}
+use Rattle.catalogue.specs.Spelling.{SpArgs, SpName, Sym, flat, scoped, symbol, spell-args, spell-name, spell-params, name-bytes}
 use Rattle.catalogue.specs.Class.{
-  nameOk,
-  allTypes,
-  isConst,
-  andThen,
+  name-ok,
+  all-types,
+  is-const,
+  and-then,
   provided,
-  resolvePre,
-  resolveArgs,
-  resolveName,
-  resolveParams,
-  resolveSym,
+  resolve-pre,
+  resolve-args,
+  resolve-name,
+  resolve-params,
+  resolve-sym,
 }
 use Rattle.catalogue.specs.Class as class
 use Rattle.catalogue.specs.Count.{nargs}
-use Rattle.catalogue.specs.Limits.{depthName, depthArgs, depthSym}
+use Rattle.catalogue.specs.Limits.{depth-name, depth-args, depth-sym}
 use Rattle.catalogue.specs.NoDoubles.{sum}
 use Rattle.catalogue.specs.NormalForm.{nbytes}
-use Rattle.catalogue.specs.WellFormed.{WfArgs, AllWf, GoodPre, GoodArgs, Post, post-ok, post-then, post-if, resolvePre-wf, resolveArgs-wf}
+use Rattle.catalogue.specs.WellFormed.{WfArgs, AllWf, GoodPre, GoodArgs, Post, post-ok, post-then, post-if, resolve-pre-wf, resolve-args-wf}
 use Rattle.agreement.specs.Verdict.{at, Verdict, next, assoc, equal-by, by-equal, in-reading, by-code-miss, give-by, give-told}
 use Rattle.agreement.specs.After.{After, after-ok, after-then, after-if, after-also}
 use Rattle.agreement.specs.Leaves.{clear, find-miss}
 use Rattle.agreement.specs.Heads.{name-first, first-map, follow-end, follow-opens, args-opens}
 use Rattle.agreement.specs.Printed.{items}
-use Rattle.agreement.specs.Rooms.{texts, bytes, Fits, Room, Kept, Grown, grown-refl, sum-grown, fits-grown, growsArgs}
+use Rattle.agreement.specs.Rooms.{texts, bytes, Fits, Room, Kept, Grown, grown-refl, sum-grown, fits-grown, grows-args}
 use Rattle.agreement.specs.Names.{name-next, qualified, NameRead, reads-name}
 use Rattle.agreement.specs.Parameters.{types-loop, TypesRead, reads-types, types-text, not-ended}
 
@@ -80,22 +80,22 @@ use Rattle.agreement.specs.Parameters.{types-loop, TypesRead, reads-type
 
 pub record RoomSym (σ : Sym) (e : Enc) (us : List Ty) : Type 0 where
   pub table : Fits us
-  pub deep : depthSym σ ≤ most-open
-  pub text : length (printEnc e) ≤ most-text-bytes
+  pub deep : depth-sym σ ≤ most-open
+  pub text : length (print-enc e) ≤ most-text-bytes
   pub few : sum nargs us ≤ most-entries
   pub small : sum nbytes us ≤ most-entry-bytes
 
 -- the name of the tree e was read to the end, with the table us
 pub record Told (σ : Sym) (e : Enc) (us : List Ty) (x : Text) (s : State) : Type 0 where
-  pub text : x ≡ printEnc e
+  pub text : x ≡ print-enc e
   pub whole : s .rest ≡ []
   pub table : Fits us
-  pub deep : depthSym σ ≤ most-open
-  pub short : length (printEnc e) ≤ most-text-bytes
+  pub deep : depth-sym σ ≤ most-open
+  pub short : length (print-enc e) ≤ most-text-bytes
 
 abbrev pub SymRead : Sym → Enc → List Ty → Type 0
 SymRead (symbol m ps) e us = Verdict (RoomSym (symbol m ps) e us) (Told (symbol m ps) e us) (reading ⟨encoding⟩ (at
-    (spellName m ++ spellParams ps) [] [] 0 [] false))
+    (spell-name m ++ spell-params ps) [] [] 0 [] false))
 
 -- ---------------------------------------------------------------- behind the name
 
@@ -143,9 +143,9 @@ digit-head : (x : ℕ) → digit 10 x ≡ true → name-head x ≡ true
 unfolding name-head
 digit-head x h = rw h
 
-name-heads : (m : SpName) (r : Text) → first name-head (spellName m ++ r) ≡ true
+name-heads : (m : SpName) (r : Text) → first name-head (spell-name m ++ r) ≡ true
 unfolding name-head digit digit-value if_then_else_
-name-heads (flat n) r = first-map (digit 10) name-head digit-head (nameBytes n ++ r) (name-first n r)
+name-heads (flat n) r = first-map (digit 10) name-head digit-head (name-bytes n ++ r) (name-first n r)
 name-heads (scoped k p n) r = refl
 
 module _ {room : Type 0} {Q : Text → State → Type 0} where
@@ -165,10 +165,10 @@ fits-none : Fits []
 unfolding sum
 fits-none = record { entries = omega arith; size = omega arith }
 
-name-room : (m : SpName) (ps : Option SpArgs) (e : Enc) (t : Ty) (us ws : List Ty) → Grown us ws → bytes t ≤ length (printEnc e)
+name-room : (m : SpName) (ps : Option SpArgs) (e : Enc) (t : Ty) (us ws : List Ty) → Grown us ws → bytes t ≤ length (print-enc e)
     → RoomSym (symbol m ps) e ws
-    → Room [] us [] 0 (depthName m) (bytes t) 0 0
-unfolding sum depthSym bytes-of
+    → Room [] us [] 0 (depth-name m) (bytes t) 0 0
+unfolding sum depth-sym bytes-of
 name-room m ps e t us ws gr l p =
     let x = sum-grown nargs us ws gr in
     let y = sum-grown nbytes us ws gr in
@@ -178,40 +178,40 @@ name-room m ps e t us ws gr l p =
     let z4 = p .small in
     record { table = fits-grown us ws gr (p .table); deep = omega arith; text = omega arith; few = omega arith; small = omega arith }
 
-bare-says : (m : SpName) (t : Ty) (us : List Ty) → NameRead m [] t us → SymRead (symbol m none) (enc (isConst m) t none) us
-unfolding printEnc
+bare-says : (m : SpName) (t : Ty) (us : List Ty) → NameRead m [] t us → SymRead (symbol m none) (enc (is-const m) t none) us
+unfolding print-enc
 bare-says m t us h =
-    let e : print t ++ qualified (isConst m) ≡ print t ++ tail (isConst m) = ap (λ z. print t ++ z) (qualified-is (isConst m)) in
-    let len : bytes t ≤ length (print t ++ tail (isConst m)) = rw (length-append (print t) (tail (isConst m))) (omega arith) in
+    let e : print t ++ qualified (is-const m) ≡ print t ++ tail (is-const m) = ap (λ z. print t ++ z) (qualified-is (is-const m)) in
+    let len : bytes t ≤ length (print t ++ tail (is-const m)) = rw (length-append (print t) (tail (is-const m))) (omega arith) in
     encoding-by _ (name-heads m [])
-    (name-next after-name h (name-room m none (enc (isConst m) t none) t us us (grown-refl us) len)
-    (λ a k. equal-by _ _ (no-types (print t) (texts us) a 0 (qualified (isConst m)))
+    (name-next after-name h (name-room m none (enc (is-const m) t none) t us us (grown-refl us) len)
+    (λ a k. equal-by _ _ (no-types (print t) (texts us) a 0 (qualified (is-const m)))
     (give-told _ _ (λ p. rw e (p .text))
     (λ l. record { text = e; whole = refl; table = k .table fits-none; deep = alone m (k .deep); short = rw e at l }))))
   where
-    alone : (m : SpName) → 0 + depthName m ≤ most-open → depthSym (symbol m none) ≤ most-open
-    alone m z = unfold depthSym in omega arith
+    alone : (m : SpName) → 0 + depth-name m ≤ most-open → depth-sym (symbol m none) ≤ most-open
+    alone m z = unfold depth-sym in omega arith
 
-void-short : length (printArgs (one (letter lv))) ≤ most-text-bytes
+void-short : length (print-args (one (letter lv))) ≤ most-text-bytes
 unfolding print word word-for letters choose same b if_then_else_
 void-short = omega arith
 
-args-short : (xs : Args) → length (inside (isVoid xs) xs) ≤ most-text-bytes → length (printArgs xs) ≤ most-text-bytes
-args-short (one t) l = go (sameTy t (letter lv)) refl l
+args-short : (xs : Args) → length (inside (is-void xs) xs) ≤ most-text-bytes → length (print-args xs) ≤ most-text-bytes
+args-short (one t) l = go (same-ty t (letter lv)) refl l
   where
-    go : (z : Bool) → sameTy t (letter lv) ≡ z → length (inside z (one t)) ≤ most-text-bytes → length (printArgs (one t)) ≤ most-text-bytes
-    go true e k = rw (sameTy-eq t (letter lv) e) void-short
+    go : (z : Bool) → same-ty t (letter lv) ≡ z → length (inside z (one t)) ≤ most-text-bytes → length (print-args (one t)) ≤ most-text-bytes
+    go true e k = rw (same-ty-eq t (letter lv) e) void-short
     go false e k = k
 args-short (also t xs) l = l
 
-together : (m : SpName) (ss : SpArgs) → 0 + depthName m ≤ most-open → 0 + depthArgs ss ≤ most-open → depthSym (symbol m (some ss)) ≤ most-open
-unfolding depthSym
+together : (m : SpName) (ss : SpArgs) → 0 + depth-name m ≤ most-open → 0 + depth-args ss ≤ most-open → depth-sym (symbol m (some ss)) ≤ most-open
+unfolding depth-sym
 together m ss h k = omega arith
 
 types-room : (m : SpName) (ss : SpArgs) (k : Bool) (t : Ty) (xs : Args) (us ws : List Ty) (a : List Text)
-    → length (inside (isVoid xs) xs) ≤ length (printEnc (enc k t (some xs))) → RoomSym (symbol m (some ss)) (enc k t (some xs)) ws
-    → Kept [] us [] 0 (depthName m) 0 0 a → Room us ws a 0 (depthArgs ss) (length (printArgs xs)) 0 0
-unfolding sum depthSym bytes-of
+    → length (inside (is-void xs) xs) ≤ length (print-enc (enc k t (some xs))) → RoomSym (symbol m (some ss)) (enc k t (some xs)) ws
+    → Kept [] us [] 0 (depth-name m) 0 0 a → Room us ws a 0 (depth-args ss) (length (print-args xs)) 0 0
+unfolding sum depth-sym bytes-of
 types-room m ss k t xs us ws a l p j =
     let z1 = p .deep in
     let z2 = p .text in
@@ -221,22 +221,22 @@ types-room m ss k t xs us ws a l p j =
     let z6 = j .small in
     record { table = p .table; deep = omega arith; text = args-short xs (omega arith); few = omega arith; small = omega arith }
 
-types-says : (m : SpName) (ss : SpArgs) (t : Ty) (us : List Ty) (xs : Args) (ws : List Ty) → NameRead m (spellArgs ss) t us → TypesRead ss us xs ws
-    → allTypes xs ≡ true → WfArgs xs → Grown us ws → SymRead (symbol m (some ss)) (enc (isConst m) t (some xs)) ws
-unfolding printEnc
+types-says : (m : SpName) (ss : SpArgs) (t : Ty) (us : List Ty) (xs : Args) (ws : List Ty) → NameRead m (spell-args ss) t us → TypesRead ss us xs ws
+    → all-types xs ≡ true → WfArgs xs → Grown us ws → SymRead (symbol m (some ss)) (enc (is-const m) t (some xs)) ws
+unfolding print-enc
 types-says m ss t us xs ws h i o f gr =
-    let k = isConst m in
-    let ins = inside (isVoid xs) xs in
+    let k = is-const m in
+    let ins = inside (is-void xs) xs in
     let e : [] ++ print t ++ b "(" ++ ins ++ b ")" ++ qualified k ≡ print t ++ (b "(" ++ (ins ++ (b ")" ++ tail k))) = rw (qualified-is k)
     (simp append-assoc) in
     let len : bytes t ≤ length (print t ++ (b "(" ++ (ins ++ (b ")" ++ tail k)))) = simp length-append (omega arith) in
     let len' : length ins ≤ length (print t ++ (b "(" ++ (ins ++ (b ")" ++ tail k)))) = simp length-append (omega arith) in
-    let first-type = rw (append-nil (spellArgs ss)) at (args-opens ss []) in
-    encoding-by _ (name-heads m (spellArgs ss))
+    let first-type = rw (append-nil (spell-args ss)) at (args-opens ss []) in
+    encoding-by _ (name-heads m (spell-args ss))
     (name-next after-name h (name-room m (some ss) (enc k t (some xs)) t us ws gr len)
-    (λ a j. equal-by _ _ (some-types (print t) (texts us) a 0 (qualified k) (spellArgs ss) (not-ended (spellArgs ss) first-type))
+    (λ a j. equal-by _ _ (some-types (print t) (texts us) a 0 (qualified k) (spell-args ss) (not-ended (spell-args ss) first-type))
     (assoc types-end (in-brackets (print t) (qualified k)) _
-    (next _ (i o (suc (length (spellArgs ss))) [] a [] false (omega arith)) (λ p. types-room m ss k t xs us ws a len' p j)
+    (next _ (i o (suc (length (spell-args ss))) [] a [] false (omega arith)) (λ p. types-room m ss k t xs us ws a len' p j)
     (λ u c q v. by-equal _ _ _ (types-end-is (print t) (texts ws) u 0 c (items xs) q)
     (rw (types-text xs f)
     (give-by _ _ _ (λ p. let z = p .text in omega arith)
@@ -252,30 +252,30 @@ types-says m ss t us xs ws h i o f gr =
 
 -- ---------------------------------------------------------------- symbols
 
-name-good : (m : SpName) → Post (resolveName m) (λ t us. AllWf us)
-unfolding resolveName
-name-good (flat n) = post-if _ (nameOk n) _ (λ e. post-ok _ _ _ tt)
+name-good : (m : SpName) → Post (resolve-name m) (λ t us. AllWf us)
+unfolding resolve-name
+name-good (flat n) = post-if _ (name-ok n) _ (λ e. post-ok _ _ _ tt)
 name-good (scoped k p n) =
-    post-then GoodPre _ (resolvePre p []) _ (resolvePre-wf p [] tt) (λ t us h. post-if _ (nameOk n) _ (λ e. post-ok _ _ _ (h .2)))
+    post-then GoodPre _ (resolve-pre p []) _ (resolve-pre-wf p [] tt) (λ t us h. post-if _ (name-ok n) _ (λ e. post-ok _ _ _ (h .2)))
 
-pub reads-symbol : (σ : Sym) → After (resolveSym σ) (SymRead σ)
-unfolding resolveSym resolveParams
+pub reads-symbol : (σ : Sym) → After (resolve-sym σ) (SymRead σ)
+unfolding resolve-sym resolve-params
 reads-symbol (symbol m none) =
-    after-if _ (not (isConst m) || false) _ (λ e.
-    after-then (NameRead m []) (SymRead (symbol m none)) (resolveName m) _ (reads-name m [] (follow-end .no-args) (follow-end .no-tag))
+    after-if _ (not (is-const m) || false) _ (λ e.
+    after-then (NameRead m []) (SymRead (symbol m none)) (resolve-name m) _ (reads-name m [] (follow-end .no-args) (follow-end .no-tag))
     (λ t us h. after-ok _ _ (SymRead (symbol m none)) (bare-says m t us h)))
 reads-symbol (symbol m (some ss)) =
-    let r = spellArgs ss in
+    let r = spell-args ss in
     let f = follow-opens r (rw (append-nil r) at (args-opens ss [])) in
-    after-if _ (not (isConst m) || true) _ (λ e.
-    after-then _ (SymRead (symbol m (some ss))) (resolveName m) _
-    (after-also (λ t us. AllWf us) (NameRead m r) (resolveName m) (name-good m) (reads-name m r (f .no-args) (f .no-tag)))
-    (λ t us h. after-then (λ ps vs. (xs : Args) × (ps ≡ some xs) × SymRead (symbol m (some ss)) (enc (isConst m) t (some xs)) vs) (SymRead
+    after-if _ (not (is-const m) || true) _ (λ e.
+    after-then _ (SymRead (symbol m (some ss))) (resolve-name m) _
+    (after-also (λ t us. AllWf us) (NameRead m r) (resolve-name m) (name-good m) (reads-name m r (f .no-args) (f .no-tag)))
+    (λ t us h. after-then (λ ps vs. (xs : Args) × (ps ≡ some xs) × SymRead (symbol m (some ss)) (enc (is-const m) t (some xs)) vs) (SymRead
     (symbol m (some ss)))
-    (andThen (resolveArgs ss us) (λ xs vs. provided (allTypes xs) (class.ok (some xs) vs))) _
-    (after-then _ _ (resolveArgs ss us) _
-    (after-also GoodArgs _ _ (resolveArgs-wf ss us (h .0)) (after-also _ _ _ (growsArgs ss us) (reads-types ss us (h .0))))
-    (λ xs vs k. after-if _ (allTypes xs) _ (λ o.
-    after-ok _ _ (λ ps vs. (xs : Args) × (ps ≡ some xs) × SymRead (symbol m (some ss)) (enc (isConst m) t (some xs)) vs)
+    (and-then (resolve-args ss us) (λ xs vs. provided (all-types xs) (class.ok (some xs) vs))) _
+    (after-then _ _ (resolve-args ss us) _
+    (after-also GoodArgs _ _ (resolve-args-wf ss us (h .0)) (after-also _ _ _ (grows-args ss us) (reads-types ss us (h .0))))
+    (λ xs vs k. after-if _ (all-types xs) _ (λ o.
+    after-ok _ _ (λ ps vs. (xs : Args) × (ps ≡ some xs) × SymRead (symbol m (some ss)) (enc (is-const m) t (some xs)) vs)
     (xs, refl, types-says m ss t us xs vs (h .1) (k .1 .1) o (k .0 .0) (k .1 .0)))))
     (λ ps vs k. after-ok _ _ (SymRead (symbol m (some ss))) (rw (k .1) (k .2)))))

@@ -12,9 +12,9 @@ use Rattle.catalogue.specs.Normal.{write}
 use Rattle.catalogue.specs.Recogniser.{classify}
 
 -- the normal symbol, if there is a tree
-abbrev pub normalIn : Res Enc → Option Text
-normalIn (ok e us) = some (write e)
-normalIn wrong = none
+abbrev pub normal-in : Res Enc → Option Text
+normal-in (ok e us) = some (write e)
+normal-in wrong = none
 
 -- 6: read, but no catalogue symbol; 13: the normal symbol is longer than 4,096 bytes
 unfoldable pub normal-told : Option Text → Answer
@@ -23,7 +23,7 @@ normal-told (some w) = if leb (length w) most-symbol-bytes then named w else ref
 
 -- by what the reading for the name comes to: "Accepted is a symbol whose reading for its name meets none of 1 to 5 and 7 to 11"
 unfoldable pub normal-after : Text → Answer → Answer
-normal-after s (named x) = normal-told (normalIn (classify s))
+normal-after s (named x) = normal-told (normal-in (classify s))
 normal-after s (refusal r) = refusal r
 
 -- the answer for a symbol

@@ -45,7 +45,7 @@ use Rattle.catalogue.specs.Tree.{
   le,
   lg,
   lz,
-  wP,
+  w-p,
   wR,
   wO,
   wK,
@@ -55,37 +55,37 @@ use Rattle.catalogue.specs.Tree.{
   kj,
   kl,
   km,
-  sameTy-eq,
-  isLit,
-  isRef,
+  same-ty-eq,
+  is-lit,
+  is-ref,
   word,
   suffix,
   sign,
   literal,
-  lastCloses,
+  last-closes,
   shut,
   print,
-  printArgs,
-  isVoid,
+  print-args,
+  is-void,
   inside,
-  printEnc,
+  print-enc,
 }
-use Rattle.catalogue.specs.Class.{wordByte, reserved, listed, nameOk, leadingZero, numeral, litOk, stands}
+use Rattle.catalogue.specs.Class.{word-byte, reserved, listed, name-ok, leading-zero, numeral, lit-ok, stands}
 use Rattle.catalogue.specs.WellFormed.{Wf, WfArgs, WfEnc, wf-name}
 use Rattle.catalogue.specs.Numbers.{digit-36}
-use Rattle.catalogue.specs.Words.{aWord, lex, NoWord, lex-word}
+use Rattle.catalogue.specs.Words.{a-word, lex, NoWord, lex-word}
 use Rattle.catalogue.specs.NameReader.{
   find,
   words,
   phrases,
-  kindOf,
-  numberOf,
-  fromWord,
+  kind-of,
+  number-of,
+  from-word,
   Bracket,
   angle,
   paren,
   Frame,
-  atName,
+  at-name,
   items,
   State,
   want,
@@ -99,7 +99,7 @@ use Rattle.catalogue.specs.NameReader.{
   step,
   walk,
   result,
-  parseName,
+  parse-name,
 }
 
 -- ---------------------------------------------------------------- words
@@ -118,42 +118,42 @@ hit-listed : (x : Text) → hit x words ≡ listed x reserved
 unfolding hit listed words reserved
 hit-listed x = refl
 
-name-free : (n : Text) → nameOk n ≡ true → listed n reserved ≡ false
-unfolding nameOk
+name-free : (n : Text) → name-ok n ≡ true → listed n reserved ≡ false
+unfolding name-ok
 name-free [] h = cc
 name-free (c ∷ n) h =
-    not-true (listed (c ∷ n) reserved) (and-right (all wordByte (c ∷ n)) (not (listed (c ∷ n) reserved))
-    (and-right (not (digit 10 c)) (all wordByte (c ∷ n) && not (listed (c ∷ n) reserved)) h))
+    not-true (listed (c ∷ n) reserved) (and-right (all word-byte (c ∷ n)) (not (listed (c ∷ n) reserved))
+    (and-right (not (digit 10 c)) (all word-byte (c ∷ n) && not (listed (c ∷ n) reserved)) h))
 
-pub name-start : (n r : Text) → nameOk n ≡ true → first (digit 10) (n ++ r) ≡ false
-unfolding nameOk
+pub name-start : (n r : Text) → name-ok n ≡ true → first (digit 10) (n ++ r) ≡ false
+unfolding name-ok
 name-start [] r h = cc
-name-start (c ∷ n) r h = not-true (digit 10 c) (and-left (not (digit 10 c)) (all wordByte (c ∷ n) && not (listed (c ∷ n) reserved)) h)
+name-start (c ∷ n) r h = not-true (digit 10 c) (and-left (not (digit 10 c)) (all word-byte (c ∷ n) && not (listed (c ∷ n) reserved)) h)
 
-name-found : (n : Text) → nameOk n ≡ true → fromWord n ≡ root n
-unfolding fromWord if_then_else_ nameOk
+name-found : (n : Text) → name-ok n ≡ true → from-word n ≡ root n
+unfolding from-word if_then_else_ name-ok
 name-found [] h = cc
 name-found (c ∷ n) h = rw (name-start (c ∷ n) [] h) (find-none (c ∷ n) words (root (c ∷ n)) (hit-listed (c ∷ n) ∙ name-free (c ∷ n) h))
 
 abbrev wordy : Text → Bool
 wordy [] = false
-wordy (c ∷ n) = all wordByte (c ∷ n)
+wordy (c ∷ n) = all word-byte (c ∷ n)
 
-name-wordy : (n : Text) → nameOk n ≡ true → wordy n ≡ true
-unfolding nameOk
+name-wordy : (n : Text) → name-ok n ≡ true → wordy n ≡ true
+unfolding name-ok
 name-wordy [] h = h
 name-wordy (c ∷ n) h =
-    and-left (all wordByte (c ∷ n)) (not (listed (c ∷ n) reserved))
-    (and-right (not (digit 10 c)) (all wordByte (c ∷ n) && not (listed (c ∷ n) reserved)) h)
+    and-left (all word-byte (c ∷ n)) (not (listed (c ∷ n) reserved))
+    (and-right (not (digit 10 c)) (all word-byte (c ∷ n) && not (listed (c ∷ n) reserved)) h)
 
 -- a word is one step
-word-step : (x s : Text) (q : State) → wordy x ≡ true → NoWord (lex s) → walk (lex (x ++ s)) q ≡ walk (lex s) (step q (aWord x))
+word-step : (x s : Text) (q : State) → wordy x ≡ true → NoWord (lex s) → walk (lex (x ++ s)) q ≡ walk (lex s) (step q (a-word x))
 unfolding walk
 word-step [] s q e h = cc
 word-step (c ∷ n) s q e h = rw (lex-word c n s e h) refl
 
 word-back : (l : Letter) (s : Text) (k : List Frame) → NoWord (lex s) → walk (lex (word l ++ s)) (want k) ≡ walk (lex s) (have (letter l) k)
-unfolding lex walk step fromWord find words phrases wordByte digit digit-value if_then_else_ same b word word-for letters choose print
+unfolding lex walk step from-word find words phrases word-byte digit digit-value if_then_else_ same b word word-for letters choose print
 word-back lv s k h = word-step (b "void") s (want k) refl h
 word-back lw s k h = word-step (b "wchar_t") s (want k) refl h
 word-back lb s k h = word-step (b "bool") s (want k) refl h
@@ -178,9 +178,9 @@ word-back lz s k h = refl
 
 -- ---------------------------------------------------------------- marks
 
-once : (t : Ty) → isRef t ≡ false → ampersand t ≡ wrap wR t
+once : (t : Ty) → is-ref t ≡ false → ampersand t ≡ wrap wR t
 once (letter l) h = refl
-once (wrap wP t) h = refl
+once (wrap w-p t) h = refl
 once (wrap wR t) h = cc
 once (wrap wO t) h = refl
 once (wrap wK t) h = refl
@@ -190,12 +190,12 @@ once (sub t n) h = refl
 once (app t xs) h = refl
 once (lit k g v) h = refl
 
-no-ref : (t : Ty) → not (isLit t || isRef t) ≡ true → isRef t ≡ false
-no-ref t h = or-right (isLit t) (isRef t) (not-true (isLit t || isRef t) h)
+no-ref : (t : Ty) → not (is-lit t || is-ref t) ≡ true → is-ref t ≡ false
+no-ref t h = or-right (is-lit t) (is-ref t) (not-true (is-lit t || is-ref t) h)
 
 suffix-no : (c : Wrap) (s : Text) → NoWord (lex (suffix c ++ s))
-unfolding lex wordByte digit digit-value if_then_else_ b
-suffix-no wP s = tt
+unfolding lex word-byte digit digit-value if_then_else_ b
+suffix-no w-p s = tt
 suffix-no wR s = tt
 suffix-no wO s = tt
 suffix-no wK s = tt
@@ -203,61 +203,61 @@ suffix-no wV s = tt
 
 wrap-back : (c : Wrap) (t : Ty) (s : Text) (k : List Frame) → stands c t ≡ true → NoWord (lex s)
     → walk (lex (suffix c ++ s)) (have t k) ≡ walk (lex s) (have (wrap c t) k)
-unfolding lex walk step wordByte digit digit-value if_then_else_ b same stands
-wrap-back wP t s k e h = refl
+unfolding lex walk step word-byte digit digit-value if_then_else_ b same stands
+wrap-back w-p t s k e h = refl
 wrap-back wR t s k e h = rw (once t (no-ref t e)) refl
 wrap-back wO t s k e h = rw (once t (no-ref t e)) refl
 wrap-back wK t s k e h = word-step (b "const") s (gap t k) refl h
 wrap-back wV t s k e h = word-step (b "volatile") s (gap t k) refl h
 
 shut-no : (c : Bool) (s : Text) → NoWord (lex (shut c ++ s))
-unfolding lex wordByte digit digit-value if_then_else_ b
+unfolding lex word-byte digit digit-value if_then_else_ b
 shut-no true s = tt
 shut-no false s = tt
 
 shut-back : (c : Bool) (t u : Ty) (ts : List Ty) (s : Text) (k : List Frame)
     → walk (lex (shut c ++ s)) (have u (items angle t ts ∷ k)) ≡ walk (lex s) (have (app t (gather ts (one u))) k)
-unfolding lex walk step wordByte digit digit-value if_then_else_ b
+unfolding lex walk step word-byte digit digit-value if_then_else_ b
 shut-back true t u ts s k = refl
 shut-back false t u ts s k = refl
 
 -- ---------------------------------------------------------------- literals
 
-digit-word : (c : ℕ) → digit 10 c ≡ true → wordByte c ≡ true
-unfolding wordByte
+digit-word : (c : ℕ) → digit 10 c ≡ true → word-byte c ≡ true
+unfolding word-byte
 digit-word c h = rw (digit-36 c h) refl
 
-all-words : (v m : Text) → all (digit 10) v ≡ true → all wordByte m ≡ true → all wordByte (v ++ m) ≡ true
+all-words : (v m : Text) → all (digit 10) v ≡ true → all word-byte m ≡ true → all word-byte (v ++ m) ≡ true
 all-words [] m h e = e
 all-words (c ∷ v) m h e =
     rw (digit-word c (and-left (digit 10 c) (all (digit 10) v) h)) (all-words v m (and-right (digit 10 c) (all (digit 10) v) h) e)
 
-number-back : (m : Text) (c : Kind) (v : Text) (g : Bool) → kindOf m ≡ c → first (digit 10) m ≡ false → all (digit 10) v ≡ true
-    → numberOf g (v ++ m) ≡ lit c g v
-unfolding numberOf
+number-back : (m : Text) (c : Kind) (v : Text) (g : Bool) → kind-of m ≡ c → first (digit 10) m ≡ false → all (digit 10) v ≡ true
+    → number-of g (v ++ m) ≡ lit c g v
+unfolding number-of
 number-back m c v g e₁ e₂ h = rw (run-of (digit 10) v m h e₂, past-of (digit 10) v m h e₂, e₁) refl
 
 first-on : (v m : Text) → first (digit 10) v ≡ true → first (digit 10) (v ++ m) ≡ true
 first-on [] m h = cc
 first-on (c ∷ v) m h = h
 
-wordy-on : (v m : Text) → first (digit 10) v ≡ true → all (digit 10) v ≡ true → all wordByte m ≡ true → wordy (v ++ m) ≡ true
+wordy-on : (v m : Text) → first (digit 10) v ≡ true → all (digit 10) v ≡ true → all word-byte m ≡ true → wordy (v ++ m) ≡ true
 wordy-on [] m h d e = cc
 wordy-on (c ∷ v) m h d e = all-words (c ∷ v) m d e
 
 pub numeral-first : (v : Text) → numeral v ≡ true → first (digit 10) v ≡ true
 unfolding numeral
-numeral-first v h = and-left (first (digit 10) v) (all (digit 10) v && not (leadingZero v)) h
+numeral-first v h = and-left (first (digit 10) v) (all (digit 10) v && not (leading-zero v)) h
 
 pub numeral-all : (v : Text) → numeral v ≡ true → all (digit 10) v ≡ true
 unfolding numeral
 numeral-all v h =
-    and-left (all (digit 10) v) (not (leadingZero v)) (and-right (first (digit 10) v) (all (digit 10) v && not (leadingZero v)) h)
+    and-left (all (digit 10) v) (not (leading-zero v)) (and-right (first (digit 10) v) (all (digit 10) v && not (leading-zero v)) h)
 
-numeral-back : (m : Text) (c : Kind) (g : Bool) (v s : Text) (k : List Frame) → kindOf m ≡ c → first (digit 10) m ≡ false → all wordByte m ≡ true
+numeral-back : (m : Text) (c : Kind) (g : Bool) (v s : Text) (k : List Frame) → kind-of m ≡ c → first (digit 10) m ≡ false → all word-byte m ≡ true
     → numeral v ≡ true → NoWord (lex s)
     → walk (lex ((sign g ++ (v ++ m)) ++ s)) (want k) ≡ walk (lex s) (have (lit c g v) k)
-unfolding lex walk step wordByte digit digit-value if_then_else_ b fromWord
+unfolding lex walk step word-byte digit digit-value if_then_else_ b from-word
 numeral-back m c true v s k e₁ e₂ e₃ h q =
     word-step (v ++ m) s (minus k) (wordy-on v m (numeral-first v h) (numeral-all v h) e₃) q
     ∙ ap (λ t. walk (lex s) (have t k)) (number-back m c v true e₁ e₂ (numeral-all v h))
@@ -269,17 +269,17 @@ or-first : (p q : Bool) → p || q ≡ true → q ≡ false → p ≡ true
 or-first true q h e = refl
 or-first false q h e = sym e ∙ h ∙ refl
 
-truth-back : (g : Bool) (v s : Text) (k : List Frame) (p : Bool) → same v (b "1") ≡ p → litOk kb g v ≡ true → NoWord (lex s)
+truth-back : (g : Bool) (v s : Text) (k : List Frame) (p : Bool) → same v (b "1") ≡ p → lit-ok kb g v ≡ true → NoWord (lex s)
     → walk (lex (literal kb g v ++ s)) (want k) ≡ walk (lex s) (have (lit kb g v) k)
-unfolding lex walk step wordByte digit digit-value if_then_else_ b same fromWord find words litOk
+unfolding lex walk step word-byte digit digit-value if_then_else_ b same from-word find words lit-ok
 truth-back true v s k p e h q = cc
 truth-back false v s k true e h q = rw (same-eq v (b "1") e) (word-step (b "true") s (want k) refl q)
 truth-back false v s k false e h q =
     rw (same-eq v (b "0") (or-first (same v (b "0")) (same v (b "1")) h e)) (word-step (b "false") s (want k) refl q)
 
-lit-back : (c : Kind) (g : Bool) (v s : Text) (k : List Frame) → litOk c g v ≡ true → NoWord (lex s)
+lit-back : (c : Kind) (g : Bool) (v s : Text) (k : List Frame) → lit-ok c g v ≡ true → NoWord (lex s)
     → walk (lex (literal c g v ++ s)) (want k) ≡ walk (lex s) (have (lit c g v) k)
-unfolding kindOf wordByte digit digit-value if_then_else_ b same litOk
+unfolding kind-of word-byte digit digit-value if_then_else_ b same lit-ok
 lit-back kb g v s k h q = truth-back g v s k (same v (b "1")) refl h q
 lit-back ki g v s k h q = numeral-back [] ki g v s k refl refl refl (and-left (numeral v) (not (g && same v (b "0"))) h) q
 lit-back kj g v s k h q = numeral-back (b "u") kj g v s k refl refl refl (and-right (not g) (numeral v) h) q
@@ -288,21 +288,21 @@ lit-back km g v s k h q = numeral-back (b "ul") km g v s k refl refl refl (and-r
 
 -- ---------------------------------------------------------------- every tree comes back
 
-unfoldable lastOf : Args → Ty
-lastOf (one t) = t
-lastOf (also t xs) = lastOf xs
+unfoldable last-of : Args → Ty
+last-of (one t) = t
+last-of (also t xs) = last-of xs
 
 unfoldable before : Args → List Ty → List Ty
 before (one t) ts = ts
 before (also t xs) ts = before xs (t ∷ ts)
 
-gather-before : (xs : Args) (ts : List Ty) → gather (before xs ts) (one (lastOf xs)) ≡ gather ts xs
-unfolding gather before lastOf
+gather-before : (xs : Args) (ts : List Ty) → gather (before xs ts) (one (last-of xs)) ≡ gather ts xs
+unfolding gather before last-of
 gather-before (one t) ts = refl
 gather-before (also t xs) ts = gather-before xs (t ∷ ts)
 
 mutual
-  unfolding print printArgs lex walk step wordByte digit digit-value if_then_else_ b before lastOf gather
+  unfolding print print-args lex walk step word-byte digit digit-value if_then_else_ b before last-of gather
 
   pub back : (t : Ty) → Wf t → (s : Text) (k : List Frame) → NoWord (lex s) → walk (lex (print t ++ s)) (want k) ≡ walk (lex s) (have t k)
   back (letter l) f s k q = word-back l s k q
@@ -313,19 +313,19 @@ mutual
       rw (append-assoc (print t) (b "::" ++ n) s)
       (back t (f .0) (b "::" ++ (n ++ s)) k tt ∙ word-step n s (scope t k) (name-wordy n (f .2)) q)
   back (app t xs) f s k q =
-      rw (append-assoc (print t) (b "<" ++ (printArgs xs ++ shut (lastCloses xs))) s, append-assoc (printArgs xs) (shut (lastCloses xs)) s)
-      (back t (f .0) (b "<" ++ (printArgs xs ++ (shut (lastCloses xs) ++ s))) k tt
-      ∙ backArgs xs (f .2) (shut (lastCloses xs) ++ s) angle t [] k (shut-no (lastCloses xs) s)
-      ∙ shut-back (lastCloses xs) t (lastOf xs) (before xs []) s k
+      rw (append-assoc (print t) (b "<" ++ (print-args xs ++ shut (last-closes xs))) s, append-assoc (print-args xs) (shut (last-closes xs)) s)
+      (back t (f .0) (b "<" ++ (print-args xs ++ (shut (last-closes xs) ++ s))) k tt
+      ∙ back-args xs (f .2) (shut (last-closes xs) ++ s) angle t [] k (shut-no (last-closes xs) s)
+      ∙ shut-back (last-closes xs) t (last-of xs) (before xs []) s k
       ∙ ap (λ ys. walk (lex s) (have (app t ys) k)) (gather-before xs []))
   back (lit c g v) f s k q = lit-back c g v s k f q
 
-  backArgs : (xs : Args) → WfArgs xs → (s : Text) (m : Bracket) (c : Ty) (ts : List Ty) (k : List Frame) → NoWord (lex s)
-      → walk (lex (printArgs xs ++ s)) (want (items m c ts ∷ k)) ≡ walk (lex s) (have (lastOf xs) (items m c (before xs ts) ∷ k))
-  backArgs (one t) f s m c ts k q = back t f s (items m c ts ∷ k) q
-  backArgs (also t xs) f s m c ts k q =
-      rw (append-assoc (print t) (b ", " ++ printArgs xs) s)
-      (back t (f .0) (b ", " ++ (printArgs xs ++ s)) (items m c ts ∷ k) tt ∙ backArgs xs (f .1) s m c (t ∷ ts) k q)
+  back-args : (xs : Args) → WfArgs xs → (s : Text) (m : Bracket) (c : Ty) (ts : List Ty) (k : List Frame) → NoWord (lex s)
+      → walk (lex (print-args xs ++ s)) (want (items m c ts ∷ k)) ≡ walk (lex s) (have (last-of xs) (items m c (before xs ts) ∷ k))
+  back-args (one t) f s m c ts k q = back t f s (items m c ts ∷ k) q
+  back-args (also t xs) f s m c ts k q =
+      rw (append-assoc (print t) (b ", " ++ print-args xs) s)
+      (back t (f .0) (b ", " ++ (print-args xs ++ s)) (items m c ts ∷ k) tt ∙ back-args xs (f .1) s m c (t ∷ ts) k q)
 
 -- types and arguments of different trees print differently
 pub print-injective-type : (t u : Ty) → Wf t → Wf u → print t ≡ print u → t ≡ u
@@ -337,32 +337,32 @@ print-injective-type t u f g h =
 
 -- ---------------------------------------------------------------- a whole name
 
-void-only : (xs : Args) → isVoid xs ≡ true → xs ≡ one (letter lv)
-void-only (one t) h = ap one (sameTy-eq t (letter lv) h)
+void-only : (xs : Args) → is-void xs ≡ true → xs ≡ one (letter lv)
+void-only (one t) h = ap one (same-ty-eq t (letter lv) h)
 void-only (also t xs) h = cc
 
-list-back : (p : Bool) (xs : Args) → isVoid xs ≡ p → WfArgs xs → (t : Ty) (s : Text)
+list-back : (p : Bool) (xs : Args) → is-void xs ≡ p → WfArgs xs → (t : Ty) (s : Text)
     → walk (lex (inside p xs ++ (b ")" ++ s))) (want (items paren t [] ∷ [])) ≡ walk (lex s) (closed t xs)
-unfolding walk lex step wordByte digit digit-value if_then_else_ b gather
+unfolding walk lex step word-byte digit digit-value if_then_else_ b gather
 list-back true xs e f t s = ap (λ ys. walk (lex s) (closed t ys)) (sym (void-only xs e))
 list-back false xs e f t s =
-    backArgs xs f (b ")" ++ s) paren t [] [] tt ∙ ap (λ ys. walk (lex s) (closed t ys)) (gather-before xs [])
+    back-args xs f (b ")" ++ s) paren t [] [] tt ∙ ap (λ ys. walk (lex s) (closed t ys)) (gather-before xs [])
 
-pub parseName-print : (e : Enc) → WfEnc e → parseName (printEnc e) ≡ some e
-unfolding parseName printEnc walk lex step result wordByte digit digit-value if_then_else_ b same
-parseName-print (enc true t none) f = cc (f .2)
-parseName-print (enc false t none) f = ap result (back t (wf-name false t (f .0)) [] (atName ∷ []) tt)
-parseName-print (enc true t (some xs)) f =
+pub parse-name-print : (e : Enc) → WfEnc e → parse-name (print-enc e) ≡ some e
+unfolding parse-name print-enc walk lex step result word-byte digit digit-value if_then_else_ b same
+parse-name-print (enc true t none) f = cc (f .2)
+parse-name-print (enc false t none) f = ap result (back t (wf-name false t (f .0)) [] (at-name ∷ []) tt)
+parse-name-print (enc true t (some xs)) f =
     ap result
-    (back t (wf-name true t (f .0)) (b "(" ++ (inside (isVoid xs) xs ++ (b ")" ++ b " const"))) (atName ∷ []) tt
-    ∙ list-back (isVoid xs) xs refl (f .1 .0) t (b " const"))
-parseName-print (enc false t (some xs)) f =
+    (back t (wf-name true t (f .0)) (b "(" ++ (inside (is-void xs) xs ++ (b ")" ++ b " const"))) (at-name ∷ []) tt
+    ∙ list-back (is-void xs) xs refl (f .1 .0) t (b " const"))
+parse-name-print (enc false t (some xs)) f =
     ap result
-    (back t (wf-name false t (f .0)) (b "(" ++ (inside (isVoid xs) xs ++ (b ")" ++ []))) (atName ∷ []) tt
-    ∙ list-back (isVoid xs) xs refl (f .1 .0) t [])
+    (back t (wf-name false t (f .0)) (b "(" ++ (inside (is-void xs) xs ++ (b ")" ++ []))) (at-name ∷ []) tt
+    ∙ list-back (is-void xs) xs refl (f .1 .0) t [])
 
-pub print-injective : (d e : Enc) → WfEnc d → WfEnc e → printEnc d ≡ printEnc e → d ≡ e
+pub print-injective : (d e : Enc) → WfEnc d → WfEnc e → print-enc d ≡ print-enc e → d ≡ e
 print-injective d e f g h =
-    let p = parseName-print d f in
-    let q = parseName-print e g in
+    let p = parse-name-print d f in
+    let q = parse-name-print e g in
     cc

@@ -19,7 +19,7 @@ use Rattle.catalogue.specs.Tree.{
   Ty,
   Args,
   Enc,
-  wP,
+  w-p,
   wR,
   wO,
   wK,
@@ -38,13 +38,13 @@ use Rattle.catalogue.specs.Tree.{
   one,
   also,
   enc,
-  sameTy,
-  isLit,
-  isClass,
-  isBare,
+  same-ty,
+  is-lit,
+  is-class,
+  is-bare,
   single,
-  isRef,
-  isQual,
+  is-ref,
+  is-qual,
 }
 use Rattle.catalogue.specs.Spelling.{
   Sp,
@@ -52,32 +52,32 @@ use Rattle.catalogue.specs.Spelling.{
   SpArgs,
   SpName,
   Sym,
-  sLetter,
-  sWrap,
-  sRef,
+  s-letter,
+  s-wrap,
+  s-ref,
   plain,
   templ,
   retempl,
-  nestSub,
-  nestApp,
-  sLit,
-  pRef,
-  pRoot,
-  pSub,
-  pApp,
-  sOne,
-  sAlso,
+  nest-sub,
+  nest-app,
+  s-lit,
+  p-ref,
+  p-root,
+  p-sub,
+  p-app,
+  s-one,
+  s-also,
   flat,
   scoped,
   symbol,
-  spellSym,
+  spell-sym,
 }
 
 -- ---------------------------------------------------------------- source names and values
 
 -- "bytes are letters, digits, `_`"
-unfoldable pub wordByte : ℕ → Bool
-wordByte c = digit 36 c || eqb c (code "_")
+unfoldable pub word-byte : ℕ → Bool
+word-byte c = digit 36 c || eqb c (code "_")
 
 -- "No source name is void, wchar_t, .., true or false."
 unfoldable pub reserved : List String
@@ -102,55 +102,55 @@ listed n [] = false
 listed n (w ∷ ws) = same n (b w) || listed n ws
 
 -- "In every source name, a lone function name too, bytes are letters, digits, `_`; the first is no digit"
-unfoldable pub nameOk : Text → Bool
-nameOk [] = false
-nameOk (c ∷ n) = not (digit 10 c) && (all wordByte (c ∷ n) && not (listed (c ∷ n) reserved))
+unfoldable pub name-ok : Text → Bool
+name-ok [] = false
+name-ok (c ∷ n) = not (digit 10 c) && (all word-byte (c ∷ n) && not (listed (c ∷ n) reserved))
 
-abbrev pub leadingZero : Text → Bool
-leadingZero [] = false
-leadingZero (c ∷ []) = false
-leadingZero (c ∷ d ∷ v) = eqb c (code "0")
+abbrev pub leading-zero : Text → Bool
+leading-zero [] = false
+leading-zero (c ∷ []) = false
+leading-zero (c ∷ d ∷ v) = eqb c (code "0")
 
 -- "decimal without leading zeros"
 unfoldable pub numeral : Text → Bool
-numeral v = first (digit 10) v && (all (digit 10) v && not (leadingZero v))
+numeral v = first (digit 10) v && (all (digit 10) v && not (leading-zero v))
 
 -- "Values of b are 0 and 1. The others are decimal without leading zeros, `n` for minus, never n0; j and m have no minus."
-unfoldable pub litOk : Kind → Bool → Text → Bool
-litOk kb g v = not g && (same v (b "0") || same v (b "1"))
-litOk ki g v = numeral v && not (g && same v (b "0"))
-litOk kj g v = not g && numeral v
-litOk kl g v = numeral v && not (g && same v (b "0"))
-litOk km g v = not g && numeral v
+unfoldable pub lit-ok : Kind → Bool → Text → Bool
+lit-ok kb g v = not g && (same v (b "0") || same v (b "1"))
+lit-ok ki g v = numeral v && not (g && same v (b "0"))
+lit-ok kj g v = not g && numeral v
+lit-ok kl g v = numeral v && not (g && same v (b "0"))
+lit-ok km g v = not g && numeral v
 
 -- ---------------------------------------------------------------- types
 
 -- "P, R, O, K or V before a type": no literal. "R and O never stand directly on R or O, nor K and V on K or V"
 unfoldable pub stands : Wrap → Ty → Bool
-stands wP t = not (isLit t)
-stands wR t = not (isLit t || isRef t)
-stands wO t = not (isLit t || isRef t)
-stands wK t = not (isLit t || isQual t)
-stands wV t = not (isLit t || isQual t)
+stands w-p t = not (is-lit t)
+stands wR t = not (is-lit t || is-ref t)
+stands wO t = not (is-lit t || is-ref t)
+stands wK t = not (is-lit t || is-qual t)
+stands wV t = not (is-lit t || is-qual t)
 
 -- "one or more types": no literals
-abbrev pub allTypes : Args → Bool
-allTypes (one t) = not (isLit t)
-allTypes (also t xs) = not (isLit t) && allTypes xs
+abbrev pub all-types : Args → Bool
+all-types (one t) = not (is-lit t)
+all-types (also t xs) = not (is-lit t) && all-types xs
 
 -- ---------------------------------------------------------------- the table
 
 abbrev pub push : Ty → List Ty → List Ty
 push t us = us ++ (t ∷ [])
 
-unfoldable pub lastIs : Ty → List Ty → Bool
-lastIs t [] = false
-lastIs t (u ∷ []) = sameTy t u
-lastIs t (u ∷ v ∷ us) = lastIs t (v ∷ us)
+unfoldable pub last-is : Ty → List Ty → Bool
+last-is t [] = false
+last-is t (u ∷ []) = same-ty t u
+last-is t (u ∷ v ∷ us) = last-is t (v ∷ us)
 
 -- a nested type is entered only where the newest entry is another (the grammar's `nested-type`)
-unfoldable pub pushNew : Ty → List Ty → List Ty
-pushNew t us = if lastIs t us then us else push t us
+unfoldable pub push-new : Ty → List Ty → List Ty
+push-new t us = if last-is t us then us else push t us
 
 -- ---------------------------------------------------------------- what a spelling resolves to
 
@@ -159,9 +159,9 @@ pub data Res (A : Type 0) : Type 0 where
   ok : A → List Ty → Res A
   wrong : Res A
 
-abbrev pub andThen : {A B : Type 0} → Res A → (A → List Ty → Res B) → Res B
-andThen (ok x us) f = f x us
-andThen wrong f = wrong
+abbrev pub and-then : {A B : Type 0} → Res A → (A → List Ty → Res B) → Res B
+and-then (ok x us) f = f x us
+and-then wrong f = wrong
 
 abbrev pub provided : {A : Type 0} → Bool → Res A → Res A
 provided true r = r
@@ -173,118 +173,118 @@ entry (some t) us = ok t us
 
 unfoldable mutual
   pub resolve : Sp → List Ty → Res Ty
-  resolve (sLetter l) us = ok (letter l) us
-  resolve (sWrap c s) us = andThen (resolve s us) (λ t vs. provided (stands c t) (ok (wrap c t) (push (wrap c t) vs)))
-  resolve (sRef i) us = entry (getElem? us i) us
-  resolve (plain n) us = provided (nameOk n) (ok (root n) (push (root n) us))
+  resolve (s-letter l) us = ok (letter l) us
+  resolve (s-wrap c s) us = and-then (resolve s us) (λ t vs. provided (stands c t) (ok (wrap c t) (push (wrap c t) vs)))
+  resolve (s-ref i) us = entry (getElem? us i) us
+  resolve (plain n) us = provided (name-ok n) (ok (root n) (push (root n) us))
   resolve (templ n ss) us =
-      provided (nameOk n)
-      (andThen (resolveArgs ss (push (root n) us)) (λ xs vs. ok (app (root n) xs) (push (app (root n) xs) vs)))
+      provided (name-ok n)
+      (and-then (resolve-args ss (push (root n) us)) (λ xs vs. ok (app (root n) xs) (push (app (root n) xs) vs)))
   -- "Arguments attach only to a part without them. Outside `N`, arguments after a reference need an entry of one part."
   resolve (retempl i ss) us =
-      andThen (entry (getElem? us i) us)
-      (λ t us′. provided (single t && isBare t) (andThen (resolveArgs ss us′) (λ xs vs. ok (app t xs) (push (app t xs) vs))))
-  resolve (nestSub q n) us = andThen (resolvePre q us) (λ t vs. provided (nameOk n) (ok (sub t n) (pushNew (sub t n) vs)))
+      and-then (entry (getElem? us i) us)
+      (λ t us′. provided (single t && is-bare t) (and-then (resolve-args ss us′) (λ xs vs. ok (app t xs) (push (app t xs) vs))))
+  resolve (nest-sub q n) us = and-then (resolve-pre q us) (λ t vs. provided (name-ok n) (ok (sub t n) (push-new (sub t n) vs)))
   -- "the whole has two or more parts"
-  resolve (nestApp q ss) us =
-      andThen (resolvePre q us)
-      (λ t us′. provided (not (single t) && isBare t) (andThen (resolveArgs ss us′) (λ xs vs. ok (app t xs) (push (app t xs) vs))))
-  resolve (sLit k g v) us = provided (litOk k g v) (ok (lit k g v) us)
+  resolve (nest-app q ss) us =
+      and-then (resolve-pre q us)
+      (λ t us′. provided (not (single t) && is-bare t) (and-then (resolve-args ss us′) (λ xs vs. ok (app t xs) (push (app t xs) vs))))
+  resolve (s-lit k g v) us = provided (lit-ok k g v) (ok (lit k g v) us)
 
   -- "A reference to a class may stand for leading parts"
-  pub resolvePre : Pre → List Ty → Res Ty
-  resolvePre (pRef i) us = andThen (entry (getElem? us i) us) (λ t vs. provided (isClass t) (ok t vs))
-  resolvePre (pRoot n) us = provided (nameOk n) (ok (root n) (push (root n) us))
-  resolvePre (pSub q n) us = andThen (resolvePre q us) (λ t vs. provided (nameOk n) (ok (sub t n) (push (sub t n) vs)))
-  resolvePre (pApp q ss) us =
-      andThen (resolvePre q us)
-      (λ t us′. provided (isBare t) (andThen (resolveArgs ss us′) (λ xs vs. ok (app t xs) (push (app t xs) vs))))
+  pub resolve-pre : Pre → List Ty → Res Ty
+  resolve-pre (p-ref i) us = and-then (entry (getElem? us i) us) (λ t vs. provided (is-class t) (ok t vs))
+  resolve-pre (p-root n) us = provided (name-ok n) (ok (root n) (push (root n) us))
+  resolve-pre (p-sub q n) us = and-then (resolve-pre q us) (λ t vs. provided (name-ok n) (ok (sub t n) (push (sub t n) vs)))
+  resolve-pre (p-app q ss) us =
+      and-then (resolve-pre q us)
+      (λ t us′. provided (is-bare t) (and-then (resolve-args ss us′) (λ xs vs. ok (app t xs) (push (app t xs) vs))))
 
-  pub resolveArgs : SpArgs → List Ty → Res Args
-  resolveArgs (sOne s) us = andThen (resolve s us) (λ t vs. ok (one t) vs)
-  resolveArgs (sAlso s ss) us = andThen (resolve s us) (λ t us′. andThen (resolveArgs ss us′) (λ xs vs. ok (also t xs) vs))
+  pub resolve-args : SpArgs → List Ty → Res Args
+  resolve-args (s-one s) us = and-then (resolve s us) (λ t vs. ok (one t) vs)
+  resolve-args (s-also s ss) us = and-then (resolve s us) (λ t us′. and-then (resolve-args ss us′) (λ xs vs. ok (also t xs) vs))
 
 -- ---------------------------------------------------------------- whole symbols
 
 -- the last part of a function's name makes no entry (the grammar's `new-prefix`)
-unfoldable pub resolveName : SpName → Res Ty
-resolveName (flat n) = provided (nameOk n) (ok (root n) [])
-resolveName (scoped c q n) = andThen (resolvePre q []) (λ t us. provided (nameOk n) (ok (sub t n) us))
+unfoldable pub resolve-name : SpName → Res Ty
+resolve-name (flat n) = provided (name-ok n) (ok (root n) [])
+resolve-name (scoped c q n) = and-then (resolve-pre q []) (λ t us. provided (name-ok n) (ok (sub t n) us))
 
-unfoldable pub resolveParams : Option SpArgs → List Ty → Res (Option Args)
-resolveParams none us = ok none us
-resolveParams (some ss) us = andThen (resolveArgs ss us) (λ xs vs. provided (allTypes xs) (ok (some xs) vs))
+unfoldable pub resolve-params : Option SpArgs → List Ty → Res (Option Args)
+resolve-params none us = ok none us
+resolve-params (some ss) us = and-then (resolve-args ss us) (λ xs vs. provided (all-types xs) (ok (some xs) vs))
 
-abbrev pub isConst : SpName → Bool
-isConst (flat n) = false
-isConst (scoped c q n) = c
+abbrev pub is-const : SpName → Bool
+is-const (flat n) = false
+is-const (scoped c q n) = c
 
-abbrev pub hasParams : {A : Type 0} → Option A → Bool
-hasParams none = false
-hasParams (some x) = true
+abbrev pub has-params : {A : Type 0} → Option A → Bool
+has-params none = false
+has-params (some x) = true
 
 -- "after a name with `K` always one or more types"
-unfoldable pub resolveSym : Sym → Res Enc
-resolveSym (symbol m ps) =
-    provided (not (isConst m) || hasParams ps)
-    (andThen (resolveName m) (λ t us. andThen (resolveParams ps us) (λ xs vs. ok (enc (isConst m) t xs) vs)))
+unfoldable pub resolve-sym : Sym → Res Enc
+resolve-sym (symbol m ps) =
+    provided (not (is-const m) || has-params ps)
+    (and-then (resolve-name m) (λ t us. and-then (resolve-params ps us) (λ xs vs. ok (enc (is-const m) t xs) vs)))
 
 -- ---------------------------------------------------------------- arguments as written
 
 abbrev pub number : SpArgs → ℕ
-number (sOne s) = 1
-number (sAlso s ss) = suc (number ss)
+number (s-one s) = 1
+number (s-also s ss) = suc (number ss)
 
 unfoldable mutual
   pub count : Sp → ℕ
-  count (sLetter l) = 0
-  count (sWrap c s) = count s
-  count (sRef i) = 0
+  count (s-letter l) = 0
+  count (s-wrap c s) = count s
+  count (s-ref i) = 0
   count (plain n) = 0
-  count (templ n ss) = countArgs ss + number ss
-  count (retempl i ss) = countArgs ss + number ss
-  count (nestSub q n) = countPre q
-  count (nestApp q ss) = countPre q + (countArgs ss + number ss)
-  count (sLit k g v) = 0
+  count (templ n ss) = count-args ss + number ss
+  count (retempl i ss) = count-args ss + number ss
+  count (nest-sub q n) = count-pre q
+  count (nest-app q ss) = count-pre q + (count-args ss + number ss)
+  count (s-lit k g v) = 0
 
-  pub countPre : Pre → ℕ
-  countPre (pRef i) = 0
-  countPre (pRoot n) = 0
-  countPre (pSub q n) = countPre q
-  countPre (pApp q ss) = countPre q + (countArgs ss + number ss)
+  pub count-pre : Pre → ℕ
+  count-pre (p-ref i) = 0
+  count-pre (p-root n) = 0
+  count-pre (p-sub q n) = count-pre q
+  count-pre (p-app q ss) = count-pre q + (count-args ss + number ss)
 
-  pub countArgs : SpArgs → ℕ
-  countArgs (sOne s) = count s
-  countArgs (sAlso s ss) = count s + countArgs ss
+  pub count-args : SpArgs → ℕ
+  count-args (s-one s) = count s
+  count-args (s-also s ss) = count s + count-args ss
 
-abbrev pub countName : SpName → ℕ
-countName (flat n) = 0
-countName (scoped c q n) = countPre q
+abbrev pub count-name : SpName → ℕ
+count-name (flat n) = 0
+count-name (scoped c q n) = count-pre q
 
-abbrev pub countParams : Option SpArgs → ℕ
-countParams none = 0
-countParams (some ss) = countArgs ss
+abbrev pub count-params : Option SpArgs → ℕ
+count-params none = 0
+count-params (some ss) = count-args ss
 
-unfoldable pub countSym : Sym → ℕ
-countSym (symbol m ps) = countName m + countParams ps
+unfoldable pub count-sym : Sym → ℕ
+count-sym (symbol m ps) = count-name m + count-params ps
 
 abbrev pub most-arguments : ℕ
 most-arguments = 1024
 
 -- "All lists of arguments as written have together at most 1,024 arguments."
-unfoldable pub countOk : Sym → Bool
-countOk σ = leb (countSym σ) most-arguments
+unfoldable pub count-ok : Sym → Bool
+count-ok σ = leb (count-sym σ) most-arguments
 
 -- ---------------------------------------------------------------- the class
 
 -- the tree of a written symbol that keeps all the rules, its references resolved, and the table after it
 unfoldable pub valid : Sym → Res Enc
-valid σ = provided (countOk σ) (resolveSym σ)
+valid σ = provided (count-ok σ) (resolve-sym σ)
 
 -- the text is a catalogue symbol (document 01), of any length: a written symbol that keeps the rules spells it
 pub record Catalogue (s : Text) : Type 0 where
   pub written : Sym
   pub tree : Enc
   pub table : List Ty
-  pub spells : spellSym written ≡ s
+  pub spells : spell-sym written ≡ s
   pub holds : valid written ≡ ok tree table

@@ -8,45 +8,45 @@ use Rattle.grammar.specs.Tables.{Row, _⇒_, letters}
 use Rattle.grammar.specs.Reader.{word-for}
 use Rattle.grammar.specs.Grammar.{index}
 use Rattle.catalogue.specs.Bytes.{text-discrete, and-left, and-right, not-true, same-eq}
-use Rattle.catalogue.specs.Tree.{ty-discrete, sameTy, word, print, Enc, printEnc}
-use Rattle.catalogue.specs.Spelling.{digitOf, base36, refDigits, spell, spellSym}
+use Rattle.catalogue.specs.Tree.{ty-discrete, same-ty, word, print, Enc, print-enc}
+use Rattle.catalogue.specs.Spelling.{digit-of, base36, ref-digits, spell, spell-sym}
 use Rattle.catalogue.specs.Class.{
-  wordByte,
+  word-byte,
   reserved,
   listed,
-  nameOk,
+  name-ok,
   numeral,
-  litOk,
+  lit-ok,
   stands,
-  lastIs,
-  pushNew,
+  last-is,
+  push-new,
   Res,
   ok,
   wrong,
   resolve,
-  resolveName,
-  resolveParams,
-  resolveSym,
+  resolve-name,
+  resolve-params,
+  resolve-sym,
   count,
-  countSym,
-  countOk,
+  count-sym,
+  count-ok,
   valid,
   Catalogue,
 }
-use Rattle.catalogue.specs.Normal.{seek, after, normal, normalSym, write, normalOf}
+use Rattle.catalogue.specs.Normal.{seek, after, normal, normal-sym, write, normal-of}
 use Rattle.catalogue.specs.Recogniser.{
   cut,
-  readName,
-  readRef,
-  withCode,
-  readLit,
+  read-name,
+  read-ref,
+  with-code,
+  read-lit,
   lead,
   parse,
-  parseTypes,
-  parseSym,
+  parse-types,
+  parse-sym,
   classify,
 }
-use Rattle.catalogue.specs.Decision.{isCatalogue, classify-sound, decides}
+use Rattle.catalogue.specs.Decision.{is-catalogue, classify-sound, decides}
 
 -- ---------------------------------------------------------------- the tables
 
@@ -146,8 +146,8 @@ outside =
 -- the symbol is in the class, and has this normal symbol and this name
 pub record Written (s n p : Text) : Type 0 where
   pub is : Catalogue s
-  pub normal-symbol : normalOf is ≡ n
-  pub name : printEnc (is .tree) ≡ p
+  pub normal-symbol : normal-of is ≡ n
+  pub name : print-enc (is .tree) ≡ p
 
 abbrev pub Normals : Rows → Type 0
 Normals [] = Unit {0}
@@ -158,34 +158,34 @@ Outside [] = Unit {0}
 Outside (w ∷ ws) = (Catalogue (b w) → ⊥) × Outside ws
 
 abbrev agrees : Res Enc → Text → Text → Bool
-agrees (ok e us) n p = same (write e) n && same (printEnc e) p
+agrees (ok e us) n p = same (write e) n && same (print-enc e) p
 agrees wrong n p = false
 
 unfoldable agreeing : Rows → Bool
 unfolding
     b if_then_else_ choose same run past digit digit-value number decimal letters word-for index
-    text-discrete ty-discrete sameTy word print printEnc digitOf base36 refDigits spell spellSym
-    wordByte reserved listed nameOk numeral litOk stands lastIs pushNew resolve resolveName resolveParams resolveSym count countSym countOk valid
-    seek after normal normalSym write cut readName readRef withCode readLit lead parse parseTypes parseSym classify
+    text-discrete ty-discrete same-ty word print print-enc digit-of base36 ref-digits spell spell-sym
+    word-byte reserved listed name-ok numeral lit-ok stands last-is push-new resolve resolve-name resolve-params resolve-sym count count-sym count-ok valid
+    seek after normal normal-sym write cut read-name read-ref with-code read-lit lead parse parse-types parse-sym classify
 agreeing [] = true
 agreeing ((w ⇒ (n, p)) ∷ rows) = agrees (classify (b w)) (b n) (b p) && agreeing rows
 
 unfoldable failing : List String → Bool
 unfolding
     b if_then_else_ choose same run past digit digit-value number decimal letters word-for index
-    text-discrete ty-discrete sameTy word print printEnc digitOf base36 refDigits spell spellSym
-    wordByte reserved listed nameOk numeral litOk stands lastIs pushNew resolve resolveName resolveParams resolveSym count countSym countOk valid
-    cut readName readRef withCode readLit lead parse parseTypes parseSym classify isCatalogue
+    text-discrete ty-discrete same-ty word print print-enc digit-of base36 ref-digits spell spell-sym
+    word-byte reserved listed name-ok numeral lit-ok stands last-is push-new resolve resolve-name resolve-params resolve-sym count count-sym count-ok valid
+    cut read-name read-ref with-code read-lit lead parse parse-types parse-sym classify is-catalogue
 failing [] = true
-failing (w ∷ ws) = not (isCatalogue (b w)) && failing ws
+failing (w ∷ ws) = not (is-catalogue (b w)) && failing ws
 
 agrees-written : (s : Text) (r : Res Enc) (n p : Text) → classify s ≡ r → agrees r n p ≡ true → Written s n p
 agrees-written s (ok e us) n p h k =
     let (c, t, u) = classify-sound s e us h in
     record {
       is = c;
-      normal-symbol = ap write t ∙ same-eq (write e) n (and-left (same (write e) n) (same (printEnc e) p) k);
-      name = ap printEnc t ∙ same-eq (printEnc e) p (and-right (same (write e) n) (same (printEnc e) p) k);
+      normal-symbol = ap write t ∙ same-eq (write e) n (and-left (same (write e) n) (same (print-enc e) p) k);
+      name = ap print-enc t ∙ same-eq (print-enc e) p (and-right (same (write e) n) (same (print-enc e) p) k);
     }
 agrees-written s wrong n p h k = absurd (false≢true k)
 
@@ -201,8 +201,8 @@ by-failing : (ws : List String) → failing ws ≡ true → Outside ws
 unfolding failing
 by-failing [] h = tt
 by-failing (w ∷ ws) h = (
-  (λ d. false≢true (sym (not-true (isCatalogue (b w)) (and-left (not (isCatalogue (b w))) (failing ws) h)) ∙ decides (b w) .1 d)),
-  by-failing ws (and-right (not (isCatalogue (b w))) (failing ws) h),
+  (λ d. false≢true (sym (not-true (is-catalogue (b w)) (and-left (not (is-catalogue (b w))) (failing ws) h)) ∙ decides (b w) .1 d)),
+  by-failing ws (and-right (not (is-catalogue (b w))) (failing ws) h),
 )
 
 pub normals-hold : Normals normals

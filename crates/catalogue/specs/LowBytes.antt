@@ -17,9 +17,9 @@ use Rattle.catalogue.specs.Tree.{
   Letter,
   Wrap,
   Kind,
-  letterCode,
-  wrapCode,
-  kindCode,
+  letter-code,
+  wrap-code,
+  kind-code,
   lv,
   lw,
   lb,
@@ -41,7 +41,7 @@ use Rattle.catalogue.specs.Tree.{
   le,
   lg,
   lz,
-  wP,
+  w-p,
   wR,
   wO,
   wK,
@@ -58,38 +58,38 @@ use Rattle.catalogue.specs.Spelling.{
   SpArgs,
   SpName,
   Sym,
-  sLetter,
-  sWrap,
-  sRef,
+  s-letter,
+  s-wrap,
+  s-ref,
   plain,
   templ,
   retempl,
-  nestSub,
-  nestApp,
-  sLit,
-  pRef,
-  pRoot,
-  pSub,
-  pApp,
-  sOne,
-  sAlso,
+  nest-sub,
+  nest-app,
+  s-lit,
+  p-ref,
+  p-root,
+  p-sub,
+  p-app,
+  s-one,
+  s-also,
   flat,
   scoped,
   symbol,
-  refDigits,
-  refBytes,
-  lengthDigits,
-  nameBytes,
+  ref-digits,
+  ref-bytes,
+  length-digits,
+  name-bytes,
   minus,
   spell,
-  spellPre,
-  spellArgs,
-  constByte,
-  spellName,
-  spellParams,
-  spellSym,
+  spell-pre,
+  spell-args,
+  const-byte,
+  spell-name,
+  spell-params,
+  spell-sym,
 }
-use Rattle.catalogue.specs.Class.{wordByte, listed, reserved, nameOk, ok, resolveSym, Catalogue}
+use Rattle.catalogue.specs.Class.{word-byte, listed, reserved, name-ok, ok, resolve-sym, Catalogue}
 use Rattle.catalogue.specs.Numbers.{digit-36, decimal-all, ref-all}
 use Rattle.catalogue.specs.ReadsBack.{OkSp, OkPre, OkArgs}
 use Rattle.catalogue.specs.SymbolReadsBack.{OkName, OkParams, OkSym, sym-ok}
@@ -108,8 +108,8 @@ digit-small c h = go (between 48 57 c) refl (between 65 90 c) refl (between 97 1
     go false e false f true g k = let z = leb-true c 122 (and-right (leb 97 c) (leb c 122) g) in omega arith
     go false e false f false g k = absurd (false≢true k)
 
-word-small : (c : ℕ) → wordByte c ≡ true → c < 128
-unfolding wordByte
+word-small : (c : ℕ) → word-byte c ≡ true → c < 128
+unfolding word-byte
 word-small c h = go (digit 36 c) refl h
   where
     go : (p : Bool) → digit 36 c ≡ p → p || eqb c 95 ≡ true → c < 128
@@ -127,28 +127,28 @@ unfolding high
 low-append [] y h k = k
 low-append (c ∷ x) y h k = or-no (leb 128 c) (high (x ++ y)) (or-left (leb 128 c) (high x) h) (low-append x y (or-right (leb 128 c) (high x) h) k)
 
-name-all : (n : Text) → nameOk n ≡ true → all wordByte n ≡ true
-unfolding nameOk
+name-all : (n : Text) → name-ok n ≡ true → all word-byte n ≡ true
+unfolding name-ok
 name-all [] h = refl
 name-all (c ∷ n) h =
-    and-left (all wordByte (c ∷ n)) (not (listed (c ∷ n) reserved))
-    (and-right (not (digit 10 c)) (all wordByte (c ∷ n) && not (listed (c ∷ n) reserved)) h)
+    and-left (all word-byte (c ∷ n)) (not (listed (c ∷ n) reserved))
+    (and-right (not (digit 10 c)) (all word-byte (c ∷ n) && not (listed (c ∷ n) reserved)) h)
 
 digits-low : (v : Text) → all (digit 10) v ≡ true → high v ≡ false
 digits-low v h = low-all (digit 10) (λ c k. digit-small c (digit-36 c k)) v h
 
-name-low : (n : Text) → nameOk n ≡ true → high (nameBytes n) ≡ false
+name-low : (n : Text) → name-ok n ≡ true → high (name-bytes n) ≡ false
 name-low n h =
-    low-append (lengthDigits n) n (digits-low (lengthDigits n) (decimal-all (suc (length n)) (length n)))
-    (low-all wordByte word-small n (name-all n h))
+    low-append (length-digits n) n (digits-low (length-digits n) (decimal-all (suc (length n)) (length n)))
+    (low-all word-byte word-small n (name-all n h))
 
-ref-low : (i : ℕ) → high (refBytes i) ≡ false
+ref-low : (i : ℕ) → high (ref-bytes i) ≡ false
 unfolding high
-ref-low i = low-append (refDigits i) (95 ∷ []) (low-all (digit 36) digit-small (refDigits i) (ref-all i)) refl
+ref-low i = low-append (ref-digits i) (95 ∷ []) (low-all (digit 36) digit-small (ref-digits i) (ref-all i)) refl
 
 -- ---------------------------------------------------------------- spellings
 
-pub letter-low : (l : Letter) → leb 128 (letterCode l) ≡ false
+pub letter-low : (l : Letter) → leb 128 (letter-code l) ≡ false
 letter-low lv = refl
 letter-low lw = refl
 letter-low lb = refl
@@ -171,14 +171,14 @@ letter-low le = refl
 letter-low lg = refl
 letter-low lz = refl
 
-pub wrap-low : (c : Wrap) → leb 128 (wrapCode c) ≡ false
-wrap-low wP = refl
+pub wrap-low : (c : Wrap) → leb 128 (wrap-code c) ≡ false
+wrap-low w-p = refl
 wrap-low wR = refl
 wrap-low wO = refl
 wrap-low wK = refl
 wrap-low wV = refl
 
-pub kind-low : (k : Kind) → leb 128 (kindCode k) ≡ false
+pub kind-low : (k : Kind) → leb 128 (kind-code k) ≡ false
 kind-low kb = refl
 kind-low ki = refl
 kind-low kj = refl
@@ -194,55 +194,55 @@ mutual
   unfolding spell high
 
   spell-low : (s : Sp) → OkSp s → high (spell s) ≡ false
-  spell-low (sLetter l) o = or-no (leb 128 (letterCode l)) false (letter-low l) refl
-  spell-low (sWrap c s) o = or-no (leb 128 (wrapCode c)) (high (spell s)) (wrap-low c) (spell-low s o)
-  spell-low (sRef i) o = ref-low i
+  spell-low (s-letter l) o = or-no (leb 128 (letter-code l)) false (letter-low l) refl
+  spell-low (s-wrap c s) o = or-no (leb 128 (wrap-code c)) (high (spell s)) (wrap-low c) (spell-low s o)
+  spell-low (s-ref i) o = ref-low i
   spell-low (plain n) o = name-low n o
   spell-low (templ n ss) o =
-      low-append (nameBytes n) (73 ∷ (spellArgs ss ++ (69 ∷ []))) (name-low n (o .0)) (low-append (spellArgs ss) (69 ∷ []) (args-low ss (o .1)) refl)
+      low-append (name-bytes n) (73 ∷ (spell-args ss ++ (69 ∷ []))) (name-low n (o .0)) (low-append (spell-args ss) (69 ∷ []) (args-low ss (o .1)) refl)
   spell-low (retempl i ss) o =
-      low-append (refBytes i) (73 ∷ (spellArgs ss ++ (69 ∷ []))) (ref-low i) (low-append (spellArgs ss) (69 ∷ []) (args-low ss o) refl)
-  spell-low (nestSub q n) o =
-      low-append (spellPre q) (nameBytes n ++ (69 ∷ [])) (pre-low q (o .0)) (low-append (nameBytes n) (69 ∷ []) (name-low n (o .1)) refl)
-  spell-low (nestApp q ss) o =
-      low-append (spellPre q) (73 ∷ (spellArgs ss ++ (69 ∷ 69 ∷ []))) (pre-low q (o .0)) (low-append (spellArgs ss) (69 ∷ 69 ∷ []) (args-low ss (o .1)) refl)
-  spell-low (sLit k g v) o =
-      or-no (leb 128 (kindCode k)) (high (minus g ++ (v ++ (69 ∷ [])))) (kind-low k)
+      low-append (ref-bytes i) (73 ∷ (spell-args ss ++ (69 ∷ []))) (ref-low i) (low-append (spell-args ss) (69 ∷ []) (args-low ss o) refl)
+  spell-low (nest-sub q n) o =
+      low-append (spell-pre q) (name-bytes n ++ (69 ∷ [])) (pre-low q (o .0)) (low-append (name-bytes n) (69 ∷ []) (name-low n (o .1)) refl)
+  spell-low (nest-app q ss) o =
+      low-append (spell-pre q) (73 ∷ (spell-args ss ++ (69 ∷ 69 ∷ []))) (pre-low q (o .0)) (low-append (spell-args ss) (69 ∷ 69 ∷ []) (args-low ss (o .1)) refl)
+  spell-low (s-lit k g v) o =
+      or-no (leb 128 (kind-code k)) (high (minus g ++ (v ++ (69 ∷ [])))) (kind-low k)
       (low-append (minus g) (v ++ (69 ∷ [])) (minus-low g) (low-append v (69 ∷ []) (digits-low v o) refl))
 
-  pre-low : (q : Pre) → OkPre q → high (spellPre q) ≡ false
-  pre-low (pRef i) o = ref-low i
-  pre-low (pRoot n) o = name-low n o
-  pre-low (pSub q n) o = low-append (spellPre q) (nameBytes n) (pre-low q (o .0)) (name-low n (o .1))
-  pre-low (pApp q ss) o =
-      low-append (spellPre q) (73 ∷ (spellArgs ss ++ (69 ∷ []))) (pre-low q (o .0)) (low-append (spellArgs ss) (69 ∷ []) (args-low ss (o .1)) refl)
+  pre-low : (q : Pre) → OkPre q → high (spell-pre q) ≡ false
+  pre-low (p-ref i) o = ref-low i
+  pre-low (p-root n) o = name-low n o
+  pre-low (p-sub q n) o = low-append (spell-pre q) (name-bytes n) (pre-low q (o .0)) (name-low n (o .1))
+  pre-low (p-app q ss) o =
+      low-append (spell-pre q) (73 ∷ (spell-args ss ++ (69 ∷ []))) (pre-low q (o .0)) (low-append (spell-args ss) (69 ∷ []) (args-low ss (o .1)) refl)
 
-  args-low : (ss : SpArgs) → OkArgs ss → high (spellArgs ss) ≡ false
-  args-low (sOne s) o = spell-low s o
-  args-low (sAlso s ss) o = low-append (spell s) (spellArgs ss) (spell-low s (o .0)) (args-low ss (o .1))
+  args-low : (ss : SpArgs) → OkArgs ss → high (spell-args ss) ≡ false
+  args-low (s-one s) o = spell-low s o
+  args-low (s-also s ss) o = low-append (spell s) (spell-args ss) (spell-low s (o .0)) (args-low ss (o .1))
 
-const-low : (c : Bool) → high (constByte c) ≡ false
+const-low : (c : Bool) → high (const-byte c) ≡ false
 unfolding high
 const-low true = refl
 const-low false = refl
 
-function-low : (m : SpName) → OkName m → high (spellName m) ≡ false
+function-low : (m : SpName) → OkName m → high (spell-name m) ≡ false
 unfolding high
 function-low (flat n) o = name-low n o
 function-low (scoped c q n) o =
-    low-append (constByte c) (spellPre q ++ (nameBytes n ++ (69 ∷ []))) (const-low c)
-    (low-append (spellPre q) (nameBytes n ++ (69 ∷ [])) (pre-low q (o .0)) (low-append (nameBytes n) (69 ∷ []) (name-low n (o .1)) refl))
+    low-append (const-byte c) (spell-pre q ++ (name-bytes n ++ (69 ∷ []))) (const-low c)
+    (low-append (spell-pre q) (name-bytes n ++ (69 ∷ [])) (pre-low q (o .0)) (low-append (name-bytes n) (69 ∷ []) (name-low n (o .1)) refl))
 
-params-low : (ps : Option SpArgs) → OkParams ps → high (spellParams ps) ≡ false
+params-low : (ps : Option SpArgs) → OkParams ps → high (spell-params ps) ≡ false
 unfolding high
 params-low none o = refl
 params-low (some ss) o = args-low ss o
 
-sym-low : (σ : Sym) → OkSym σ → high (spellSym σ) ≡ false
-unfolding spellSym high
-sym-low (symbol m ps) o = low-append (spellName m) (spellParams ps) (function-low m (o .0)) (params-low ps (o .1))
+sym-low : (σ : Sym) → OkSym σ → high (spell-sym σ) ≡ false
+unfolding spell-sym high
+sym-low (symbol m ps) o = low-append (spell-name m) (spell-params ps) (function-low m (o .0)) (params-low ps (o .1))
 
-pub resolved-low : (σ : Sym) (e : Enc) (us : List Ty) → resolveSym σ ≡ ok e us → high (spellSym σ) ≡ false
+pub resolved-low : (σ : Sym) (e : Enc) (us : List Ty) → resolve-sym σ ≡ ok e us → high (spell-sym σ) ≡ false
 resolved-low σ e us h = sym-low σ (sym-ok σ e us h)
 
 pub catalogue-low : {s : Text} → Catalogue s → high s ≡ false

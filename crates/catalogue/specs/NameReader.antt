@@ -45,7 +45,7 @@ use Rattle.catalogue.specs.Tree.{
   le,
   lg,
   lz,
-  wP,
+  w-p,
   wR,
   wO,
   wK,
@@ -56,7 +56,7 @@ use Rattle.catalogue.specs.Tree.{
   kl,
   km,
 }
-use Rattle.catalogue.specs.Words.{Token, aWord, aMark, lex}
+use Rattle.catalogue.specs.Words.{Token, a-word, a-mark, lex}
 
 -- ---------------------------------------------------------------- words with a meaning
 
@@ -96,14 +96,14 @@ phrases =
     ∷ "long double" ⇒ letter le
     ∷ []
 
-unfoldable pub kindOf : Text → Kind
-kindOf m = if same m (b "u") then kj else if same m (b "l") then kl else if same m (b "ul") then km else ki
+unfoldable pub kind-of : Text → Kind
+kind-of m = if same m (b "u") then kj else if same m (b "l") then kl else if same m (b "ul") then km else ki
 
-unfoldable pub numberOf : Bool → Text → Ty
-numberOf g x = lit (kindOf (past (digit 10) x)) g (run (digit 10) x)
+unfoldable pub number-of : Bool → Text → Ty
+number-of g x = lit (kind-of (past (digit 10) x)) g (run (digit 10) x)
 
-unfoldable pub fromWord : Text → Ty
-fromWord x = if first (digit 10) x then numberOf false x else find x words (root x)
+unfoldable pub from-word : Text → Ty
+from-word x = if first (digit 10) x then number-of false x else find x words (root x)
 
 -- ---------------------------------------------------------------- the automaton
 
@@ -112,7 +112,7 @@ pub data Bracket : Type 0 where
   angle paren : Bracket
 
 pub data Frame : Type 0 where
-  atName : Frame
+  at-name : Frame
   items : Bracket → Ty → List Ty → Frame
 
 pub data State : Type 0 where
@@ -126,8 +126,8 @@ pub data State : Type 0 where
   dot : List Frame → State
   dots : List Frame → State
   closed : Ty → Args → State
-  closedGap : Ty → Args → State
-  closedConst : Ty → Args → State
+  closed-gap : Ty → Args → State
+  closed-const : Ty → Args → State
   bad : State
 
 -- items, last first, put in order before those that follow
@@ -138,7 +138,7 @@ gather (t ∷ ts) xs = gather ts (also t xs)
 -- & is R, and a second & makes it O: R never stands on R
 abbrev pub ampersand : Ty → Ty
 ampersand (letter l) = wrap wR (letter l)
-ampersand (wrap wP t) = wrap wR (wrap wP t)
+ampersand (wrap w-p t) = wrap wR (wrap w-p t)
 ampersand (wrap wR t) = wrap wO t
 ampersand (wrap wO t) = wrap wR (wrap wO t)
 ampersand (wrap wK t) = wrap wR (wrap wK t)
@@ -148,52 +148,52 @@ ampersand (sub t n) = wrap wR (sub t n)
 ampersand (app t xs) = wrap wR (app t xs)
 ampersand (lit k g v) = wrap wR (lit k g v)
 
-abbrev closeAngle : Ty → List Frame → State
-closeAngle t [] = bad
-closeAngle t (atName ∷ k) = bad
-closeAngle t (items angle c ts ∷ k) = have (app c (gather ts (one t))) k
-closeAngle t (items paren c ts ∷ k) = bad
+abbrev close-angle : Ty → List Frame → State
+close-angle t [] = bad
+close-angle t (at-name ∷ k) = bad
+close-angle t (items angle c ts ∷ k) = have (app c (gather ts (one t))) k
+close-angle t (items paren c ts ∷ k) = bad
 
-abbrev nextItem : Ty → List Frame → State
-nextItem t [] = bad
-nextItem t (atName ∷ k) = bad
-nextItem t (items m c ts ∷ k) = comma (items m c (t ∷ ts) ∷ k)
+abbrev next-item : Ty → List Frame → State
+next-item t [] = bad
+next-item t (at-name ∷ k) = bad
+next-item t (items m c ts ∷ k) = comma (items m c (t ∷ ts) ∷ k)
 
-abbrev openParen : Ty → List Frame → State
-openParen t [] = bad
-openParen t (atName ∷ k) = want (items paren t [] ∷ [])
-openParen t (items m c ts ∷ k) = bad
+abbrev open-paren : Ty → List Frame → State
+open-paren t [] = bad
+open-paren t (at-name ∷ k) = want (items paren t [] ∷ [])
+open-paren t (items m c ts ∷ k) = bad
 
-abbrev closeParen : Ty → List Frame → State
-closeParen t [] = bad
-closeParen t (atName ∷ k) = bad
-closeParen t (items angle c ts ∷ k) = bad
-closeParen t (items paren c ts ∷ k) = closed c (gather ts (one t))
+abbrev close-paren : Ty → List Frame → State
+close-paren t [] = bad
+close-paren t (at-name ∷ k) = bad
+close-paren t (items angle c ts ∷ k) = bad
+close-paren t (items paren c ts ∷ k) = closed c (gather ts (one t))
 
 -- () is a lone void
-abbrev noItem : List Frame → State
-noItem [] = bad
-noItem (atName ∷ k) = bad
-noItem (items angle c ts ∷ k) = bad
-noItem (items paren c ts ∷ k) = closed c (one (letter lv))
+abbrev no-item : List Frame → State
+no-item [] = bad
+no-item (at-name ∷ k) = bad
+no-item (items angle c ts ∷ k) = bad
+no-item (items paren c ts ∷ k) = closed c (one (letter lv))
 
-abbrev atWant : List Frame → ℕ → State
-atWant k c =
+abbrev at-want : List Frame → ℕ → State
+at-want k c =
     if eqb c (code "-") then minus k else
     if eqb c (code ".") then dot k else
-    if eqb c (code ")") then noItem k else bad
+    if eqb c (code ")") then no-item k else bad
 
-abbrev atHave : Ty → List Frame → ℕ → State
-atHave t k c =
-    if eqb c (code "*") then have (wrap wP t) k else
+abbrev at-have : Ty → List Frame → ℕ → State
+at-have t k c =
+    if eqb c (code "*") then have (wrap w-p t) k else
     if eqb c (code "&") then have (ampersand t) k else
     if eqb c (code " ") then gap t k else
     if eqb c (code ":") then colon t k else
     if eqb c (code "<") then want (items angle t [] ∷ k) else
-    if eqb c (code ">") then closeAngle t k else
-    if eqb c (code ",") then nextItem t k else
-    if eqb c (code "(") then openParen t k else
-    if eqb c (code ")") then closeParen t k else bad
+    if eqb c (code ">") then close-angle t k else
+    if eqb c (code ",") then next-item t k else
+    if eqb c (code "(") then open-paren t k else
+    if eqb c (code ")") then close-paren t k else bad
 
 -- a word after a space: const or volatile, or the next word of a phrase
 abbrev joined : Ty → Text → Ty
@@ -202,32 +202,32 @@ joined t x =
     if same x (b "volatile") then wrap wV t else find (print t ++ (code " " ∷ x)) phrases t
 
 unfoldable pub step : State → Token → State
-step (want k) (aWord x) = have (fromWord x) k
-step (want k) (aMark c) = atWant k c
-step (have t k) (aWord x) = bad
-step (have t k) (aMark c) = atHave t k c
-step (gap t k) (aWord x) = have (joined t x) k
-step (gap t k) (aMark c) = if eqb c (code ">") then closeAngle t k else bad
-step (colon t k) (aWord x) = bad
-step (colon t k) (aMark c) = if eqb c (code ":") then scope t k else bad
-step (scope t k) (aWord x) = have (sub t x) k
-step (scope t k) (aMark c) = bad
-step (comma k) (aWord x) = bad
-step (comma k) (aMark c) = if eqb c (code " ") then want k else bad
-step (minus k) (aWord x) = have (numberOf true x) k
-step (minus k) (aMark c) = bad
-step (dot k) (aWord x) = bad
-step (dot k) (aMark c) = if eqb c (code ".") then dots k else bad
-step (dots k) (aWord x) = bad
-step (dots k) (aMark c) = if eqb c (code ".") then have (letter lz) k else bad
-step (closed t xs) (aWord x) = bad
-step (closed t xs) (aMark c) = if eqb c (code " ") then closedGap t xs else bad
-step (closedGap t xs) (aWord x) = if same x (b "const") then closedConst t xs else bad
-step (closedGap t xs) (aMark c) = bad
-step (closedConst t xs) (aWord x) = bad
-step (closedConst t xs) (aMark c) = bad
-step bad (aWord x) = bad
-step bad (aMark c) = bad
+step (want k) (a-word x) = have (from-word x) k
+step (want k) (a-mark c) = at-want k c
+step (have t k) (a-word x) = bad
+step (have t k) (a-mark c) = at-have t k c
+step (gap t k) (a-word x) = have (joined t x) k
+step (gap t k) (a-mark c) = if eqb c (code ">") then close-angle t k else bad
+step (colon t k) (a-word x) = bad
+step (colon t k) (a-mark c) = if eqb c (code ":") then scope t k else bad
+step (scope t k) (a-word x) = have (sub t x) k
+step (scope t k) (a-mark c) = bad
+step (comma k) (a-word x) = bad
+step (comma k) (a-mark c) = if eqb c (code " ") then want k else bad
+step (minus k) (a-word x) = have (number-of true x) k
+step (minus k) (a-mark c) = bad
+step (dot k) (a-word x) = bad
+step (dot k) (a-mark c) = if eqb c (code ".") then dots k else bad
+step (dots k) (a-word x) = bad
+step (dots k) (a-mark c) = if eqb c (code ".") then have (letter lz) k else bad
+step (closed t xs) (a-word x) = bad
+step (closed t xs) (a-mark c) = if eqb c (code " ") then closed-gap t xs else bad
+step (closed-gap t xs) (a-word x) = if same x (b "const") then closed-const t xs else bad
+step (closed-gap t xs) (a-mark c) = bad
+step (closed-const t xs) (a-word x) = bad
+step (closed-const t xs) (a-mark c) = bad
+step bad (a-word x) = bad
+step bad (a-mark c) = bad
 
 unfoldable pub walk : List Token → State → State
 walk [] q = q
@@ -236,8 +236,8 @@ walk (t ∷ ts) q = walk ts (step q t)
 unfoldable pub result : State → Option Enc
 result (want k) = none
 result (have t []) = none
-result (have t (atName ∷ [])) = some (enc false t none)
-result (have t (atName ∷ f ∷ k)) = none
+result (have t (at-name ∷ [])) = some (enc false t none)
+result (have t (at-name ∷ f ∷ k)) = none
 result (have t (items m c ts ∷ k)) = none
 result (gap t k) = none
 result (colon t k) = none
@@ -247,10 +247,10 @@ result (minus k) = none
 result (dot k) = none
 result (dots k) = none
 result (closed t xs) = some (enc false t (some xs))
-result (closedGap t xs) = none
-result (closedConst t xs) = some (enc true t (some xs))
+result (closed-gap t xs) = none
+result (closed-const t xs) = some (enc true t (some xs))
 result bad = none
 
 -- the tree of a printed name
-unfoldable pub parseName : Text → Option Enc
-parseName s = result (walk (lex s) (want (atName ∷ [])))
+unfoldable pub parse-name : Text → Option Enc
+parse-name s = result (walk (lex s) (want (at-name ∷ [])))

@@ -22,52 +22,52 @@ use Rattle.catalogue.specs.Tree.{
   also,
   enc,
   print,
-  printArgs,
-  printEnc,
+  print-args,
+  print-enc,
 }
-use Rattle.catalogue.specs.Spelling.{Sym, spellSym}
-use Rattle.catalogue.specs.Class.{ok, resolveSym, countSym, Catalogue}
-use Rattle.catalogue.specs.Normal.{afterParams, afterName, normalSym, afterSym, write, normalOf}
+use Rattle.catalogue.specs.Spelling.{Sym, spell-sym}
+use Rattle.catalogue.specs.Class.{ok, resolve-sym, count-sym, Catalogue}
+use Rattle.catalogue.specs.Normal.{after-params, after-name, normal-sym, after-sym, write, normal-of}
 use Rattle.catalogue.specs.WellFormed.{WfEnc, post-is, sym-wf}
 use Rattle.catalogue.specs.Back.{print-injective}
-use Rattle.catalogue.specs.NormalTree.{resolveSym-normal}
-use Rattle.catalogue.specs.SymbolReadsBack.{parseSym-spell}
-use Rattle.catalogue.specs.NoDoubles.{NoDup, afterPre-nodup, afterArgs-nodup, sum, sum-within}
-use Rattle.catalogue.specs.Limits.{shortSym, shortSym-length, depthSym, Same}
-use Rattle.catalogue.specs.AnySpelling.{BesideSym, agreeSym}
-use Rattle.catalogue.specs.Count.{nargs, Counted, countedSym}
+use Rattle.catalogue.specs.NormalTree.{resolve-sym-normal}
+use Rattle.catalogue.specs.SymbolReadsBack.{parse-sym-spell}
+use Rattle.catalogue.specs.NoDoubles.{NoDup, after-pre-nodup, after-args-nodup, sum, sum-within}
+use Rattle.catalogue.specs.Limits.{short-sym, short-sym-length, depth-sym, Same}
+use Rattle.catalogue.specs.AnySpelling.{BesideSym, agree-sym}
+use Rattle.catalogue.specs.Count.{nargs, Counted, counted-sym}
 use Rattle.catalogue.specs.Decision.{valid-of, resolves, few, tree-wf, unique-tree}
 
 -- ---------------------------------------------------------------- no entry twice
 
-name-nodup : (t : Ty) → NoDup (afterName t)
+name-nodup : (t : Ty) → NoDup (after-name t)
 unfolding NoDup
 name-nodup (letter l) = tt
 name-nodup (wrap c t) = tt
 name-nodup (root n) = tt
-name-nodup (sub t n) = afterPre-nodup t [] tt
+name-nodup (sub t n) = after-pre-nodup t [] tt
 name-nodup (app t xs) = tt
 name-nodup (lit k g v) = tt
 
-params-nodup : (ps : Option Args) (us : List Ty) → NoDup us → NoDup (afterParams ps us)
+params-nodup : (ps : Option Args) (us : List Ty) → NoDup us → NoDup (after-params ps us)
 params-nodup none us d = d
-params-nodup (some xs) us d = afterArgs-nodup xs us d
+params-nodup (some xs) us d = after-args-nodup xs us d
 
-pub sym-nodup : (e : Enc) → NoDup (afterSym e)
-unfolding afterSym
-sym-nodup (enc c t ps) = params-nodup ps (afterName t) (name-nodup t)
+pub sym-nodup : (e : Enc) → NoDup (after-sym e)
+unfolding after-sym
+sym-nodup (enc c t ps) = params-nodup ps (after-name t) (name-nodup t)
 
 -- ---------------------------------------------------------------- weights of an entry
 
-abbrev pub weightOne : Ty → ℕ
-weightOne t = 1
+abbrev pub weight-one : Ty → ℕ
+weight-one t = 1
 
 abbrev pub printed : Ty → ℕ
 printed t = length (print t)
 
-unfoldable pub argBytes : Args → ℕ
-argBytes (one t) = length (print t)
-argBytes (also t xs) = length (print t) + argBytes xs
+unfoldable pub arg-bytes : Args → ℕ
+arg-bytes (one t) = length (print t)
+arg-bytes (also t xs) = length (print t) + arg-bytes xs
 
 -- the bytes of the arguments of an entry's last list
 abbrev pub nbytes : Ty → ℕ
@@ -75,11 +75,11 @@ nbytes (letter l) = 0
 nbytes (wrap c t) = 0
 nbytes (root n) = 0
 nbytes (sub t n) = 0
-nbytes (app t xs) = argBytes xs
+nbytes (app t xs) = arg-bytes xs
 nbytes (lit k g v) = 0
 
-args-printed : (xs : Args) → argBytes xs ≤ length (printArgs xs)
-unfolding argBytes print
+args-printed : (xs : Args) → arg-bytes xs ≤ length (print-args xs)
+unfolding arg-bytes print
 args-printed (one t) = omega arith
 args-printed (also t xs) = let k = args-printed xs in simp length-append (omega arith)
 
@@ -92,7 +92,7 @@ nbytes-printed (sub t n) = omega arith
 nbytes-printed (app t xs) = let k = args-printed xs in simp length-append (omega arith)
 nbytes-printed (lit k g v) = omega arith
 
-pub sum-one : (us : List Ty) → sum weightOne us ≡ length us
+pub sum-one : (us : List Ty) → sum weight-one us ≡ length us
 unfolding sum
 sum-one [] = refl
 sum-one (u ∷ us) = let k = sum-one us in omega arith
@@ -106,41 +106,41 @@ sum-le f g h (u ∷ us) = let k = sum-le f g h us in let l = h u in omega arith
 
 -- the normal symbol of the tree e beside the symbol σ of that tree with the table us
 pub record NoLarger (σ : Sym) (e : Enc) (us : List Ty) : Type 0 where
-  pub entries : length (afterSym e) ≤ length us
-  pub bytes : sum printed (afterSym e) ≤ sum printed us
-  pub open-readings : depthSym (normalSym e) ≤ depthSym σ
-  pub arguments : countSym (normalSym e) ≤ countSym σ
-  pub argument-bytes : sum nbytes (afterSym e) ≤ sum printed us
-  pub shortest : shortSym (normalSym e) ≤ length (spellSym σ)  -- each reference of the normal symbol counted as two bytes
+  pub entries : length (after-sym e) ≤ length us
+  pub bytes : sum printed (after-sym e) ≤ sum printed us
+  pub open-readings : depth-sym (normal-sym e) ≤ depth-sym σ
+  pub arguments : count-sym (normal-sym e) ≤ count-sym σ
+  pub argument-bytes : sum nbytes (after-sym e) ≤ sum printed us
+  pub shortest : short-sym (normal-sym e) ≤ length (spell-sym σ)  -- each reference of the normal symbol counted as two bytes
 
-module _ (σ : Sym) (e : Enc) (us : List Ty) (h : resolveSym σ ≡ ok e us) where
+module _ (σ : Sym) (e : Enc) (us : List Ty) (h : resolve-sym σ ≡ ok e us) where
   -- the tables of any two symbols of one tree have the same entries
-  pub same-entries : Same us (afterSym e)
-  same-entries = post-is (BesideSym σ) (resolveSym σ) e us h (agreeSym σ) .0
+  pub same-entries : Same us (after-sym e)
+  same-entries = post-is (BesideSym σ) (resolve-sym σ) e us h (agree-sym σ) .0
 
   -- any weight of entries sums to no more in the normal symbol's table
-  pub sum-no-larger : (f : Ty → ℕ) → sum f (afterSym e) ≤ sum f us
-  sum-no-larger f = sum-within f (afterSym e) us (sym-nodup e) (λ x k. same-entries x ∙ k)
+  pub sum-no-larger : (f : Ty → ℕ) → sum f (after-sym e) ≤ sum f us
+  sum-no-larger f = sum-within f (after-sym e) us (sym-nodup e) (λ x k. same-entries x ∙ k)
 
-  pub fewer-arguments : countSym (normalSym e) ≤ countSym σ
+  pub fewer-arguments : count-sym (normal-sym e) ≤ count-sym σ
   unfolding sum
   fewer-arguments =
-      let a : sum nargs us ≡ sum nargs [] + countSym σ = post-is (Counted [] (countSym σ)) (resolveSym σ) e us h (countedSym σ) in
-      let n : sum nargs (afterSym e) ≡ sum nargs [] + countSym (normalSym e) =
-      post-is (Counted [] (countSym (normalSym e))) (resolveSym (normalSym e)) e (afterSym e)
-      (resolveSym-normal e (sym-wf σ e us h)) (countedSym (normalSym e)) in
+      let a : sum nargs us ≡ sum nargs [] + count-sym σ = post-is (Counted [] (count-sym σ)) (resolve-sym σ) e us h (counted-sym σ) in
+      let n : sum nargs (after-sym e) ≡ sum nargs [] + count-sym (normal-sym e) =
+      post-is (Counted [] (count-sym (normal-sym e))) (resolve-sym (normal-sym e)) e (after-sym e)
+      (resolve-sym-normal e (sym-wf σ e us h)) (counted-sym (normal-sym e)) in
       let w = sum-no-larger nargs in
       omega arith
 
   pub no-larger : NoLarger σ e us
   no-larger =
-      let r = post-is (BesideSym σ) (resolveSym σ) e us h (agreeSym σ) in
-      let k = sum-no-larger weightOne in
-      let l = sum-one (afterSym e) in
+      let r = post-is (BesideSym σ) (resolve-sym σ) e us h (agree-sym σ) in
+      let k = sum-no-larger weight-one in
+      let l = sum-one (after-sym e) in
       let l′ = sum-one us in
       let p = sum-no-larger printed in
-      let q = sum-le nbytes printed nbytes-printed (afterSym e) in
-      let m = shortSym-length σ in
+      let q = sum-le nbytes printed nbytes-printed (after-sym e) in
+      let m = short-sym-length σ in
       let n = r .2 in
       record {
         entries = omega arith;
@@ -154,26 +154,26 @@ module _ (σ : Sym) (e : Enc) (us : List Ty) (h : resolveSym σ ≡ ok e us) whe
 -- ---------------------------------------------------------------- the normal symbol is a catalogue symbol
 
 -- of the same tree, with the table of the normal writing
-unfoldable pub normal-catalogue : {s : Text} (c : Catalogue s) → Catalogue (normalOf c)
+unfoldable pub normal-catalogue : {s : Text} (c : Catalogue s) → Catalogue (normal-of c)
 unfolding write
 normal-catalogue c =
     let h = fewer-arguments (c .written) (c .tree) (c .table) (resolves c) in
     let k = few c in
     record {
-      written = normalSym (c .tree);
+      written = normal-sym (c .tree);
       tree = c .tree;
-      table = afterSym (c .tree);
+      table = after-sym (c .tree);
       spells = refl;
-      holds = valid-of (normalSym (c .tree)) (c .tree) (afterSym (c .tree)) (resolveSym-normal (c .tree) (tree-wf c)) (omega arith);
+      holds = valid-of (normal-sym (c .tree)) (c .tree) (after-sym (c .tree)) (resolve-sym-normal (c .tree) (tree-wf c)) (omega arith);
     }
 
 -- whatever way the normal symbol is found to be a catalogue symbol, its tree is the same
-pub normal-tree : {s : Text} (c : Catalogue s) (d : Catalogue (normalOf c)) → d .tree ≡ c .tree
+pub normal-tree : {s : Text} (c : Catalogue s) (d : Catalogue (normal-of c)) → d .tree ≡ c .tree
 unfolding normal-catalogue
 normal-tree c d = unique-tree d (normal-catalogue c)
 
 -- it is its own normal symbol
-pub normal-normal : {s : Text} (c : Catalogue s) (d : Catalogue (normalOf c)) → normalOf d ≡ normalOf c
+pub normal-normal : {s : Text} (c : Catalogue s) (d : Catalogue (normal-of c)) → normal-of d ≡ normal-of c
 normal-normal c d = ap write (normal-tree c d)
 
 -- ---------------------------------------------------------------- names and normal symbols
@@ -181,16 +181,16 @@ normal-normal c d = ap write (normal-tree c d)
 pub write-injective : (d e : Enc) → WfEnc d → WfEnc e → write d ≡ write e → d ≡ e
 unfolding write
 write-injective d e f g h =
-    let r₁ = resolveSym-normal d f in
-    let r₂ = resolveSym-normal e g in
-    let k₁ = parseSym-spell (normalSym d) d (afterSym d) r₁ in
-    let k₂ = parseSym-spell (normalSym e) e (afterSym e) r₂ in
+    let r₁ = resolve-sym-normal d f in
+    let r₂ = resolve-sym-normal e g in
+    let k₁ = parse-sym-spell (normal-sym d) d (after-sym d) r₁ in
+    let k₂ = parse-sym-spell (normal-sym e) e (after-sym e) r₂ in
     cc
 
 -- on trees: normal symbols are equal exactly when printed names are
-pub names-normals : (d e : Enc) → WfEnc d → WfEnc e → (write d ≡ write e) ↔ (printEnc d ≡ printEnc e)
-names-normals d e f g = ((λ h. ap printEnc (write-injective d e f g h)), (λ h. ap write (print-injective d e f g h)))
+pub names-normals : (d e : Enc) → WfEnc d → WfEnc e → (write d ≡ write e) ↔ (print-enc d ≡ print-enc e)
+names-normals d e f g = ((λ h. ap print-enc (write-injective d e f g h)), (λ h. ap write (print-injective d e f g h)))
 
 -- for every two catalogue symbols, however long their normal symbols
-pub names-normals-of : {s t : Text} (c : Catalogue s) (d : Catalogue t) → (normalOf c ≡ normalOf d) ↔ (printEnc (c .tree) ≡ printEnc (d .tree))
+pub names-normals-of : {s t : Text} (c : Catalogue s) (d : Catalogue t) → (normal-of c ≡ normal-of d) ↔ (print-enc (c .tree) ≡ print-enc (d .tree))
 names-normals-of c d = names-normals (c .tree) (d .tree) (tree-wf c) (tree-wf d)

@@ -9,12 +9,12 @@ use borrow.Author.Tests.{ltb-true, ltb-false, leb-true, le-leb, lt-leb, lt-ltb, 
 use Rattle.grammar.specs.Text.{Text, if_then_else_, between, digit-value, digit, number, decimal}
 use Rattle.grammar.specs.Grammar.{index}
 use Rattle.catalogue.specs.Bytes.{all, all-append, and-left, and-right}
-use Rattle.catalogue.specs.Spelling.{digitOf, base36, refDigits}
+use Rattle.catalogue.specs.Spelling.{digit-of, base36, ref-digits}
 
 -- ---------------------------------------------------------------- one digit
 
-pub value-digit : (d : ℕ) → d < 36 → digit-value (digitOf d) ≡ d
-unfolding digit-value digitOf if_then_else_
+pub value-digit : (d : ℕ) → d < 36 → digit-value (digit-of d) ≡ d
+unfolding digit-value digit-of if_then_else_
 value-digit d h = go (ltb d 10) refl
   where
     go : (p : Bool) → ltb d 10 ≡ p → digit-value (if p then 48 + d else 65 + (d - 10)) ≡ d
@@ -46,18 +46,18 @@ pub digit-36 : (c : ℕ) → digit 10 c ≡ true → digit 36 c ≡ true
 unfolding digit
 digit-36 c h = let k = ltb-true (digit-value c) 10 h in lt-ltb (digit-value c) 36 (omega arith)
 
-digitOf-10 : (d : ℕ) → d < 10 → digitOf d ≡ 48 + d
-unfolding digitOf if_then_else_
-digitOf-10 d h = rw (lt-ltb d 10 h) refl
+digit-of-10 : (d : ℕ) → d < 10 → digit-of d ≡ 48 + d
+unfolding digit-of if_then_else_
+digit-of-10 d h = rw (lt-ltb d 10 h) refl
 
 pub decimal-value-digit : (d : ℕ) → d < 10 → digit-value (48 + d) ≡ d
-decimal-value-digit d h = let k : d < 36 = omega arith in rw (digitOf-10 d h) at (value-digit d k)
+decimal-value-digit d h = let k : d < 36 = omega arith in rw (digit-of-10 d h) at (value-digit d k)
 
 decimal-digit : (d : ℕ) → d < 10 → digit 10 (48 + d) ≡ true
 unfolding digit
 decimal-digit d h = rw (decimal-value-digit d h) (lt-ltb d 10 h)
 
-base36-digit : (d : ℕ) → d < 36 → digit 36 (digitOf d) ≡ true
+base36-digit : (d : ℕ) → d < 36 → digit 36 (digit-of d) ≡ true
 unfolding digit
 base36-digit d h = rw (value-digit d h) (lt-ltb d 36 h)
 
@@ -115,11 +115,11 @@ base36-value zero n h = rw (value-digit n (omega arith)) (omega arith)
 base36-value (suc k) n h = go (ltb n 36) refl (λ l. base36-value k (n / 36) l)
   where
     go : (p : Bool) → ltb n 36 ≡ p → (n / 36 ≤ k → number 36 0 (base36 k (n / 36)) ≡ n / 36)
-        → number 36 0 (if p then digitOf n ∷ [] else base36 k (n / 36) ++ (digitOf (n % 36) ∷ [])) ≡ n
+        → number 36 0 (if p then digit-of n ∷ [] else base36 k (n / 36) ++ (digit-of (n % 36) ∷ [])) ≡ n
     go true e ih = rw (value-digit n (ltb-true n 36 e)) (omega arith)
     go false e ih =
         let l = ltb-false n 36 e in
-        rw (number-snoc 36 0 (digitOf (n % 36)) (base36 k (n / 36)), ih (omega arith), value-digit (n % 36) (omega arith)) (omega arith)
+        rw (number-snoc 36 0 (digit-of (n % 36)) (base36 k (n / 36)), ih (omega arith), value-digit (n % 36) (omega arith)) (omega arith)
 
 base36-all : (k n : ℕ) → n ≤ k → all (digit 36) (base36 k n) ≡ true
 unfolding base36 if_then_else_
@@ -127,33 +127,33 @@ base36-all zero n h = rw (base36-digit n (omega arith)) refl
 base36-all (suc k) n h = go (ltb n 36) refl (λ l. base36-all k (n / 36) l)
   where
     go : (p : Bool) → ltb n 36 ≡ p → (n / 36 ≤ k → all (digit 36) (base36 k (n / 36)) ≡ true)
-        → all (digit 36) (if p then digitOf n ∷ [] else base36 k (n / 36) ++ (digitOf (n % 36) ∷ [])) ≡ true
+        → all (digit 36) (if p then digit-of n ∷ [] else base36 k (n / 36) ++ (digit-of (n % 36) ∷ [])) ≡ true
     go true e ih = rw (base36-digit n (ltb-true n 36 e)) refl
     go false e ih =
         let l = ltb-false n 36 e in
-        all-append (digit 36) (base36 k (n / 36)) (digitOf (n % 36) ∷ []) (ih (omega arith)) (rw (base36-digit (n % 36) (omega arith)) refl)
+        all-append (digit 36) (base36 k (n / 36)) (digit-of (n % 36) ∷ []) (ih (omega arith)) (rw (base36-digit (n % 36) (omega arith)) refl)
 
 base36-some : (k n : ℕ) → Some (base36 k n)
 unfolding base36 if_then_else_
 base36-some zero n = tt
 base36-some (suc k) n = go (ltb n 36)
   where
-    go : (p : Bool) → Some (if p then digitOf n ∷ [] else base36 k (n / 36) ++ (digitOf (n % 36) ∷ []))
+    go : (p : Bool) → Some (if p then digit-of n ∷ [] else base36 k (n / 36) ++ (digit-of (n % 36) ∷ []))
     go true = tt
-    go false = some-snoc (base36 k (n / 36)) (digitOf (n % 36))
+    go false = some-snoc (base36 k (n / 36)) (digit-of (n % 36))
 
 index-some : (t : Text) → Some t → index 36 t ≡ suc (number 36 0 t)
 unfolding index
 index-some [] h = absurd h
 index-some (c ∷ t) h = omega arith
 
-pub ref-all : (i : ℕ) → all (digit 36) (refDigits i) ≡ true
-unfolding refDigits
+pub ref-all : (i : ℕ) → all (digit 36) (ref-digits i) ≡ true
+unfolding ref-digits
 ref-all zero = refl
 ref-all (suc i) = base36-all i i (omega arith)
 
 -- the grammar reads the digits of a reference as its number
-pub ref-index : (i : ℕ) → index 36 (refDigits i) ≡ i
-unfolding refDigits index
+pub ref-index : (i : ℕ) → index 36 (ref-digits i) ≡ i
+unfolding ref-digits index
 ref-index zero = refl
 ref-index (suc i) = index-some (base36 i i) (base36-some i i) ∙ ap suc (base36-value i i (omega arith))

@@ -14,9 +14,9 @@ use Rattle.catalogue.specs.Tree.{
   Wrap,
   Kind,
   Enc,
-  letterCode,
-  wrapCode,
-  kindCode,
+  letter-code,
+  wrap-code,
+  kind-code,
   lv,
   lw,
   lb,
@@ -38,7 +38,7 @@ use Rattle.catalogue.specs.Tree.{
   le,
   lg,
   lz,
-  wP,
+  w-p,
   wR,
   wO,
   wK,
@@ -55,25 +55,25 @@ use Rattle.catalogue.specs.Spelling.{
   SpArgs,
   SpName,
   Sym,
-  sLetter,
-  sWrap,
-  sRef,
+  s-letter,
+  s-wrap,
+  s-ref,
   plain,
   templ,
   retempl,
-  nestSub,
-  nestApp,
-  sLit,
-  pRef,
-  pRoot,
-  pSub,
-  pApp,
-  sOne,
-  sAlso,
+  nest-sub,
+  nest-app,
+  s-lit,
+  p-ref,
+  p-root,
+  p-sub,
+  p-app,
+  s-one,
+  s-also,
   flat,
   scoped,
   symbol,
-  spellSym,
+  spell-sym,
 }
 use Rattle.catalogue.specs.Class.{Res, wrong, provided, valid}
 
@@ -87,178 +87,178 @@ bind (rd x r) f = f x r
 bind stop f = stop
 
 -- where the byte comes next, what stands after it
-abbrev pub ifNext : {A : Type 0} → ℕ → Text → (Text → A) → A → A
-ifNext c [] f x = x
-ifNext c (d ∷ r) f x = if eqb d c then f r else x
+abbrev pub if-next : {A : Type 0} → ℕ → Text → (Text → A) → A → A
+if-next c [] f x = x
+if-next c (d ∷ r) f x = if eqb d c then f r else x
 
 -- ---------------------------------------------------------------- leaves
 
 unfoldable pub cut : ℕ → Text → Rd Text
 cut n r = if leb n (length r) then rd (take n r) (drop n r) else stop
 
-unfoldable pub readName : Text → Rd Text
-readName s = cut (number 10 0 (run (digit 10) s)) (past (digit 10) s)
+unfoldable pub read-name : Text → Rd Text
+read-name s = cut (number 10 0 (run (digit 10) s)) (past (digit 10) s)
 
 -- behind S
-unfoldable pub readRef : Text → Rd ℕ
-readRef s = ifNext (code "_") (past (digit 36) s) (λ r. rd (index 36 (run (digit 36) s)) r) stop
+unfoldable pub read-ref : Text → Rd ℕ
+read-ref s = if-next (code "_") (past (digit 36) s) (λ r. rd (index 36 (run (digit 36) s)) r) stop
 
 -- the one that has the byte
-unfoldable pub withCode : {A : Type 0} → (A → ℕ) → ℕ → List A → Option A
-withCode f c [] = none
-withCode f c (x ∷ xs) = if eqb c (f x) then some x else withCode f c xs
+unfoldable pub with-code : {A : Type 0} → (A → ℕ) → ℕ → List A → Option A
+with-code f c [] = none
+with-code f c (x ∷ xs) = if eqb c (f x) then some x else with-code f c xs
 
-abbrev pub allLetters : List Letter
-allLetters =
+abbrev pub all-letters : List Letter
+all-letters =
     lv ∷ lw ∷ lb ∷ lc ∷ la ∷ lh ∷ ls ∷ lt ∷ li ∷ lj ∷ ll ∷ lm ∷ lx ∷ ly ∷ ln ∷ lo ∷ lf ∷ ld ∷ le ∷ lg ∷ lz ∷ []
 
-abbrev pub allWraps : List Wrap
-allWraps = wP ∷ wR ∷ wO ∷ wK ∷ wV ∷ []
+abbrev pub all-wraps : List Wrap
+all-wraps = w-p ∷ wR ∷ wO ∷ wK ∷ wV ∷ []
 
-abbrev pub allKinds : List Kind
-allKinds = kb ∷ ki ∷ kj ∷ kl ∷ km ∷ []
+abbrev pub all-kinds : List Kind
+all-kinds = kb ∷ ki ∷ kj ∷ kl ∷ km ∷ []
 
-abbrev pub withKind : Option Kind → Bool → Text → Rd Sp
-withKind none g s = stop
-withKind (some k) g s = ifNext (code "E") (past (digit 10) s) (λ r. rd (sLit k g (run (digit 10) s)) r) stop
+abbrev pub with-kind : Option Kind → Bool → Text → Rd Sp
+with-kind none g s = stop
+with-kind (some k) g s = if-next (code "E") (past (digit 10) s) (λ r. rd (s-lit k g (run (digit 10) s)) r) stop
 
 abbrev pub signed : Option Kind → Text → Rd Sp
-signed k s = ifNext (code "n") s (λ r. withKind k true r) (withKind k false s)
+signed k s = if-next (code "n") s (λ r. with-kind k true r) (with-kind k false s)
 
 -- behind L
-unfoldable pub readLit : Text → Rd Sp
-readLit [] = stop
-readLit (c ∷ s) = signed (withCode kindCode c allKinds) s
+unfoldable pub read-lit : Text → Rd Sp
+read-lit [] = stop
+read-lit (c ∷ s) = signed (with-code kind-code c all-kinds) s
 
 -- ---------------------------------------------------------------- the first byte
 
 pub data Lead : Type 0 where
-  leadLetter : Letter → Lead
-  leadWrap : Wrap → Lead
-  leadDigit leadS leadN leadL leadNone : Lead
+  lead-letter : Letter → Lead
+  lead-wrap : Wrap → Lead
+  lead-digit leadS leadN leadL leadNone : Lead
 
 unfoldable pub lead : ℕ → Lead
 lead c =
-    if digit 10 c then leadDigit else
+    if digit 10 c then lead-digit else
     if eqb c (code "S") then leadS else
     if eqb c (code "N") then leadN else
     if eqb c (code "L") then leadL else
-    choose (withCode wrapCode c allWraps) leadWrap (choose (withCode letterCode c allLetters) leadLetter leadNone)
+    choose (with-code wrap-code c all-wraps) lead-wrap (choose (with-code letter-code c all-letters) lead-letter leadNone)
 
 -- at E: N with one part is no class
 abbrev pub finish : Pre → Text → Rd Sp
-finish (pRef i) r = stop
-finish (pRoot n) r = stop
-finish (pSub q n) r = rd (nestSub q n) r
-finish (pApp q ss) r = rd (nestApp q ss) r
+finish (p-ref i) r = stop
+finish (p-root n) r = stop
+finish (p-sub q n) r = rd (nest-sub q n) r
+finish (p-app q ss) r = rd (nest-app q ss) r
 
-abbrev pub atLead : Lead → ℕ → Text → (Text → Rd Sp) → (Text → Rd SpArgs) → (Text → Rd Sp) → Rd Sp
-atLead (leadLetter l) c s type args nest = rd (sLetter l) s
-atLead (leadWrap w) c s type args nest = bind (type s) (λ x r. rd (sWrap w x) r)
-atLead leadDigit c s type args nest =
-    bind (readName (c ∷ s)) (λ n r. ifNext (code "I") r (λ r′. bind (args r′) (λ ss r″. rd (templ n ss) r″)) (rd (plain n) r))
-atLead leadS c s type args nest =
-    bind (readRef s) (λ i r. ifNext (code "I") r (λ r′. bind (args r′) (λ ss r″. rd (retempl i ss) r″)) (rd (sRef i) r))
-atLead leadN c s type args nest = nest s
-atLead leadL c s type args nest = readLit s
-atLead leadNone c s type args nest = stop
+abbrev pub at-lead : Lead → ℕ → Text → (Text → Rd Sp) → (Text → Rd SpArgs) → (Text → Rd Sp) → Rd Sp
+at-lead (lead-letter l) c s type args nest = rd (s-letter l) s
+at-lead (lead-wrap w) c s type args nest = bind (type s) (λ x r. rd (s-wrap w x) r)
+at-lead lead-digit c s type args nest =
+    bind (read-name (c ∷ s)) (λ n r. if-next (code "I") r (λ r′. bind (args r′) (λ ss r″. rd (templ n ss) r″)) (rd (plain n) r))
+at-lead leadS c s type args nest =
+    bind (read-ref s) (λ i r. if-next (code "I") r (λ r′. bind (args r′) (λ ss r″. rd (retempl i ss) r″)) (rd (s-ref i) r))
+at-lead leadN c s type args nest = nest s
+at-lead leadL c s type args nest = read-lit s
+at-lead leadNone c s type args nest = stop
 
-abbrev pub atNest : Lead → ℕ → Text → (Pre → Text → Rd Sp) → Rd Sp
-atNest (leadLetter l) c s more = stop
-atNest (leadWrap w) c s more = stop
-atNest leadDigit c s more = bind (readName (c ∷ s)) (λ n r. more (pRoot n) r)
-atNest leadS c s more = bind (readRef s) (λ i r. more (pRef i) r)
-atNest leadN c s more = stop
-atNest leadL c s more = stop
-atNest leadNone c s more = stop
+abbrev pub at-nest : Lead → ℕ → Text → (Pre → Text → Rd Sp) → Rd Sp
+at-nest (lead-letter l) c s more = stop
+at-nest (lead-wrap w) c s more = stop
+at-nest lead-digit c s more = bind (read-name (c ∷ s)) (λ n r. more (p-root n) r)
+at-nest leadS c s more = bind (read-ref s) (λ i r. more (p-ref i) r)
+at-nest leadN c s more = stop
+at-nest leadL c s more = stop
+at-nest leadNone c s more = stop
 
-abbrev pub atMore : Bool → Bool → Pre → ℕ → Text → (Text → Rd SpArgs) → (Pre → Text → Rd Sp) → Rd Sp
-atMore true i q c s args more = finish q s
-atMore false true q c s args more = bind (args s) (λ ss r. more (pApp q ss) r)
-atMore false false q c s args more = bind (readName (c ∷ s)) (λ n r. more (pSub q n) r)
+abbrev pub at-more : Bool → Bool → Pre → ℕ → Text → (Text → Rd SpArgs) → (Pre → Text → Rd Sp) → Rd Sp
+at-more true i q c s args more = finish q s
+at-more false true q c s args more = bind (args s) (λ ss r. more (p-app q ss) r)
+at-more false false q c s args more = bind (read-name (c ∷ s)) (λ n r. more (p-sub q n) r)
 
-abbrev pub atArg : Sp → Text → (Text → Rd SpArgs) → Rd SpArgs
-atArg x r args = ifNext (code "E") r (λ r′. rd (sOne x) r′) (bind (args r) (λ ss r′. rd (sAlso x ss) r′))
+abbrev pub at-arg : Sp → Text → (Text → Rd SpArgs) → Rd SpArgs
+at-arg x r args = if-next (code "E") r (λ r′. rd (s-one x) r′) (bind (args r) (λ ss r′. rd (s-also x ss) r′))
 
 -- ---------------------------------------------------------------- the productions
 
 -- the number counts down; it is never below the number of bytes left
 unfoldable mutual
-  unfolding atLead atNest atMore atArg
+  unfolding at-lead at-nest at-more at-arg
 
   pub parse : ℕ → Text → Rd Sp
   parse zero s = stop
   parse (suc f) [] = stop
-  parse (suc f) (c ∷ s) = atLead (lead c) c s (λ r. parse f r) (λ r. parseArgs f r) (λ r. parseNest f r)
+  parse (suc f) (c ∷ s) = at-lead (lead c) c s (λ r. parse f r) (λ r. parse-args f r) (λ r. parse-nest f r)
 
   -- behind N
-  pub parseNest : ℕ → Text → Rd Sp
-  parseNest zero s = stop
-  parseNest (suc f) [] = stop
-  parseNest (suc f) (c ∷ s) = atNest (lead c) c s (λ q r. parseMore f q r)
+  pub parse-nest : ℕ → Text → Rd Sp
+  parse-nest zero s = stop
+  parse-nest (suc f) [] = stop
+  parse-nest (suc f) (c ∷ s) = at-nest (lead c) c s (λ q r. parse-more f q r)
 
-  pub parseMore : ℕ → Pre → Text → Rd Sp
-  parseMore zero q s = stop
-  parseMore (suc f) q [] = stop
-  parseMore (suc f) q (c ∷ s) = atMore (eqb c (code "E")) (eqb c (code "I")) q c s (λ r. parseArgs f r) (λ t r. parseMore f t r)
+  pub parse-more : ℕ → Pre → Text → Rd Sp
+  parse-more zero q s = stop
+  parse-more (suc f) q [] = stop
+  parse-more (suc f) q (c ∷ s) = at-more (eqb c (code "E")) (eqb c (code "I")) q c s (λ r. parse-args f r) (λ t r. parse-more f t r)
 
   -- behind I
-  pub parseArgs : ℕ → Text → Rd SpArgs
-  parseArgs zero s = stop
-  parseArgs (suc f) s = bind (parse f s) (λ x r. atArg x r (λ r′. parseArgs f r′))
+  pub parse-args : ℕ → Text → Rd SpArgs
+  parse-args zero s = stop
+  parse-args (suc f) s = bind (parse f s) (λ x r. at-arg x r (λ r′. parse-args f r′))
 
 -- ---------------------------------------------------------------- whole symbols
 
 -- a function's name is a class without arguments at its end, read as a type
-abbrev pub toName : Bool → Rd Sp → Rd SpName
-toName c stop = stop
-toName c (rd (sLetter l) r) = stop
-toName c (rd (sWrap d s) r) = stop
-toName c (rd (sRef i) r) = stop
-toName c (rd (plain n) r) = rd (flat n) r
-toName c (rd (templ n ss) r) = stop
-toName c (rd (retempl i ss) r) = stop
-toName c (rd (nestSub q n) r) = rd (scoped c q n) r
-toName c (rd (nestApp q ss) r) = stop
-toName c (rd (sLit k g v) r) = stop
+abbrev pub to-name : Bool → Rd Sp → Rd SpName
+to-name c stop = stop
+to-name c (rd (s-letter l) r) = stop
+to-name c (rd (s-wrap d s) r) = stop
+to-name c (rd (s-ref i) r) = stop
+to-name c (rd (plain n) r) = rd (flat n) r
+to-name c (rd (templ n ss) r) = stop
+to-name c (rd (retempl i ss) r) = stop
+to-name c (rd (nest-sub q n) r) = rd (scoped c q n) r
+to-name c (rd (nest-app q ss) r) = stop
+to-name c (rd (s-lit k g v) r) = stop
 
-abbrev pub nameFrom : Bool → ℕ → ℕ → ℕ → Text → Rd SpName
-nameFrom true f c d r = toName true (parse f (code "N" ∷ r))
-nameFrom false f c d r = toName false (parse f (c ∷ d ∷ r))
+abbrev pub name-from : Bool → ℕ → ℕ → ℕ → Text → Rd SpName
+name-from true f c d r = to-name true (parse f (code "N" ∷ r))
+name-from false f c d r = to-name false (parse f (c ∷ d ∷ r))
 
 -- K is taken out from behind N
-abbrev pub nameAt : ℕ → Text → Rd SpName
-nameAt f [] = stop
-nameAt f (c ∷ []) = stop
-nameAt f (c ∷ d ∷ r) = nameFrom (eqb c (code "N") && eqb d (code "K")) f c d r
+abbrev pub name-at : ℕ → Text → Rd SpName
+name-at f [] = stop
+name-at f (c ∷ []) = stop
+name-at f (c ∷ d ∷ r) = name-from (eqb c (code "N") && eqb d (code "K")) f c d r
 
-abbrev pub lastOr : Sp → Text → (Text → Rd SpArgs) → Rd SpArgs
-lastOr x [] types = rd (sOne x) []
-lastOr x (c ∷ r) types = bind (types (c ∷ r)) (λ ss r′. rd (sAlso x ss) r′)
+abbrev pub last-or : Sp → Text → (Text → Rd SpArgs) → Rd SpArgs
+last-or x [] types = rd (s-one x) []
+last-or x (c ∷ r) types = bind (types (c ∷ r)) (λ ss r′. rd (s-also x ss) r′)
 
 -- types up to the end
-unfoldable pub parseTypes : ℕ → Text → Rd SpArgs
-parseTypes zero s = stop
-parseTypes (suc f) s = bind (parse f s) (λ x r. lastOr x r (λ r′. parseTypes f r′))
+unfoldable pub parse-types : ℕ → Text → Rd SpArgs
+parse-types zero s = stop
+parse-types (suc f) s = bind (parse f s) (λ x r. last-or x r (λ r′. parse-types f r′))
 
-abbrev pub withTypes : SpName → Rd SpArgs → Option Sym
-withTypes m (rd ss r) = some (symbol m (some ss))
-withTypes m stop = none
+abbrev pub with-types : SpName → Rd SpArgs → Option Sym
+with-types m (rd ss r) = some (symbol m (some ss))
+with-types m stop = none
 
-abbrev pub paramsAt : ℕ → SpName → Text → Option Sym
-paramsAt f m [] = some (symbol m none)
-paramsAt f m (c ∷ r) = withTypes m (parseTypes f (c ∷ r))
+abbrev pub params-at : ℕ → SpName → Text → Option Sym
+params-at f m [] = some (symbol m none)
+params-at f m (c ∷ r) = with-types m (parse-types f (c ∷ r))
 
-abbrev pub symFrom : ℕ → Rd SpName → Option Sym
-symFrom f (rd m r) = paramsAt f m r
-symFrom f stop = none
+abbrev pub sym-from : ℕ → Rd SpName → Option Sym
+sym-from f (rd m r) = params-at f m r
+sym-from f stop = none
 
-unfoldable pub parseSym : Text → Option Sym
-unfolding symFrom
-parseSym [] = none
-parseSym (c ∷ []) = none
-parseSym (c ∷ d ∷ s) = symFrom (suc (length s)) (nameAt (suc (length s)) s)
+unfoldable pub parse-sym : Text → Option Sym
+unfolding sym-from
+parse-sym [] = none
+parse-sym (c ∷ []) = none
+parse-sym (c ∷ d ∷ s) = sym-from (suc (length s)) (name-at (suc (length s)) s)
 
 -- the tree of a catalogue symbol and its table
 unfoldable pub classify : Text → Res Enc
-classify s = choose (parseSym s) (λ σ. provided (same (spellSym σ) s) (valid σ)) wrong
+classify s = choose (parse-sym s) (λ σ. provided (same (spell-sym σ) s) (valid σ)) wrong

@@ -8,31 +8,31 @@ use Prim.Native.Char.{code}
 use lib.Dec.{ltb}
 use lib.ListN.{length}
 use Rattle.grammar.specs.Text.{Text, if_then_else_, decimal}
-use Rattle.catalogue.specs.Tree.{Letter, Wrap, Kind, letterCode, wrapCode, kindCode}
+use Rattle.catalogue.specs.Tree.{Letter, Wrap, Kind, letter-code, wrap-code, kind-code}
 
 mutual
   -- a type, or an argument
   pub data Sp : Type 0 where
-    sLetter : Letter → Sp
-    sWrap : Wrap → Sp → Sp
-    sRef : ℕ → Sp  -- a reference to entry i
+    s-letter : Letter → Sp
+    s-wrap : Wrap → Sp → Sp
+    s-ref : ℕ → Sp  -- a reference to entry i
     plain : Text → Sp  -- one part
     templ : Text → SpArgs → Sp  -- one part with arguments
     retempl : ℕ → SpArgs → Sp  -- arguments after a reference, outside N
-    nestSub : Pre → Text → Sp  -- N .. part E
-    nestApp : Pre → SpArgs → Sp  -- N .. arguments E
-    sLit : Kind → Bool → Text → Sp
+    nest-sub : Pre → Text → Sp  -- N .. part E
+    nest-app : Pre → SpArgs → Sp  -- N .. arguments E
+    s-lit : Kind → Bool → Text → Sp
 
   -- leading parts inside N: the ABI's <prefix>
   pub data Pre : Type 0 where
-    pRef : ℕ → Pre
-    pRoot : Text → Pre
-    pSub : Pre → Text → Pre
-    pApp : Pre → SpArgs → Pre
+    p-ref : ℕ → Pre
+    p-root : Text → Pre
+    p-sub : Pre → Text → Pre
+    p-app : Pre → SpArgs → Pre
 
   pub data SpArgs : Type 0 where
-    sOne : Sp → SpArgs
-    sAlso : Sp → SpArgs → SpArgs
+    s-one : Sp → SpArgs
+    s-also : Sp → SpArgs → SpArgs
 
 -- a function's name: one source name; or N, K where the flag says so, leading parts, the last part, E
 pub data SpName : Type 0 where
@@ -46,28 +46,28 @@ pub data Sym : Type 0 where
 -- ---------------------------------------------------------------- numbers
 
 -- "digits and capitals"
-unfoldable pub digitOf : ℕ → ℕ
-digitOf d = if ltb d 10 then code "0" + d else code "A" + (d - 10)
+unfoldable pub digit-of : ℕ → ℕ
+digit-of d = if ltb d 10 then code "0" + d else code "A" + (d - 10)
 
 -- a number in base 36, of at most so many digits and one
 unfoldable pub base36 : ℕ → ℕ → Text
-base36 zero n = digitOf n ∷ []
-base36 (suc k) n = if ltb n 36 then digitOf n ∷ [] else base36 k (n / 36) ++ (digitOf (n % 36) ∷ [])
+base36 zero n = digit-of n ∷ []
+base36 (suc k) n = if ltb n 36 then digit-of n ∷ [] else base36 k (n / 36) ++ (digit-of (n % 36) ∷ [])
 
 -- what stands between S and _: nothing for entry 0, and the number before it for another
-unfoldable pub refDigits : ℕ → Text
-refDigits zero = []
-refDigits (suc i) = base36 i i
+unfoldable pub ref-digits : ℕ → Text
+ref-digits zero = []
+ref-digits (suc i) = base36 i i
 
-abbrev pub refBytes : ℕ → Text
-refBytes i = code "S" ∷ (refDigits i ++ (code "_" ∷ []))
+abbrev pub ref-bytes : ℕ → Text
+ref-bytes i = code "S" ∷ (ref-digits i ++ (code "_" ∷ []))
 
 -- the length in decimal, and the bytes
-abbrev pub lengthDigits : Text → Text
-lengthDigits n = decimal (suc (length n)) (length n)
+abbrev pub length-digits : Text → Text
+length-digits n = decimal (suc (length n)) (length n)
 
-abbrev pub nameBytes : Text → Text
-nameBytes n = lengthDigits n ++ n
+abbrev pub name-bytes : Text → Text
+name-bytes n = length-digits n ++ n
 
 -- ---------------------------------------------------------------- bytes
 
@@ -77,37 +77,37 @@ minus false = []
 
 unfoldable mutual
   pub spell : Sp → Text
-  spell (sLetter l) = letterCode l ∷ []
-  spell (sWrap c s) = wrapCode c ∷ spell s
-  spell (sRef i) = refBytes i
-  spell (plain n) = nameBytes n
-  spell (templ n ss) = nameBytes n ++ (code "I" ∷ (spellArgs ss ++ (code "E" ∷ [])))
-  spell (retempl i ss) = refBytes i ++ (code "I" ∷ (spellArgs ss ++ (code "E" ∷ [])))
-  spell (nestSub q n) = code "N" ∷ (spellPre q ++ (nameBytes n ++ (code "E" ∷ [])))
-  spell (nestApp q ss) = code "N" ∷ (spellPre q ++ (code "I" ∷ (spellArgs ss ++ (code "E" ∷ code "E" ∷ []))))
-  spell (sLit k g v) = code "L" ∷ kindCode k ∷ (minus g ++ (v ++ (code "E" ∷ [])))
+  spell (s-letter l) = letter-code l ∷ []
+  spell (s-wrap c s) = wrap-code c ∷ spell s
+  spell (s-ref i) = ref-bytes i
+  spell (plain n) = name-bytes n
+  spell (templ n ss) = name-bytes n ++ (code "I" ∷ (spell-args ss ++ (code "E" ∷ [])))
+  spell (retempl i ss) = ref-bytes i ++ (code "I" ∷ (spell-args ss ++ (code "E" ∷ [])))
+  spell (nest-sub q n) = code "N" ∷ (spell-pre q ++ (name-bytes n ++ (code "E" ∷ [])))
+  spell (nest-app q ss) = code "N" ∷ (spell-pre q ++ (code "I" ∷ (spell-args ss ++ (code "E" ∷ code "E" ∷ []))))
+  spell (s-lit k g v) = code "L" ∷ kind-code k ∷ (minus g ++ (v ++ (code "E" ∷ [])))
 
-  pub spellPre : Pre → Text
-  spellPre (pRef i) = refBytes i
-  spellPre (pRoot n) = nameBytes n
-  spellPre (pSub q n) = spellPre q ++ nameBytes n
-  spellPre (pApp q ss) = spellPre q ++ (code "I" ∷ (spellArgs ss ++ (code "E" ∷ [])))
+  pub spell-pre : Pre → Text
+  spell-pre (p-ref i) = ref-bytes i
+  spell-pre (p-root n) = name-bytes n
+  spell-pre (p-sub q n) = spell-pre q ++ name-bytes n
+  spell-pre (p-app q ss) = spell-pre q ++ (code "I" ∷ (spell-args ss ++ (code "E" ∷ [])))
 
-  pub spellArgs : SpArgs → Text
-  spellArgs (sOne s) = spell s
-  spellArgs (sAlso s ss) = spell s ++ spellArgs ss
+  pub spell-args : SpArgs → Text
+  spell-args (s-one s) = spell s
+  spell-args (s-also s ss) = spell s ++ spell-args ss
 
-abbrev pub constByte : Bool → Text
-constByte true = code "K" ∷ []
-constByte false = []
+abbrev pub const-byte : Bool → Text
+const-byte true = code "K" ∷ []
+const-byte false = []
 
-abbrev pub spellName : SpName → Text
-spellName (flat n) = nameBytes n
-spellName (scoped c q n) = code "N" ∷ (constByte c ++ (spellPre q ++ (nameBytes n ++ (code "E" ∷ []))))
+abbrev pub spell-name : SpName → Text
+spell-name (flat n) = name-bytes n
+spell-name (scoped c q n) = code "N" ∷ (const-byte c ++ (spell-pre q ++ (name-bytes n ++ (code "E" ∷ []))))
 
-abbrev pub spellParams : Option SpArgs → Text
-spellParams none = []
-spellParams (some ss) = spellArgs ss
+abbrev pub spell-params : Option SpArgs → Text
+spell-params none = []
+spell-params (some ss) = spell-args ss
 
-unfoldable pub spellSym : Sym → Text
-spellSym (symbol m ps) = code "_" ∷ code "Z" ∷ (spellName m ++ spellParams ps)
+unfoldable pub spell-sym : Sym → Text
+spell-sym (symbol m ps) = code "_" ∷ code "Z" ∷ (spell-name m ++ spell-params ps)

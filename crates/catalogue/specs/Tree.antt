@@ -17,7 +17,7 @@ pub data Letter : Type 0 where
 
 -- P, R, O, K and V before a type
 pub data Wrap : Type 0 where
-  wP wR wO wK wV : Wrap
+  w-p wR wO wK wV : Wrap
   deriving Discrete as Wrap-discrete
 
 -- b, i, j, l and m of a literal
@@ -52,56 +52,56 @@ unfoldable pub ty-discrete : (t u : Ty) → Dec (t ≡ u)
 unfolding text-discrete
 ty-discrete = Ty-discrete Letter-discrete Wrap-discrete text-discrete Kind-discrete Bool-discrete
 
-abbrev pub yesNo : {A : Type 0} → Dec A → Bool
-yesNo (yes a) = true
-yesNo (no f) = false
+abbrev pub yes-no : {A : Type 0} → Dec A → Bool
+yes-no (yes a) = true
+yes-no (no f) = false
 
 -- the two trees are equal
-unfoldable pub sameTy : Ty → Ty → Bool
-sameTy t u = yesNo (ty-discrete t u)
+unfoldable pub same-ty : Ty → Ty → Bool
+same-ty t u = yes-no (ty-discrete t u)
 
-yes-true : (t u : Ty) (d : Dec (t ≡ u)) → yesNo d ≡ true → t ≡ u
+yes-true : (t u : Ty) (d : Dec (t ≡ u)) → yes-no d ≡ true → t ≡ u
 yes-true t u (yes a) h = a
 yes-true t u (no f) h = cc
 
-pub sameTy-eq : (t u : Ty) → sameTy t u ≡ true → t ≡ u
-unfolding sameTy
-sameTy-eq t u h = yes-true t u (ty-discrete t u) h
+pub same-ty-eq : (t u : Ty) → same-ty t u ≡ true → t ≡ u
+unfolding same-ty
+same-ty-eq t u h = yes-true t u (ty-discrete t u) h
 
-true-yes : (t : Ty) (d : Dec (t ≡ t)) → yesNo d ≡ true
+true-yes : (t : Ty) (d : Dec (t ≡ t)) → yes-no d ≡ true
 true-yes t (yes a) = refl
 true-yes t (no f) = absurd (f refl)
 
-pub sameTy-yes : (t : Ty) → sameTy t t ≡ true
-unfolding sameTy
-sameTy-yes t = true-yes t (ty-discrete t t)
+pub same-ty-yes : (t : Ty) → same-ty t t ≡ true
+unfolding same-ty
+same-ty-yes t = true-yes t (ty-discrete t t)
 
 -- ---------------------------------------------------------------- kinds of trees
 
-abbrev pub isLit : Ty → Bool
-isLit (letter l) = false
-isLit (wrap c t) = false
-isLit (root n) = false
-isLit (sub t n) = false
-isLit (app t xs) = false
-isLit (lit k g v) = true
+abbrev pub is-lit : Ty → Bool
+is-lit (letter l) = false
+is-lit (wrap c t) = false
+is-lit (root n) = false
+is-lit (sub t n) = false
+is-lit (app t xs) = false
+is-lit (lit k g v) = true
 
-abbrev pub isClass : Ty → Bool
-isClass (letter l) = false
-isClass (wrap c t) = false
-isClass (root n) = true
-isClass (sub t n) = true
-isClass (app t xs) = true
-isClass (lit k g v) = false
+abbrev pub is-class : Ty → Bool
+is-class (letter l) = false
+is-class (wrap c t) = false
+is-class (root n) = true
+is-class (sub t n) = true
+is-class (app t xs) = true
+is-class (lit k g v) = false
 
 -- a class whose last part has no arguments
-abbrev pub isBare : Ty → Bool
-isBare (letter l) = false
-isBare (wrap c t) = false
-isBare (root n) = true
-isBare (sub t n) = true
-isBare (app t xs) = false
-isBare (lit k g v) = false
+abbrev pub is-bare : Ty → Bool
+is-bare (letter l) = false
+is-bare (wrap c t) = false
+is-bare (root n) = true
+is-bare (sub t n) = true
+is-bare (app t xs) = false
+is-bare (lit k g v) = false
 
 -- a class of one part
 abbrev pub single : Ty → Bool
@@ -113,78 +113,78 @@ single (app t xs) = single t
 single (lit k g v) = false
 
 -- R or O stands on top
-abbrev pub isRef : Ty → Bool
-isRef (letter l) = false
-isRef (wrap wP t) = false
-isRef (wrap wR t) = true
-isRef (wrap wO t) = true
-isRef (wrap wK t) = false
-isRef (wrap wV t) = false
-isRef (root n) = false
-isRef (sub t n) = false
-isRef (app t xs) = false
-isRef (lit k g v) = false
+abbrev pub is-ref : Ty → Bool
+is-ref (letter l) = false
+is-ref (wrap w-p t) = false
+is-ref (wrap wR t) = true
+is-ref (wrap wO t) = true
+is-ref (wrap wK t) = false
+is-ref (wrap wV t) = false
+is-ref (root n) = false
+is-ref (sub t n) = false
+is-ref (app t xs) = false
+is-ref (lit k g v) = false
 
 -- K or V stands on top
-abbrev pub isQual : Ty → Bool
-isQual (letter l) = false
-isQual (wrap wP t) = false
-isQual (wrap wR t) = false
-isQual (wrap wO t) = false
-isQual (wrap wK t) = true
-isQual (wrap wV t) = true
-isQual (root n) = false
-isQual (sub t n) = false
-isQual (app t xs) = false
-isQual (lit k g v) = false
+abbrev pub is-qual : Ty → Bool
+is-qual (letter l) = false
+is-qual (wrap w-p t) = false
+is-qual (wrap wR t) = false
+is-qual (wrap wO t) = false
+is-qual (wrap wK t) = true
+is-qual (wrap wV t) = true
+is-qual (root n) = false
+is-qual (sub t n) = false
+is-qual (app t xs) = false
+is-qual (lit k g v) = false
 
 -- ---------------------------------------------------------------- bytes of the letters
 
-abbrev pub letterCode : Letter → ℕ
-letterCode lv = code "v"
-letterCode lw = code "w"
-letterCode lb = code "b"
-letterCode lc = code "c"
-letterCode la = code "a"
-letterCode lh = code "h"
-letterCode ls = code "s"
-letterCode lt = code "t"
-letterCode li = code "i"
-letterCode lj = code "j"
-letterCode ll = code "l"
-letterCode lm = code "m"
-letterCode lx = code "x"
-letterCode ly = code "y"
-letterCode ln = code "n"
-letterCode lo = code "o"
-letterCode lf = code "f"
-letterCode ld = code "d"
-letterCode le = code "e"
-letterCode lg = code "g"
-letterCode lz = code "z"
+abbrev pub letter-code : Letter → ℕ
+letter-code lv = code "v"
+letter-code lw = code "w"
+letter-code lb = code "b"
+letter-code lc = code "c"
+letter-code la = code "a"
+letter-code lh = code "h"
+letter-code ls = code "s"
+letter-code lt = code "t"
+letter-code li = code "i"
+letter-code lj = code "j"
+letter-code ll = code "l"
+letter-code lm = code "m"
+letter-code lx = code "x"
+letter-code ly = code "y"
+letter-code ln = code "n"
+letter-code lo = code "o"
+letter-code lf = code "f"
+letter-code ld = code "d"
+letter-code le = code "e"
+letter-code lg = code "g"
+letter-code lz = code "z"
 
-abbrev pub wrapCode : Wrap → ℕ
-wrapCode wP = code "P"
-wrapCode wR = code "R"
-wrapCode wO = code "O"
-wrapCode wK = code "K"
-wrapCode wV = code "V"
+abbrev pub wrap-code : Wrap → ℕ
+wrap-code w-p = code "P"
+wrap-code wR = code "R"
+wrap-code wO = code "O"
+wrap-code wK = code "K"
+wrap-code wV = code "V"
 
-abbrev pub kindCode : Kind → ℕ
-kindCode kb = code "b"
-kindCode ki = code "i"
-kindCode kj = code "j"
-kindCode kl = code "l"
-kindCode km = code "m"
+abbrev pub kind-code : Kind → ℕ
+kind-code kb = code "b"
+kind-code ki = code "i"
+kind-code kj = code "j"
+kind-code kl = code "l"
+kind-code km = code "m"
 
 -- ---------------------------------------------------------------- the printed name
 
 -- the word of the grammar's table
 unfoldable pub word : Letter → Text
-word l = choose (word-for letters (letterCode l ∷ [])) (λ w. w) []
+word l = choose (word-for letters (letter-code l ∷ [])) (λ w. w) []
 
 abbrev pub suffix : Wrap → Text
-suffix wP = b "*"
+suffix w-p = b "*"
 suffix wR = b "&"
 suffix wO = b "&&"
 suffix wK = b " const"
@@ -218,9 +218,9 @@ closes (sub t n) = false
 closes (app t xs) = true
 closes (lit k g v) = false
 
-abbrev pub lastCloses : Args → Bool
-lastCloses (one t) = closes t
-lastCloses (also t xs) = lastCloses xs
+abbrev pub last-closes : Args → Bool
+last-closes (one t) = closes t
+last-closes (also t xs) = last-closes xs
 
 -- no >> comes about
 abbrev pub shut : Bool → Text
@@ -233,26 +233,26 @@ unfoldable mutual
   print (wrap c t) = print t ++ suffix c
   print (root n) = n
   print (sub t n) = print t ++ (b "::" ++ n)
-  print (app t xs) = print t ++ (b "<" ++ (printArgs xs ++ shut (lastCloses xs)))
+  print (app t xs) = print t ++ (b "<" ++ (print-args xs ++ shut (last-closes xs)))
   print (lit k g v) = literal k g v
 
-  pub printArgs : Args → Text
-  printArgs (one t) = print t
-  printArgs (also t xs) = print t ++ (b ", " ++ printArgs xs)
+  pub print-args : Args → Text
+  print-args (one t) = print t
+  print-args (also t xs) = print t ++ (b ", " ++ print-args xs)
 
 -- the only parameter is v, which prints nothing
-abbrev pub isVoid : Args → Bool
-isVoid (one t) = sameTy t (letter lv)
-isVoid (also t xs) = false
+abbrev pub is-void : Args → Bool
+is-void (one t) = same-ty t (letter lv)
+is-void (also t xs) = false
 
 abbrev pub inside : Bool → Args → Text
 inside true xs = []
-inside false xs = printArgs xs
+inside false xs = print-args xs
 
 abbrev pub tail : Bool → Text
 tail true = b " const"
 tail false = []
 
-unfoldable pub printEnc : Enc → Text
-printEnc (enc c t none) = print t ++ tail c
-printEnc (enc c t (some xs)) = print t ++ (b "(" ++ (inside (isVoid xs) xs ++ (b ")" ++ tail c)))
+unfoldable pub print-enc : Enc → Text
+print-enc (enc c t none) = print t ++ tail c
+print-enc (enc c t (some xs)) = print t ++ (b "(" ++ (inside (is-void xs) xs ++ (b ")" ++ tail c)))

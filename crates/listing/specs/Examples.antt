@@ -8,7 +8,7 @@ use Rattle.grammar.specs.Examples.{starred, starred-answered}
 use Rattle.catalogue.specs.Tree.{Enc}
 use Rattle.catalogue.specs.Class.{Res}
 use Rattle.catalogue.specs.Decision.{classify-complete}
-use Rattle.catalogue.specs.Answer.{normalIn, normal-told, normal-after, normal-symbol}
+use Rattle.catalogue.specs.Answer.{normal-in, normal-told, normal-after, normal-symbol}
 use Rattle.catalogue.specs.Examples.{inside, inside-hold}
 use Rattle.listing.specs.Listing.{line-feed, head, line, name-of, line-for, answer-of, listing-line, in-front, lines, listing}
 use Rattle.listing.specs.declared.listing.Kind.the-variants.{Names, Symbols}
@@ -34,7 +34,7 @@ unfolding normal-symbol normal-after normal-told inside if_then_else_ b
 first-normal =
     let w = inside-hold .1 .0 in
     ap (normal-after (b "_Z1fv")) first-symbol
-    ∙ ap (λ (r : Res Enc). normal-told (normalIn r)) (classify-complete (w .is))
+    ∙ ap (λ (r : Res Enc). normal-told (normal-in r)) (classify-complete (w .is))
     ∙ ap (λ (t : Text). normal-told (some t)) (w .normal-symbol)
 
 pub second-normal : normal-symbol (b "_Z0v") ≡ refusal 4

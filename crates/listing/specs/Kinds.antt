@@ -11,7 +11,7 @@ use lib.ListN.{length}
 use Rattle.grammar.specs.Text.{Text, if_then_else_}
 use Rattle.grammar.specs.Names.{Answer, named, refusal, mangled-name, front, demangle, most-symbol-bytes, least-text, least-store, work-fits, within, answer, length-of}
 use Rattle.catalogue.specs.Recogniser.{classify}
-use Rattle.catalogue.specs.Answer.{normalIn, normal-told, normal-after, normal-symbol, normal-work-fits, normal-answer}
+use Rattle.catalogue.specs.Answer.{normal-in, normal-told, normal-after, normal-symbol, normal-work-fits, normal-answer}
 use Rattle.names.specs.Lengths.{short-answer, within-is, answer-is}
 use Rattle.names.specs.Outcome.{Slices, lent}
 use Rattle.names.specs.Printed.{Tells}
@@ -34,7 +34,7 @@ told-short (some t) = go (leb (length t) 4096) refl where
 
 after-short : (s : Text) (a : Answer) → length-of (normal-after s a) ≤ 4096
 unfolding normal-after length-of
-after-short s (named x) = told-short (normalIn (classify s))
+after-short s (named x) = told-short (normal-in (classify s))
 after-short s (refusal r) = omega arith
 
 normal-is : (l : Slices) (s : Text) → 16384 ≤ length (l .out) → normal-work-fits (lent l) ≡ true → normal-answer (lent l) s ≡ normal-symbol s

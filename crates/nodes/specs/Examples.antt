@@ -8,11 +8,11 @@ use Rattle.grammar.specs.Text.{Text, b, if_then_else_, choose, same, run, past,
 use Rattle.grammar.specs.Tables.{_⇒_}
 use Rattle.grammar.specs.Grammar.{index}
 use Rattle.catalogue.specs.Bytes.{text-discrete}
-use Rattle.catalogue.specs.Tree.{ty-discrete, sameTy}
-use Rattle.catalogue.specs.Spelling.{digitOf, base36, refDigits}
-use Rattle.catalogue.specs.Class.{wordByte, reserved, listed, nameOk, numeral, litOk, stands, lastIs, pushNew}
+use Rattle.catalogue.specs.Tree.{ty-discrete, same-ty}
+use Rattle.catalogue.specs.Spelling.{digit-of, base36, ref-digits}
+use Rattle.catalogue.specs.Class.{word-byte, reserved, listed, name-ok, numeral, lit-ok, stands, last-is, push-new}
 use Rattle.catalogue.specs.Normal.{seek}
-use Rattle.catalogue.specs.Recogniser.{cut, readName, withCode, lead}
+use Rattle.catalogue.specs.Recogniser.{cut, read-name, with-code, lead}
 use Rattle.catalogue.specs.Examples.{Rows, normals, inside, outside}
 use Rattle.walk.specs.Walk.{
   name,
@@ -29,8 +29,8 @@ use Rattle.nodes.specs.Nodes.{
   may-stand,
   table-place,
   add,
-  add-all,
-  last-is,
+  note-add-all,
+  note-last-is,
   settled,
   entered-nested,
   note-type,
@@ -58,24 +58,24 @@ refuses (w ∷ ws) = refused (note-symbol (b w)) && refuses ws
 
 pub normals-written : writes normals ≡ true
 unfolding
-    writes normals b if_then_else_ choose same run past digit digit-value number decimal index text-discrete ty-discrete sameTy digitOf base36 refDigits
-    wordByte reserved listed nameOk numeral litOk stands lastIs pushNew seek cut readName withCode lead
-    name reference literal same-node seek-by node-place number-of with-node tag-of may-stand table-place add add-all last-is settled entered-nested
+    writes normals b if_then_else_ choose same run past digit digit-value number decimal index text-discrete ty-discrete same-ty digit-of base36 ref-digits
+    word-byte reserved listed name-ok numeral lit-ok stands last-is push-new seek cut read-name with-code lead
+    name reference literal same-node seek-by node-place number-of with-node tag-of may-stand table-place add note-add-all note-last-is settled entered-nested
     note-type note-types note-encoding note-symbol
 normals-written = refl
 
 pub inside-written : writes inside ≡ true
 unfolding
-    writes inside b if_then_else_ choose same run past digit digit-value number decimal index text-discrete ty-discrete sameTy digitOf base36 refDigits
-    wordByte reserved listed nameOk numeral litOk stands lastIs pushNew seek cut readName withCode lead
-    name reference literal same-node seek-by node-place number-of with-node tag-of may-stand table-place add add-all last-is settled entered-nested
+    writes inside b if_then_else_ choose same run past digit digit-value number decimal index text-discrete ty-discrete same-ty digit-of base36 ref-digits
+    word-byte reserved listed name-ok numeral lit-ok stands last-is push-new seek cut read-name with-code lead
+    name reference literal same-node seek-by node-place number-of with-node tag-of may-stand table-place add note-add-all note-last-is settled entered-nested
     note-type note-types note-encoding note-symbol
 inside-written = refl
 
 pub outside-refused : refuses outside ≡ true
 unfolding
-    refuses outside b if_then_else_ choose same run past digit digit-value number decimal index text-discrete ty-discrete sameTy digitOf base36 refDigits
-    wordByte reserved listed nameOk numeral litOk stands lastIs pushNew seek cut readName withCode lead
-    name reference literal same-node seek-by node-place number-of with-node tag-of may-stand table-place add add-all last-is settled entered-nested
+    refuses outside b if_then_else_ choose same run past digit digit-value number decimal index text-discrete ty-discrete same-ty digit-of base36 ref-digits
+    word-byte reserved listed name-ok numeral lit-ok stands last-is push-new seek cut read-name with-code lead
+    name reference literal same-node seek-by node-place number-of with-node tag-of may-stand table-place add note-add-all note-last-is settled entered-nested
     note-type note-types note-encoding note-symbol
 outside-refused = refl

@@ -16,18 +16,18 @@ use Rattle.catalogue.specs.Tree.{
   Wrap,
   Kind,
   Ty,
-  wP,
+  w-p,
   wR,
   wO,
   wK,
   wV,
-  isLit,
-  isRef,
-  isQual,
-  sameTy,
-  letterCode,
-  wrapCode,
-  kindCode,
+  is-lit,
+  is-ref,
+  is-qual,
+  same-ty,
+  letter-code,
+  wrap-code,
+  kind-code,
 }
 use Rattle.catalogue.specs.Class.{stands}
 use Rattle.catalogue.specs.Normal.{seek, later as next-place}
@@ -70,14 +70,14 @@ places-agree (some i) = refl
 
 -- a test that holds of what stands for u alone finds the place of u
 pub seek-law : {A : Type 0} (p : A → Bool) (u : Ty) (xs : List A) (vs : List Ty) → length xs ≡ length vs
-    → ((i : ℕ) (x : A) (v : Ty) → getElem? xs i ≡ some x → getElem? vs i ≡ some v → p x ≡ sameTy u v) → seek-by p xs ≡ seek u vs
+    → ((i : ℕ) (x : A) (v : Ty) → getElem? xs i ≡ some x → getElem? vs i ≡ some v → p x ≡ same-ty u v) → seek-by p xs ≡ seek u vs
 unfolding seek-by seek
 seek-law p u [] [] e h = refl
 seek-law p u [] (v ∷ vs) e h = absurd (omega arith)
 seek-law p u (x ∷ xs) [] e h = absurd (omega arith)
 seek-law p u (x ∷ xs) (v ∷ vs) e h =
     rw (h 0 x v refl refl, seek-law p u xs vs (omega arith) (λ i. h (suc i)))
-    (ap (λ o. if sameTy u v then some 0 else o) (places-agree (seek u vs)))
+    (ap (λ o. if same-ty u v then some 0 else o) (places-agree (seek u vs)))
 
 -- ---------------------------------------------------------------- equal nodes
 
@@ -99,17 +99,17 @@ same-node-eq x y h =
 
 -- ---------------------------------------------------------------- bytes and tags
 
-pub letter-below : (l : Letter) → letterCode l < least-number
-letter-below l = let h = leb-false 128 (letterCode l) (letter-low l) in omega arith
+pub letter-below : (l : Letter) → letter-code l < least-number
+letter-below l = let h = leb-false 128 (letter-code l) (letter-low l) in omega arith
 
-pub wrap-below : (c : Wrap) → wrapCode c < least-number
-wrap-below c = let h = leb-false 128 (wrapCode c) (wrap-low c) in omega arith
+pub wrap-below : (c : Wrap) → wrap-code c < least-number
+wrap-below c = let h = leb-false 128 (wrap-code c) (wrap-low c) in omega arith
 
-pub kind-below : (k : Kind) → kindCode k < least-number
-kind-below k = let h = leb-false 128 (kindCode k) (kind-low k) in omega arith
+pub kind-below : (k : Kind) → kind-code k < least-number
+kind-below k = let h = leb-false 128 (kind-code k) (kind-low k) in omega arith
 
-pub every-wrap : (P : Wrap → Type 0) → P wP → P wR → P wO → P wK → P wV → (c : Wrap) → P c
-every-wrap P a b c d e wP = a
+pub every-wrap : (P : Wrap → Type 0) → P w-p → P wR → P wO → P wK → P wV → (c : Wrap) → P c
+every-wrap P a b c d e w-p = a
 every-wrap P a b c d e wR = b
 every-wrap P a b c d e wO = c
 every-wrap P a b c d e wK = d
@@ -119,10 +119,10 @@ every-wrap P a b c d e wV = e
 pub no-byte : (e c : ℕ) → c < least-number → eqb (least-number + e) c ≡ false
 no-byte e c h = ne-eqb (least-number + e) c (λ q. omega arith)
 
-pub stands-is : (q : Wrap) (t : Ty) → stands q t ≡ not (isLit t || (a-ref (wrapCode q) && isRef t || a-qual (wrapCode q) && isQual t))
+pub stands-is : (q : Wrap) (t : Ty) → stands q t ≡ not (is-lit t || (a-ref (wrap-code q) && is-ref t || a-qual (wrap-code q) && is-qual t))
 unfolding stands
-stands-is wP t = ap not (sym (or-false (isLit t)))
-stands-is wR t = ap (λ p. not (isLit t || p)) (sym (or-false (isRef t)))
-stands-is wO t = ap (λ p. not (isLit t || p)) (sym (or-false (isRef t)))
+stands-is w-p t = ap not (sym (or-false (is-lit t)))
+stands-is wR t = ap (λ p. not (is-lit t || p)) (sym (or-false (is-ref t)))
+stands-is wO t = ap (λ p. not (is-lit t || p)) (sym (or-false (is-ref t)))
 stands-is wK t = refl
 stands-is wV t = refl

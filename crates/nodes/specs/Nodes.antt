@@ -8,11 +8,11 @@ use Prim.Native.Char.{code}
 use lib.Dec.{eqb, leb, ltb}
 use lib.ListN.{length, take, getElem?}
 use Rattle.grammar.specs.Text.{Text, if_then_else_, choose, same}
-use Rattle.catalogue.specs.Tree.{Ty, letter, wrap, root, sub, app, lit, kindCode}
-use Rattle.catalogue.specs.Spelling.{refBytes, nameBytes}
+use Rattle.catalogue.specs.Tree.{Ty, letter, wrap, root, sub, app, lit, kind-code}
+use Rattle.catalogue.specs.Spelling.{ref-bytes, name-bytes}
 use Rattle.catalogue.specs.Class.{most-arguments}
-use Rattle.catalogue.specs.Recogniser.{Rd, rd, stop, ifNext, Lead, leadLetter, leadWrap, leadDigit, leadS, leadN, leadL, leadNone, lead}
-use Rattle.walk.specs.Walk.{name, reference, literal, litBytes}
+use Rattle.catalogue.specs.Recogniser.{Rd, rd, stop, if-next, Lead, lead-letter, lead-wrap, lead-digit, leadS, leadN, leadL, leadNone, lead}
+use Rattle.walk.specs.Walk.{name, reference, literal, lit-bytes}
 
 -- ---------------------------------------------------------------- nodes
 
@@ -52,7 +52,7 @@ lit-node (wrap c t) = node 0 0 []
 lit-node (root n) = node 0 0 []
 lit-node (sub t n) = node 0 0 []
 lit-node (app t xs) = node 0 0 []
-lit-node (lit k g v) = node (code "L") (signed-kind (kindCode k) g) v
+lit-node (lit k g v) = node (code "L") (signed-kind (kind-code k) g) v
 
 unfoldable pub same-node : Node → Node → Bool
 same-node x y = eqb (x .tag) (y .tag) && (eqb (x .of) (y .of) && same (x .word) (y .word))
@@ -118,17 +118,17 @@ table-place d ds = seek-by (eqb d) ds
 unfoldable pub add : ℕ → List ℕ → List ℕ
 add d ds = with-new (table-place d ds) d ds
 
-unfoldable pub add-all : List ℕ → List ℕ → List ℕ
-add-all ds [] = ds
-add-all ds (e ∷ es) = add-all (add e ds) es
+unfoldable pub note-add-all : List ℕ → List ℕ → List ℕ
+note-add-all ds [] = ds
+note-add-all ds (e ∷ es) = note-add-all (add e ds) es
 
 abbrev pub firsts : List ℕ → List ℕ
-firsts ds = add-all [] ds
+firsts ds = note-add-all [] ds
 
-unfoldable pub last-is : ℕ → List ℕ → Bool
-last-is d [] = false
-last-is d (e ∷ []) = eqb d e
-last-is d (e ∷ f ∷ es) = last-is d (f ∷ es)
+unfoldable pub note-last-is : ℕ → List ℕ → Bool
+note-last-is d [] = false
+note-last-is d (e ∷ []) = eqb d e
+note-last-is d (e ∷ f ∷ es) = note-last-is d (f ∷ es)
 
 -- ---------------------------------------------------------------- what is kept
 
@@ -161,7 +161,7 @@ counted σ = notes (σ .out) (σ .nodes) (σ .table) (suc (σ .args)) (σ .rest)
 -- what was written from a place on gives way to the reference of an entry
 abbrev pub replaced : ℕ → Text → Option ℕ → Text
 replaced from o none = o
-replaced from o (some i) = take from o ++ refBytes i
+replaced from o (some i) = take from o ++ ref-bytes i
 
 unfoldable pub settled : ℕ → ℕ → Notes → Notes
 settled d from σ = notes (replaced from (σ .out) (table-place d (firsts (σ .table)))) (σ .nodes) (σ .table) (σ .args) (σ .rest)
@@ -172,7 +172,7 @@ entered d from σ = pushed d (settled d from σ)
 -- the newest entry isn't entered again behind N
 unfoldable pub entered-nested : ℕ → ℕ → Notes → Notes
 entered-nested d from σ =
-    if eqb (tag-of (σ .nodes) d) (code "N") && last-is d (σ .table) then settled d from σ else entered d from σ
+    if eqb (tag-of (σ .nodes) d) (code "N") && note-last-is d (σ .table) then settled d from σ else entered d from σ
 
 -- ---------------------------------------------------------------- readings
 
@@ -200,9 +200,9 @@ abbrev pub enter : Node → ℕ → Noter ℕ
 enter x from σ = got (number-of x (σ .nodes)) (entered (number-of x (σ .nodes)) from (noted x σ))
 
 -- [I <template-args> E], behind a class of one part
-abbrev pub with-args : ℕ → ℕ → (ℕ → Noter ℕ) → Noter ℕ
-with-args t from args σ =
-    ifNext (code "I") (σ .rest) (λ r. when (eqb (tag-of (σ .nodes) t) (code "0"))
+abbrev pub note-with-args : ℕ → ℕ → (ℕ → Noter ℕ) → Noter ℕ
+note-with-args t from args σ =
+    if-next (code "I") (σ .rest) (λ r. when (eqb (tag-of (σ .nodes) t) (code "0"))
     (next (args t (put (code "I" ∷ []) (go-to r σ))) (λ u τ. got u (entered u from (put (code "E" ∷ []) τ)))))
     (got t σ)
 
@@ -211,56 +211,56 @@ abbrev pub at-reference : ℕ → Noter ℕ
 at-reference from σ = with (reference (σ .rest)) (λ i r. choose (getElem? (σ .table) i) (λ t. got t (settled t from (go-to r σ))) bad)
 
 -- <source-name>, a first part
-abbrev pub at-name : ℕ → Noter ℕ
-at-name from σ = with (name (σ .rest)) (λ n r. enter (root-node n) from (put (nameBytes n) (go-to r σ)))
+abbrev pub note-at-name : ℕ → Noter ℕ
+note-at-name from σ = with (name (σ .rest)) (λ n r. enter (root-node n) from (put (name-bytes n) (go-to r σ)))
 
 -- <type>, <template-arg>, by the first byte c
-abbrev pub at-lead : Lead → ℕ → ℕ → Text → Notes → Noter ℕ → (ℕ → Noter ℕ) → (ℕ → Noter ℕ) → Got ℕ
+abbrev pub note-at-lead : Lead → ℕ → ℕ → Text → Notes → Noter ℕ → (ℕ → Noter ℕ) → (ℕ → Noter ℕ) → Got ℕ
 -- <builtin-type>
-at-lead (leadLetter l) c from s σ type args parts = got c (put (c ∷ []) (go-to s σ))
+note-at-lead (lead-letter l) c from s σ type args parts = got c (put (c ∷ []) (go-to s σ))
 -- P R O K V <type>
-at-lead (leadWrap q) c from s σ type args parts =
+note-at-lead (lead-wrap q) c from s σ type args parts =
     next (type (put (c ∷ []) (go-to s σ))) (λ t τ. when (may-stand c (tag-of (τ .nodes) t)) (enter (wrap-node c t) from τ))
 -- <source-name> [I <template-args> E]
-at-lead leadDigit c from s σ type args parts = next (at-name from σ) (λ t τ. with-args t from args τ)
+note-at-lead lead-digit c from s σ type args parts = next (note-at-name from σ) (λ t τ. note-with-args t from args τ)
 -- S [<seq-id>] _ [I <template-args> E]
-at-lead leadS c from s σ type args parts = next (at-reference from (go-to s σ)) (λ t τ. with-args t from args τ)
+note-at-lead leadS c from s σ type args parts = next (at-reference from (go-to s σ)) (λ t τ. note-with-args t from args τ)
 -- N <parts> E, two or more
-at-lead leadN c from s σ type args parts =
+note-at-lead leadN c from s σ type args parts =
     next (parts (suc from) (put (c ∷ []) (go-to s σ))) (λ u τ. got u (entered-nested u from (put (code "E" ∷ []) τ)))
 -- L <literal> E
-at-lead leadL c from s σ type args parts =
-    with (literal s) (λ t r. got (number-of (lit-node t) (σ .nodes)) (put (litBytes t) (noted (lit-node t) (go-to r σ))))
-at-lead leadNone c from s σ type args parts = bad
+note-at-lead leadL c from s σ type args parts =
+    with (literal s) (λ t r. got (number-of (lit-node t) (σ .nodes)) (put (lit-bytes t) (noted (lit-node t) (go-to r σ))))
+note-at-lead leadNone c from s σ type args parts = bad
 
 -- <parts> ::= <source-name> <more> | S [<seq-id>] _ <more>
-abbrev pub at-parts : Lead → ℕ → Text → Notes → (ℕ → Bool → Noter ℕ) → Got ℕ
-at-parts (leadLetter l) from s σ more = bad
-at-parts (leadWrap q) from s σ more = bad
-at-parts leadDigit from s σ more = next (at-name from σ) (λ t τ. more t true τ)
-at-parts leadS from s σ more =
+abbrev pub note-at-parts : Lead → ℕ → Text → Notes → (ℕ → Bool → Noter ℕ) → Got ℕ
+note-at-parts (lead-letter l) from s σ more = bad
+note-at-parts (lead-wrap q) from s σ more = bad
+note-at-parts lead-digit from s σ more = next (note-at-name from σ) (λ t τ. more t true τ)
+note-at-parts leadS from s σ more =
     next (at-reference from (go-to s σ)) (λ t τ. when (a-class (tag-of (τ .nodes) t)) (more t (eqb (tag-of (τ .nodes) t) (code "0")) τ))
-at-parts leadN from s σ more = bad
-at-parts leadL from s σ more = bad
-at-parts leadNone from s σ more = bad
+note-at-parts leadN from s σ more = bad
+note-at-parts leadL from s σ more = bad
+note-at-parts leadNone from s σ more = bad
 
 -- behind one more part or its arguments: E, where there is not one part alone; or u is leading parts and enters the table
-abbrev pub end-or : ℕ → (ℕ → Bool → Noter ℕ) → ℕ → Bool → Noter ℕ
-end-or from more u lone σ =
-    ifNext (code "E") (σ .rest) (λ r. when (not lone) (got u (go-to r σ))) (more u lone (entered u from σ))
+abbrev pub note-end-or : ℕ → (ℕ → Bool → Noter ℕ) → ℕ → Bool → Noter ℕ
+note-end-or from more u lone σ =
+    if-next (code "E") (σ .rest) (λ r. when (not lone) (got u (go-to r σ))) (more u lone (entered u from σ))
 
 -- <more> ::= (I <template-args> E | <source-name>) (E | <more>)
-abbrev pub at-more : Bool → ℕ → Bool → ℕ → Text → Notes → (ℕ → Noter ℕ) → (ℕ → Bool → Noter ℕ) → Got ℕ
-at-more true t lone from s σ args more =
+abbrev pub note-at-more : Bool → ℕ → Bool → ℕ → Text → Notes → (ℕ → Noter ℕ) → (ℕ → Bool → Noter ℕ) → Got ℕ
+note-at-more true t lone from s σ args more =
     when (a-bare (tag-of (σ .nodes) t))
-    (next (args t (put (code "I" ∷ []) (go-to s σ))) (λ u τ. end-or from more u lone (put (code "E" ∷ []) τ)))
-at-more false t lone from s σ args more =
-    with (name (σ .rest)) (λ n r. end-or from more (number-of (sub-node t n) (σ .nodes)) false (put (nameBytes n) (noted (sub-node t n) (go-to r σ))))
+    (next (args t (put (code "I" ∷ []) (go-to s σ))) (λ u τ. note-end-or from more u lone (put (code "E" ∷ []) τ)))
+note-at-more false t lone from s σ args more =
+    with (name (σ .rest)) (λ n r. note-end-or from more (number-of (sub-node t n) (σ .nodes)) false (put (name-bytes n) (noted (sub-node t n) (go-to r σ))))
 
 -- <template-args> ::= <template-arg> (E | <template-args>), behind what has the number t
-abbrev pub at-arg : ℕ → ℕ → Notes → (ℕ → Noter ℕ) → Got ℕ
-at-arg t x σ args =
-    ifNext (code "E") (σ .rest) (λ r. got (number-of (arg-node t x) (σ .nodes)) (counted (noted (arg-node t x) (go-to r σ))))
+abbrev pub note-at-arg : ℕ → ℕ → Notes → (ℕ → Noter ℕ) → Got ℕ
+note-at-arg t x σ args =
+    if-next (code "E") (σ .rest) (λ r. got (number-of (arg-node t x) (σ .nodes)) (counted (noted (arg-node t x) (go-to r σ))))
     (args (number-of (arg-node t x) (σ .nodes)) (counted (noted (arg-node t x) σ)))
 
 -- by the first byte
@@ -274,40 +274,40 @@ unfoldable mutual
   note-type zero σ = bad
   note-type (suc f) σ =
       at-first (σ .rest) (λ c s.
-      at-lead (lead c) c (length (σ .out)) s σ (λ τ. note-type f τ) (λ t τ. note-args f t τ) (λ from τ. note-parts f from τ))
+      note-at-lead (lead c) c (length (σ .out)) s σ (λ τ. note-type f τ) (λ t τ. note-args f t τ) (λ from τ. note-parts f from τ))
 
   -- behind N, from the place where the parts are written
   pub note-parts : ℕ → ℕ → Noter ℕ
   note-parts zero from σ = bad
-  note-parts (suc f) from σ = at-first (σ .rest) (λ c s. at-parts (lead c) from s σ (λ t lone τ. note-more f t lone from τ))
+  note-parts (suc f) from σ = at-first (σ .rest) (λ c s. note-at-parts (lead c) from s σ (λ t lone τ. note-more f t lone from τ))
 
   pub note-more : ℕ → ℕ → Bool → ℕ → Noter ℕ
   note-more zero t lone from σ = bad
   note-more (suc f) t lone from σ =
       at-first (σ .rest) (λ c s.
-      at-more (eqb c (code "I")) t lone from s σ (λ u τ. note-args f u τ) (λ u l τ. note-more f u l from τ))
+      note-at-more (eqb c (code "I")) t lone from s σ (λ u τ. note-args f u τ) (λ u l τ. note-more f u l from τ))
 
   -- behind I
   pub note-args : ℕ → ℕ → Noter ℕ
   note-args zero t σ = bad
-  note-args (suc f) t σ = next (note-type f σ) (λ x τ. at-arg t x τ (λ u ρ. note-args f u ρ))
+  note-args (suc f) t σ = next (note-type f σ) (λ x τ. note-at-arg t x τ (λ u ρ. note-args f u ρ))
 
 -- ---------------------------------------------------------------- whole symbols
 
 -- behind a type: the end, or more types
-abbrev pub at-end : Notes → Text → Noter (Unit {0}) → Got (Unit {0})
-at-end σ [] types = got tt σ
-at-end σ (c ∷ r) types = types σ
+abbrev pub note-at-end : Notes → Text → Noter (Unit {0}) → Got (Unit {0})
+note-at-end σ [] types = got tt σ
+note-at-end σ (c ∷ r) types = types σ
 
 -- <type>+ to the end
 unfoldable pub note-types : ℕ → Noter (Unit {0})
 note-types zero σ = bad
 note-types (suc f) σ =
-    next (note-type f σ) (λ t τ. when (not (a-lit (tag-of (τ .nodes) t))) (at-end τ (τ .rest) (λ ρ. note-types f ρ)))
+    next (note-type f σ) (λ t τ. when (not (a-lit (tag-of (τ .nodes) t))) (note-at-end τ (τ .rest) (λ ρ. note-types f ρ)))
 
 -- behind N or NK: <parts> E, without arguments at the end; it makes no entry
-abbrev pub at-scoped : Bool → Got ℕ → Got Bool
-at-scoped c o = next o (λ u τ. when (a-bare (tag-of (τ .nodes) u)) (got c (put (code "E" ∷ []) τ)))
+abbrev pub note-at-scoped : Bool → Got ℕ → Got Bool
+note-at-scoped c o = next o (λ u τ. when (a-bare (tag-of (τ .nodes) u)) (got c (put (code "E" ∷ []) τ)))
 
 -- behind _Z, with what is written there
 abbrev pub begun : Text → Text → Notes
@@ -316,14 +316,14 @@ begun w r = notes (code "_" ∷ code "Z" ∷ w) [] [] 0 r
 -- <name> ::= <source-name> | N [K] <parts> E; whether there is a K
 abbrev pub at-function : Text → (ℕ → Noter ℕ) → Got Bool
 at-function s parts =
-    ifNext (code "N") s (λ r.
-    ifNext (code "K") r (λ r′. at-scoped true (parts 4 (begun (code "N" ∷ code "K" ∷ []) r′))) (at-scoped false (parts 3 (begun (code "N" ∷ []) r))))
-    (with (name s) (λ n r. got false (begun (nameBytes n) r)))
+    if-next (code "N") s (λ r.
+    if-next (code "K") r (λ r′. note-at-scoped true (parts 4 (begun (code "N" ∷ code "K" ∷ []) r′))) (note-at-scoped false (parts 3 (begun (code "N" ∷ []) r))))
+    (with (name s) (λ n r. got false (begun (name-bytes n) r)))
 
 -- the types, if there are any; "after a name with `K` always one or more types"
-abbrev pub at-params : Bool → Notes → Text → Noter (Unit {0}) → Got (Unit {0})
-at-params c σ [] types = when (not c) (got tt σ)
-at-params c σ (d ∷ s) types = types σ
+abbrev pub note-at-params : Bool → Notes → Text → Noter (Unit {0}) → Got (Unit {0})
+note-at-params c σ [] types = when (not c) (got tt σ)
+note-at-params c σ (d ∷ s) types = types σ
 
 -- "at most 1,024 arguments"
 abbrev pub symbol-of : Got (Unit {0}) → Option Text
@@ -332,8 +332,8 @@ symbol-of bad = none
 
 -- <encoding> ::= <name> [<type>+], behind _Z
 unfoldable pub note-encoding : ℕ → Text → Got (Unit {0})
-note-encoding f s = next (at-function s (λ from σ. note-parts f from σ)) (λ c σ. at-params c σ (σ .rest) (λ τ. note-types f τ))
+note-encoding f s = next (at-function s (λ from σ. note-parts f from σ)) (λ c σ. note-at-params c σ (σ .rest) (λ τ. note-types f τ))
 
 -- the normal symbol of a catalogue symbol
 unfoldable pub note-symbol : Text → Option Text
-note-symbol s = ifNext (code "_") s (λ r. ifNext (code "Z") r (λ r′. symbol-of (note-encoding (suc (length r′)) r′)) none) none
+note-symbol s = if-next (code "_") s (λ r. if-next (code "Z") r (λ r′. symbol-of (note-encoding (suc (length r′)) r′)) none) none

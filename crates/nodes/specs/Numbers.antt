@@ -26,26 +26,26 @@ use Rattle.catalogue.specs.Tree.{
   lit,
   one,
   also,
-  isLit,
-  isClass,
-  isBare,
-  isRef,
-  isQual,
+  is-lit,
+  is-class,
+  is-bare,
+  is-ref,
+  is-qual,
   single,
-  sameTy,
-  sameTy-eq,
-  sameTy-yes,
-  letterCode,
-  wrapCode,
-  kindCode,
+  same-ty,
+  same-ty-eq,
+  same-ty-yes,
+  letter-code,
+  wrap-code,
+  kind-code,
 }
-use Rattle.catalogue.specs.Class.{stands, push, lastIs}
+use Rattle.catalogue.specs.Class.{stands, push, last-is}
 use Rattle.catalogue.specs.Normal.{seek, known}
 use Rattle.catalogue.specs.NormalTree.{seek-at}
-use Rattle.catalogue.specs.Recogniser.{withCode, allKinds, Lead, leadLetter, leadWrap, leadDigit, leadS, leadN, leadL, leadNone, lead}
-use Rattle.catalogue.specs.ReadsBack.{lead-letter, lead-wrap, kind-at}
+use Rattle.catalogue.specs.Recogniser.{with-code, all-kinds, Lead, lead-letter, lead-wrap, lead-digit, leadS, leadN, leadL, leadNone, lead}
+use Rattle.catalogue.specs.ReadsBack.{lead-letter-is, lead-wrap-is, kind-at}
 use Rattle.catalogue.specs.Entries.{seek-none, at-has}
-use Rattle.walk.specs.Walk.{distinct, addAll, add as add-tree}
+use Rattle.walk.specs.Walk.{distinct, add-all, add as add-tree}
 use Rattle.nodes.specs.Laws.{same-test, at-left, at-end, at-either, seek-law, node-eq, same-node-yes, same-node-eq, letter-below, wrap-below, kind-below, every-wrap, no-byte, stands-is}
 use Rattle.nodes.specs.Nodes.{
   Node,
@@ -66,9 +66,9 @@ use Rattle.nodes.specs.Nodes.{
   may-stand,
   table-place,
   add,
-  add-all,
+  note-add-all,
   firsts,
-  last-is,
+  note-last-is,
 }
 
 -- ---------------------------------------------------------------- trees of numbers
@@ -79,7 +79,7 @@ Numbered ts d t = (i : ℕ) × ((d ≡ least-number + i) × (getElem? ts i ≡ s
 
 -- the number d is of the tree t, where ts are the nodes' trees
 abbrev pub Den : List Ty → ℕ → Ty → Type 0
-Den ts d (letter l) = d ≡ letterCode l
+Den ts d (letter l) = d ≡ letter-code l
 Den ts d (wrap c t) = Numbered ts d (wrap c t)
 Den ts d (root n) = Numbered ts d (root n)
 Den ts d (sub t n) = Numbered ts d (sub t n)
@@ -118,12 +118,12 @@ front t (also x xs) = app t (init x xs)
 
 abbrev pub NodeIs : List Ty → Node → Ty → Type 0
 NodeIs ts x (letter l) = ⊥
-NodeIs ts x (wrap c t) = (x .tag ≡ wrapCode c) × (Den ts (x .of) t × (x .word ≡ []))
+NodeIs ts x (wrap c t) = (x .tag ≡ wrap-code c) × (Den ts (x .of) t × (x .word ≡ []))
 NodeIs ts x (root n) = (x .tag ≡ code "0") × ((x .of ≡ 0) × (x .word ≡ n))
 NodeIs ts x (sub t n) = (x .tag ≡ code "N") × (Den ts (x .of) t × (x .word ≡ n))
 NodeIs ts x (app t xs) =
-    (isBare t ≡ true) × ((d : ℕ) × ((x .tag ≡ least-number + d) × (Den ts d (final xs) × (Den ts (x .of) (front t xs) × (x .word ≡ [])))))
-NodeIs ts x (lit k g v) = (x .tag ≡ code "L") × ((x .of ≡ signed-kind (kindCode k) g) × (x .word ≡ v))
+    (is-bare t ≡ true) × ((d : ℕ) × ((x .tag ≡ least-number + d) × (Den ts d (final xs) × (Den ts (x .of) (front t xs) × (x .word ≡ [])))))
+NodeIs ts x (lit k g v) = (x .tag ≡ code "L") × ((x .of ≡ signed-kind (kind-code k) g) × (x .word ≡ v))
 
 -- the nodes are those of the trees, and no tree stands twice
 pub record Forest (ts : List Ty) (ns : List Node) : Type 0 where
@@ -181,9 +181,9 @@ dens-push ts (e ∷ ds) (u ∷ vs) d t h g = (h .0, dens-push ts ds vs d t (h .1
 -- ---------------------------------------------------------------- the tree of a number
 
 abbrev letter-of : Lead → Option Ty
-letter-of (leadLetter l) = some (letter l)
-letter-of (leadWrap q) = none
-letter-of leadDigit = none
+letter-of (lead-letter l) = some (letter l)
+letter-of (lead-wrap q) = none
+letter-of lead-digit = none
 letter-of leadS = none
 letter-of leadN = none
 letter-of leadL = none
@@ -196,7 +196,7 @@ den-tree : (ts : List Ty) (d : ℕ) (t : Ty) → Den ts d t → tree-at ts d ≡
 unfolding tree-at if_then_else_
 den-tree ts d t =
     every-tree (λ u. Den ts d u → tree-at ts d ≡ some u)
-    (λ l h. rw (h, lt-ltb (letterCode l) least-number (letter-below l), lead-letter l) refl) (λ u q h. entry u (rw (q ts d) at h)) t
+    (λ l h. rw (h, lt-ltb (letter-code l) least-number (letter-below l), lead-letter-is l) refl) (λ u q h. entry u (rw (q ts d) at h)) t
   where
     entry : (u : Ty) → Numbered ts d u → tree-at ts d ≡ some u
     entry u h =
@@ -222,7 +222,7 @@ snoc-init : (x : Ty) (xs : Args) → snoc (init x xs) (final xs) ≡ also x xs
 snoc-init x (one y) = refl
 snoc-init x (also y ys) = ap (also x) (snoc-init y ys)
 
-front-final : (t : Ty) (xs : Args) → isBare t ≡ true → behind (front t xs) (final xs) ≡ app t xs
+front-final : (t : Ty) (xs : Args) → is-bare t ≡ true → behind (front t xs) (final xs) ≡ app t xs
 unfolding behind
 front-final (letter l) (one x) b = refl
 front-final (wrap c t) (one x) b = refl
@@ -234,21 +234,21 @@ front-final t (also x xs) b = ap (app t) (snoc-init x xs)
 
 lit-of : ℕ → Text → Option Ty
 lit-of n w =
-    if ltb n least-number then choose (withCode kindCode n allKinds) (λ k. some (lit k false w)) none else
-    choose (withCode kindCode (n - least-number) allKinds) (λ k. some (lit k true w)) none
+    if ltb n least-number then choose (with-code kind-code n all-kinds) (λ k. some (lit k false w)) none else
+    choose (with-code kind-code (n - least-number) all-kinds) (λ k. some (lit k true w)) none
 
-lit-is : (k : Kind) (g : Bool) (v : Text) → lit-of (signed-kind (kindCode k) g) v ≡ some (lit k g v)
+lit-is : (k : Kind) (g : Bool) (v : Text) → lit-of (signed-kind (kind-code k) g) v ≡ some (lit k g v)
 unfolding lit-of if_then_else_ choose
 lit-is k true v =
-    let e : kindCode k + least-number - least-number ≡ kindCode k = omega arith in
-    rw (le-ltb (kindCode k + least-number) least-number (omega arith), e, kind-at k) refl
-lit-is k false v = rw (lt-ltb (kindCode k) least-number (kind-below k), kind-at k) refl
+    let e : kind-code k + least-number - least-number ≡ kind-code k = omega arith in
+    rw (le-ltb (kind-code k + least-number) least-number (omega arith), e, kind-at k) refl
+lit-is k false v = rw (lt-ltb (kind-code k) least-number (kind-below k), kind-at k) refl
 
 -- by the tag, what has the number below, that number and the word
 abbrev by-lead : Lead → Option Ty → ℕ → Text → Option Ty
-by-lead (leadLetter l) o n w = none
-by-lead (leadWrap q) o n w = choose o (λ t. some (wrap q t)) none
-by-lead leadDigit o n w = some (root w)
+by-lead (lead-letter l) o n w = none
+by-lead (lead-wrap q) o n w = choose o (λ t. some (wrap q t)) none
+by-lead lead-digit o n w = some (root w)
 by-lead leadS o n w = none
 by-lead leadN o n w = choose o (λ t. some (sub t w)) none
 by-lead leadL o n w = lit-of n w
@@ -263,7 +263,7 @@ node-is : (ts : List Ty) (x : Node) (u : Ty) → NodeIs ts x u → node-tree ts 
 unfolding node-tree if_then_else_ choose lead digit digit-value
 node-is ts x (letter l) h = absurd h
 node-is ts x (wrap c t) h =
-    rw (h .0, lt-ltb (wrapCode c) least-number (wrap-below c), lead-wrap c, den-tree ts (x .of) t (h .1 .0)) refl
+    rw (h .0, lt-ltb (wrap-code c) least-number (wrap-below c), lead-wrap-is c, den-tree ts (x .of) t (h .1 .0)) refl
 node-is ts x (root n) h = rw (h .0) (ap (λ w. some (root w)) (h .1 .1))
 node-is ts x (sub t n) h = rw (h .0, den-tree ts (x .of) t (h .1 .0)) (ap (λ w. some (sub t w)) (h .1 .1))
 node-is ts x (app t xs) h =
@@ -320,25 +320,25 @@ pub record Noted (ts : List Ty) (x : Node) (ns : List Node) (u : Ty) : Type 0 wh
   pub is : Den trees (number-of x ns) u
 
 module _ {ts : List Ty} {ns : List Node} (f : Forest ts ns) (x : Node) (u : Ty) (h : NodeIs ts x u) where
-  same-tree : (y : Node) (v : Ty) → NodeIs ts y v → same-node x y ≡ sameTy u v
-  same-tree y v g = same-test (same-node x y) (sameTy u v) there back
+  same-tree : (y : Node) (v : Ty) → NodeIs ts y v → same-node x y ≡ same-ty u v
+  same-tree y v g = same-test (same-node x y) (same-ty u v) there back
     where
-      there : same-node x y ≡ true → sameTy u v ≡ true
+      there : same-node x y ≡ true → same-ty u v ≡ true
       there e =
           let p = node-is ts x u h in
           let q = node-is ts y v g in
           let s = same-node-eq x y e in
           let z : u ≡ v = cc in
-          rw z (sameTy-yes v)
+          rw z (same-ty-yes v)
 
-      back : sameTy u v ≡ true → same-node x y ≡ true
-      back e = rw (node-once f u x y h (rw (sym (sameTy-eq u v e)) at g)) (same-node-yes y)
+      back : same-ty u v ≡ true → same-node x y ≡ true
+      back e = rw (node-once f u x y h (rw (sym (same-ty-eq u v e)) at g)) (same-node-yes y)
 
   place-agrees : node-place x ns ≡ seek u ts
   unfolding node-place
   place-agrees = seek-law (same-node x) u ns ts (f .size) at
     where
-      at : (i : ℕ) (y : Node) (v : Ty) → getElem? ns i ≡ some y → getElem? ts i ≡ some v → same-node x y ≡ sameTy u v
+      at : (i : ℕ) (y : Node) (v : Ty) → getElem? ns i ≡ some y → getElem? ts i ≡ some v → same-node x y ≡ same-ty u v
       at i y v p q = let r = f .are i v q in let z : r .0 ≡ y = cc (r .1 .0) in same-tree y v (rw z at (r .1 .1))
 
   one-more : seek u ts ≡ none → Forest (push u ts) (ns ++ (x ∷ []))
@@ -386,7 +386,7 @@ module _ {ts : List Ty} {ns : List Node} (f : Forest ts ns) (x : Node) (u : Ty) 
 pub note : {ts : List Ty} {ns : List Node} → Forest ts ns → (x : Node) (u : Ty) → NodeIs ts x u → Noted ts x ns u
 note {ts} f x u h = noted-at f x u h (seek u ts) refl
 
-pub first-arg : (ts : List Ty) (d e : ℕ) (t x : Ty) → isBare t ≡ true → Den ts d t → Den ts e x → NodeIs ts (arg-node d e) (app t (one x))
+pub first-arg : (ts : List Ty) (d e : ℕ) (t x : Ty) → is-bare t ≡ true → Den ts d t → Den ts e x → NodeIs ts (arg-node d e) (app t (one x))
 first-arg ts d e t x b h g = (b, (e, (refl, (g, (h, refl)))))
 
 final-snoc : (xs : Args) (x : Ty) → final (snoc xs x) ≡ x
@@ -401,30 +401,30 @@ front-snoc : (t : Ty) (xs : Args) (x : Ty) → front t (snoc xs x) ≡ app t xs
 front-snoc t (one y) x = refl
 front-snoc t (also y ys) x = ap (app t) (init-snoc y ys x)
 
-pub next-arg : (ts : List Ty) (d e : ℕ) (t : Ty) (xs : Args) (x : Ty) → isBare t ≡ true → Den ts d (app t xs) → Den ts e x
+pub next-arg : (ts : List Ty) (d e : ℕ) (t : Ty) (xs : Args) (x : Ty) → is-bare t ≡ true → Den ts d (app t xs) → Den ts e x
     → NodeIs ts (arg-node d e) (app t (snoc xs x))
 next-arg ts d e t xs x b h g = (b, (e, (refl, (rw (final-snoc xs x) g, (rw (front-snoc t xs x) h, refl)))))
 
 -- ---------------------------------------------------------------- tests by the tag
 
-abbrev pub isSub : Ty → Bool
-isSub (letter l) = false
-isSub (wrap c t) = false
-isSub (root n) = false
-isSub (sub t n) = true
-isSub (app t xs) = false
-isSub (lit k g v) = false
+abbrev pub is-sub : Ty → Bool
+is-sub (letter l) = false
+is-sub (wrap c t) = false
+is-sub (root n) = false
+is-sub (sub t n) = true
+is-sub (app t xs) = false
+is-sub (lit k g v) = false
 
 module _ {ts : List Ty} {ns : List Node} (f : Forest ts ns) (d : ℕ) (t : Ty) (h : Den ts d t) where
   -- a test of the tag is a test of the tree
-  by-tag : (p : ℕ → Bool) (q : Ty → Bool) → ((l : Letter) → p 0 ≡ q (letter l)) → ((c : Wrap) (u : Ty) → p (wrapCode c) ≡ q (wrap c u))
+  by-tag : (p : ℕ → Bool) (q : Ty → Bool) → ((l : Letter) → p 0 ≡ q (letter l)) → ((c : Wrap) (u : Ty) → p (wrap-code c) ≡ q (wrap c u))
       → ((n : Text) → p (code "0") ≡ q (root n)) → ((u : Ty) (n : Text) → p (code "N") ≡ q (sub u n))
       → ((u : Ty) (xs : Args) (e : ℕ) → p (least-number + e) ≡ q (app u xs)) → ((k : Kind) (g : Bool) (v : Text) → p (code "L") ≡ q (lit k g v))
       → p (tag-of ns d) ≡ q t
   unfolding tag-of if_then_else_ choose
   by-tag p q for-letter for-wrap for-root for-sub for-app for-lit =
       every-tree (λ u. Den ts d u → p (tag-of ns d) ≡ q u)
-      (λ l g. rw (g, lt-ltb (letterCode l) least-number (letter-below l)) (for-letter l)) (λ u r g. entry u (rw (r ts d) at g)) t h
+      (λ l g. rw (g, lt-ltb (letter-code l) least-number (letter-below l)) (for-letter l)) (λ u r g. entry u (rw (r ts d) at g)) t h
     where
       by-node : (x : Node) (u : Ty) → NodeIs ts x u → p (x .tag) ≡ q u
       by-node x (letter l) g = absurd g
@@ -441,45 +441,45 @@ module _ {ts : List Ty} {ns : List Node} (f : Forest ts ns) (d : ℕ) (t : Ty) (
           let place : d - least-number ≡ g .0 = omega (arith, g .1 .0) in
           rw (le-ltb d least-number below, place, r .1 .0) (by-node (r .0) u (r .1 .1))
 
-  pub tag-lit : a-lit (tag-of ns d) ≡ isLit t
+  pub tag-lit : a-lit (tag-of ns d) ≡ is-lit t
   tag-lit =
-      by-tag a-lit isLit (λ l. refl) (λ c u. every-wrap (λ w. a-lit (wrapCode w) ≡ false) refl refl refl refl refl c) (λ n. refl)
+      by-tag a-lit is-lit (λ l. refl) (λ c u. every-wrap (λ w. a-lit (wrap-code w) ≡ false) refl refl refl refl refl c) (λ n. refl)
       (λ u n. refl) (λ u xs e. no-byte e (code "L") (omega arith)) (λ k g v. refl)
 
-  pub tag-bare : a-bare (tag-of ns d) ≡ isBare t
+  pub tag-bare : a-bare (tag-of ns d) ≡ is-bare t
   tag-bare =
-      by-tag a-bare isBare (λ l. refl) (λ c u. every-wrap (λ w. a-bare (wrapCode w) ≡ false) refl refl refl refl refl c) (λ n. refl)
+      by-tag a-bare is-bare (λ l. refl) (λ c u. every-wrap (λ w. a-bare (wrap-code w) ≡ false) refl refl refl refl refl c) (λ n. refl)
       (λ u n. refl) (λ u xs e. rw (no-byte e (code "0") (omega arith), no-byte e (code "N") (omega arith)) refl) (λ k g v. refl)
 
-  pub tag-class : a-class (tag-of ns d) ≡ isClass t
+  pub tag-class : a-class (tag-of ns d) ≡ is-class t
   tag-class =
-      by-tag a-class isClass (λ l. refl) (λ c u. every-wrap (λ w. a-class (wrapCode w) ≡ false) refl refl refl refl refl c) (λ n. refl)
+      by-tag a-class is-class (λ l. refl) (λ c u. every-wrap (λ w. a-class (wrap-code w) ≡ false) refl refl refl refl refl c) (λ n. refl)
       (λ u n. refl)
       (λ u xs e. rw (no-byte e (code "0") (omega arith), no-byte e (code "N") (omega arith)) (le-leb least-number (least-number + e) (omega arith)))
       (λ k g v. refl)
 
-  pub tag-root : eqb (tag-of ns d) (code "0") ≡ (single t && isBare t)
+  pub tag-root : eqb (tag-of ns d) (code "0") ≡ (single t && is-bare t)
   tag-root =
-      by-tag (λ c. eqb c (code "0")) (λ u. single u && isBare u) (λ l. refl)
-      (λ c u. every-wrap (λ w. eqb (wrapCode w) (code "0") ≡ false) refl refl refl refl refl c) (λ n. refl) (λ u n. refl)
+      by-tag (λ c. eqb c (code "0")) (λ u. single u && is-bare u) (λ l. refl)
+      (λ c u. every-wrap (λ w. eqb (wrap-code w) (code "0") ≡ false) refl refl refl refl refl c) (λ n. refl) (λ u n. refl)
       (λ u xs e. no-byte e (code "0") (omega arith) ∙ sym (and-false (single u))) (λ k g v. refl)
 
-  pub tag-sub : eqb (tag-of ns d) (code "N") ≡ isSub t
+  pub tag-sub : eqb (tag-of ns d) (code "N") ≡ is-sub t
   tag-sub =
-      by-tag (λ c. eqb c (code "N")) isSub (λ l. refl) (λ c u. every-wrap (λ w. eqb (wrapCode w) (code "N") ≡ false) refl refl refl refl refl c)
+      by-tag (λ c. eqb c (code "N")) is-sub (λ l. refl) (λ c u. every-wrap (λ w. eqb (wrap-code w) (code "N") ≡ false) refl refl refl refl refl c)
       (λ n. refl) (λ u n. refl) (λ u xs e. no-byte e (code "N") (omega arith)) (λ k g v. refl)
 
-  tag-ref : a-ref (tag-of ns d) ≡ isRef t
+  tag-ref : a-ref (tag-of ns d) ≡ is-ref t
   tag-ref =
-      by-tag a-ref isRef (λ l. refl) (λ c u. every-wrap (λ w. a-ref (wrapCode w) ≡ isRef (wrap w u)) refl refl refl refl refl c) (λ n. refl)
+      by-tag a-ref is-ref (λ l. refl) (λ c u. every-wrap (λ w. a-ref (wrap-code w) ≡ is-ref (wrap w u)) refl refl refl refl refl c) (λ n. refl)
       (λ u n. refl) (λ u xs e. rw (no-byte e (code "R") (omega arith), no-byte e (code "O") (omega arith)) refl) (λ k g v. refl)
 
-  tag-qual : a-qual (tag-of ns d) ≡ isQual t
+  tag-qual : a-qual (tag-of ns d) ≡ is-qual t
   tag-qual =
-      by-tag a-qual isQual (λ l. refl) (λ c u. every-wrap (λ w. a-qual (wrapCode w) ≡ isQual (wrap w u)) refl refl refl refl refl c) (λ n. refl)
+      by-tag a-qual is-qual (λ l. refl) (λ c u. every-wrap (λ w. a-qual (wrap-code w) ≡ is-qual (wrap w u)) refl refl refl refl refl c) (λ n. refl)
       (λ u n. refl) (λ u xs e. rw (no-byte e (code "K") (omega arith), no-byte e (code "V") (omega arith)) refl) (λ k g v. refl)
 
-  pub tag-stands : (q : Wrap) → may-stand (wrapCode q) (tag-of ns d) ≡ stands q t
+  pub tag-stands : (q : Wrap) → may-stand (wrap-code q) (tag-of ns d) ≡ stands q t
   unfolding may-stand
   tag-stands q = rw (tag-lit, tag-ref, tag-qual) (sym (stands-is q t))
 
@@ -506,17 +506,17 @@ dens-length ts (d ∷ ds) [] h = absurd h
 dens-length ts (d ∷ ds) (t ∷ vs) h = ap suc (dens-length ts ds vs (h .1))
 
 module _ {ts : List Ty} {ns : List Node} (f : Forest ts ns) where
-  same-number : (d e : ℕ) (t u : Ty) → Den ts d t → Den ts e u → eqb d e ≡ sameTy t u
+  same-number : (d e : ℕ) (t u : Ty) → Den ts d t → Den ts e u → eqb d e ≡ same-ty t u
   same-number d e t u h g =
-      same-test (eqb d e) (sameTy t u)
-      (λ q. rw (den-same ts e t u (rw (eqb-eq d e q) at h) g) (sameTy-yes u))
-      (λ q. rw (den-once f u d e (rw (sameTy-eq t u q) at h) g) (eqb-yes e))
+      same-test (eqb d e) (same-ty t u)
+      (λ q. rw (den-same ts e t u (rw (eqb-eq d e q) at h) g) (same-ty-yes u))
+      (λ q. rw (den-once f u d e (rw (same-ty-eq t u q) at h) g) (eqb-yes e))
 
   seek-number : (ds : List ℕ) (vs : List Ty) → Dens ts ds vs → (d : ℕ) (u : Ty) → Den ts d u → table-place d ds ≡ seek u vs
   unfolding table-place
   seek-number ds vs h d u g = seek-law (eqb d) u ds vs (dens-length ts ds vs h) at
     where
-      at : (i e : ℕ) (v : Ty) → getElem? ds i ≡ some e → getElem? vs i ≡ some v → eqb d e ≡ sameTy u v
+      at : (i e : ℕ) (v : Ty) → getElem? ds i ≡ some e → getElem? vs i ≡ some v → eqb d e ≡ same-ty u v
       at i e v p q = same-number d e u v g (rw (p, q) at (entry-is ts ds vs h i))
 
   dens-add : (ds : List ℕ) (vs : List Ty) → Dens ts ds vs → (d : ℕ) (u : Ty) → Den ts d u → Dens ts (add d ds) (add-tree u vs)
@@ -527,15 +527,15 @@ module _ {ts : List Ty} {ns : List Node} (f : Forest ts ns) where
       go none = dens-push ts ds vs d u h g
       go (some i) = h
 
-  dens-all : (es : List ℕ) (ws : List Ty) → Dens ts es ws → (ds : List ℕ) (vs : List Ty) → Dens ts ds vs → Dens ts (add-all ds es) (addAll vs ws)
-  unfolding add-all addAll
+  dens-all : (es : List ℕ) (ws : List Ty) → Dens ts es ws → (ds : List ℕ) (vs : List Ty) → Dens ts ds vs → Dens ts (note-add-all ds es) (add-all vs ws)
+  unfolding note-add-all add-all
   dens-all [] [] g ds vs h = h
   dens-all [] (w ∷ ws) g ds vs h = absurd g
   dens-all (e ∷ es) [] g ds vs h = absurd g
   dens-all (e ∷ es) (w ∷ ws) g ds vs h = dens-all es ws (g .1) (add e ds) (add-tree w vs) (dens-add ds vs h e w (g .0))
 
-  last-number : (ds : List ℕ) (vs : List Ty) → Dens ts ds vs → (d : ℕ) (u : Ty) → Den ts d u → last-is d ds ≡ lastIs u vs
-  unfolding last-is lastIs
+  last-number : (ds : List ℕ) (vs : List Ty) → Dens ts ds vs → (d : ℕ) (u : Ty) → Den ts d u → note-last-is d ds ≡ last-is u vs
+  unfolding note-last-is last-is
   last-number [] [] h d u g = refl
   last-number [] (v ∷ vs) h d u g = absurd h
   last-number (e ∷ ds) [] h d u g = absurd h
@@ -548,5 +548,5 @@ module _ {ts : List Ty} {ns : List Node} (f : Forest ts ns) (ds : List ℕ) (vs 
   pub place-is : (d : ℕ) (u : Ty) → Den ts d u → table-place d (firsts ds) ≡ seek u (distinct vs)
   place-is d u g = seek-number f (firsts ds) (distinct vs) (dens-all f ds vs h [] [] tt) d u g
 
-  pub newest-is : (d : ℕ) (u : Ty) → Den ts d u → last-is d ds ≡ lastIs u vs
+  pub newest-is : (d : ℕ) (u : Ty) → Den ts d u → note-last-is d ds ≡ last-is u vs
   newest-is d u g = last-number f ds vs h d u g

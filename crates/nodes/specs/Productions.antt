@@ -8,10 +8,10 @@ use Prim.Native.Char.{code}
 use lib.ListN.{length, getElem?}
 use Rattle.grammar.specs.Text.{Text, if_then_else_, choose}
 use Rattle.catalogue.specs.Bytes.{and-right}
-use Rattle.catalogue.specs.Tree.{Ty, Args, letter, wrap, root, sub, app, lit, one, also, isClass, isBare, single}
-use Rattle.catalogue.specs.Spelling.{nameBytes}
-use Rattle.catalogue.specs.Class.{stands, push, lastIs, pushNew}
-use Rattle.catalogue.specs.Recogniser.{ifNext, Lead, leadLetter, leadWrap, leadDigit, leadS, leadN, leadL, leadNone}
+use Rattle.catalogue.specs.Tree.{Ty, Args, letter, wrap, root, sub, app, lit, one, also, is-class, is-bare, single}
+use Rattle.catalogue.specs.Spelling.{name-bytes}
+use Rattle.catalogue.specs.Class.{stands, push, last-is, push-new}
+use Rattle.catalogue.specs.Recogniser.{if-next, Lead, lead-letter, lead-wrap, lead-digit, leadS, leadN, leadL, leadNone}
 use Rattle.walk.specs.Walk.{
   Walk,
   Walker,
@@ -22,17 +22,17 @@ use Rattle.walk.specs.Walk.{
   name,
   reference,
   literal,
-  litBytes,
+  lit-bytes,
   wrote,
   in-brackets,
-  withArgs,
+  with-args,
   enter,
-  enterNested,
-  atLead,
-  atParts,
-  endOr,
-  atMore,
-  atArg,
+  enter-nested,
+  at-lead,
+  at-parts,
+  end-or,
+  at-more,
+  at-arg,
 }
 use Rattle.walk.specs.Holds.{OfRd}
 use Rattle.walk.specs.Leaves.{Literal, lit-sound, Begins}
@@ -43,7 +43,7 @@ use Rattle.nodes.specs.Nodes.{
   Got,
   next as next-note,
   when as when-note,
-  at-name,
+  note-at-name,
   at-reference,
   root-node,
   sub-node,
@@ -59,12 +59,12 @@ use Rattle.nodes.specs.Nodes.{
   settled,
   entered,
   entered-nested,
-  with-args,
-  at-lead,
-  at-parts,
-  end-or,
-  at-more,
-  at-arg,
+  note-with-args,
+  note-at-lead,
+  note-at-parts,
+  note-end-or,
+  note-at-more,
+  note-at-arg,
 }
 use Rattle.nodes.specs.Numbers.{
   Den,
@@ -138,7 +138,7 @@ join-also : (b : Option Args) (x : Ty) (ys : Args) → join (some (join b (one x
 join-also none x ys = one-snocs x ys
 join-also (some xs) x ys = refl
 
-arg-is : (ts : List Ty) (b : Option Args) (d e : ℕ) (t x : Ty) → isBare t ≡ true → Den ts d (behind t b) → Den ts e x
+arg-is : (ts : List Ty) (b : Option Args) (d e : ℕ) (t x : Ty) → is-bare t ≡ true → Den ts d (behind t b) → Den ts e x
     → NodeIs ts (arg-node d e) (app t (join b (one x)))
 arg-is ts none d e t x p h g = first-arg ts d e t x p h g
 arg-is ts (some xs) d e t x p h g = next-arg ts d e t xs x p h g
@@ -171,7 +171,7 @@ SameType f g =
 abbrev pub SameArgs : Walker Args → (ℕ → Noter ℕ) → Type 0
 SameArgs f g =
     (ts : List Ty) (o : Text) (vs : List Ty) (k : ℕ) (s : Text) (σ : Notes) → Keeps ts o vs k s σ
-    → (t : Ty) (b : Option Args) (d : ℕ) → isBare t ≡ true → Den ts d (behind t b) → Agree ts o (ArgsIs t b) Never (f vs k s) (g d σ)
+    → (t : Ty) (b : Option Args) (d : ℕ) → is-bare t ≡ true → Den ts d (behind t b) → Agree ts o (ArgsIs t b) Never (f vs k s) (g d σ)
 
 abbrev pub SameParts : Walker Ty → (ℕ → Noter ℕ) → Type 0
 SameParts f g =
@@ -182,7 +182,7 @@ SameParts f g =
 abbrev pub SameMore : Text → (Ty → Text → Walker Ty) → (ℕ → Bool → Noter ℕ) → Type 0
 SameMore o f g =
     (ts : List Ty) (w : Text) (vs : List Ty) (k : ℕ) (s : Text) (σ : Notes) → Keeps ts (o ++ w) vs k s σ
-    → (t : Ty) (d : ℕ) (l : Bool) → Den ts d t → (isBare t ≡ true → l ≡ single t) → Agree ts o PartsIs Lone (f t w vs k s) (g d l σ)
+    → (t : Ty) (d : ℕ) (l : Bool) → Den ts d t → (is-bare t ≡ true → l ≡ single t) → Agree ts o PartsIs Lone (f t w vs k s) (g d l σ)
 
 -- ---------------------------------------------------------------- a tree that enters the table
 
@@ -202,11 +202,11 @@ module _ {ts : List Ty} {vs : List Ty} {k : ℕ} {r : Text} {σ : Notes} (o w : 
 module _ {A B : Type 0} {D : List Ty → B → A → Type 0} {M : A → Type 0} {ts : List Ty} {o : Text} {vs : List Ty} {k : ℕ} {s : Text} {σ : Notes}
     (h : Keeps ts o vs k s σ) where
   name-same : (f : Text → Text → Walk A) (j : ℕ → Noter B)
-      → ((n r : Text) (d : ℕ) (τ : Notes) → Read ts o Den (root n) (wrote (root n) vs (nameBytes n)) (push (root n) vs) k r d τ → Agree ts o D M (f n r) (j d τ))
-      → Agree ts o D M (with (name s) f) (next-note (at-name (length o) σ) j)
+      → ((n r : Text) (d : ℕ) (τ : Notes) → Read ts o Den (root n) (wrote (root n) vs (name-bytes n)) (push (root n) vs) k r d τ → Agree ts o D M (f n r) (j d τ))
+      → Agree ts o D M (with (name s) f) (next-note (note-at-name (length o) σ) j)
   name-same f j g =
       agree-with-next (name s) (name (σ .rest)) _ _ _ (ap name (h .left))
-      (λ n r. g n r _ _ (entered-read o (nameBytes n) (keeps-put (keeps-go h r) (nameBytes n)) (root-node n) (root n) (refl, (refl, refl))))
+      (λ n r. g n r _ _ (entered-read o (name-bytes n) (keeps-put (keeps-go h r) (name-bytes n)) (root-node n) (root n) (refl, (refl, refl))))
 
   reference-same : (f : Ty → Text → Walk A) (j : ℕ → Noter B)
       → ((t : Ty) (r : Text) (d : ℕ) (τ : Notes) → Read ts o Den t (wrote t vs []) vs k r d τ → Agree ts o D M (f t r) (j d τ))
@@ -232,21 +232,21 @@ module _ (o : Text) (args : Walker Args) (args′ : ℕ → Noter ℕ) (p : Same
   -- [I <template-args> E]
   with-args-same : {ts : List Ty} {t : Ty} {w : Text} {vs : List Ty} {k : ℕ} {r : Text} {d : ℕ} {σ : Notes} → Read ts o Den t w vs k r d σ
       → Agree ts o Den Never
-      (ifNext (code "I") r (λ r′. when (single t && isBare t) (withArgs t w (args vs k r′) enter)) (got t w vs k r))
-      (with-args d (length o) args′ σ)
+      (if-next (code "I") r (λ r′. when (single t && is-bare t) (with-args t w (args vs k r′) enter)) (got t w vs k r))
+      (note-with-args d (length o) args′ σ)
   with-args-same {ts} {t} {w} {r} {d} {σ} h =
       agree-if (code "I") r (σ .rest) _ _ _ _ (h .keeps .left)
-      (λ r′. agree-when (single t && isBare t) _ (tag-root (h .keeps .forest) d t (h .is))
+      (λ r′. agree-when (single t && is-bare t) _ (tag-root (h .keeps .forest) d t (h .is))
       (λ b. agree-from (h .more) (agree-then _ _
-      (p _ _ _ _ _ _ (keeps-put (keeps-go (h .keeps) r′) (code "I" ∷ [])) t none d (and-right (single t) (isBare t) b) (h .is))
+      (p _ _ _ _ _ _ (keeps-put (keeps-go (h .keeps) r′) (code "I" ∷ [])) t none d (and-right (single t) (is-bare t) b) (h .is))
       (λ xs v vs′ k′ r″ e τ g. agree-from (g .more)
       (agree-here (keeps-entered o (w ++ in-brackets (code "I") v) (args-keep o w v (g .keeps)) e (app t xs) (g .is)) (g .is))))))
       (both h)
 
   -- <template-arg> (E | <template-args>)
   pub arg-same : {ts : List Ty} (w : Text) {vs : List Ty} {k : ℕ} {r : Text} {σ : Notes} → Keeps ts (o ++ w) vs k r σ
-      → (t : Ty) (b : Option Args) (d : ℕ) → isBare t ≡ true → Den ts d (behind t b) → (x : Ty) (e : ℕ) → Den ts e x
-      → Agree ts o (ArgsIs t b) Never (atArg x w vs k r args) (at-arg d e σ args′)
+      → (t : Ty) (b : Option Args) (d : ℕ) → is-bare t ≡ true → Den ts d (behind t b) → (x : Ty) (e : ℕ) → Den ts e x
+      → Agree ts o (ArgsIs t b) Never (at-arg x w vs k r args) (note-at-arg d e σ args′)
   arg-same {ts} w {vs} {k} {r} {σ} s t b d q h x e g =
       let n = note (s .forest) (arg-node d e) (app t (join b (one x))) (arg-is ts b d e t x q h g) in
       agree-if (code "E") r (σ .rest) _ _ _ _ (s .left)
@@ -272,7 +272,7 @@ and-bare false q h = refl
 module _ (o : Text) (more : Ty → Text → Walker Ty) (more′ : ℕ → Bool → Noter ℕ) (p : SameMore o more more′) where
   -- E | <more>
   end-same : {ts : List Ty} (w : Text) {vs : List Ty} {k : ℕ} {r : Text} {σ : Notes} → Keeps ts (o ++ w) vs k r σ
-      → (u : Ty) (d : ℕ) (l : Bool) → Den ts d u → Longer u l → Agree ts o PartsIs Lone (endOr more u w vs k r) (end-or (length o) more′ d l σ)
+      → (u : Ty) (d : ℕ) (l : Bool) → Den ts d u → Longer u l → Agree ts o PartsIs Lone (end-or more u w vs k r) (note-end-or (length o) more′ d l σ)
   end-same {ts} w {vs} {k} {r} {σ} s u d l h b =
       agree-if (code "E") r (σ .rest) _ _ _ _ (s .left) (λ r′. at-end r′ l b)
       (p _ _ _ _ _ _ (keeps-entered o w s d u h) u d l h (λ i. longer-single u l b))
@@ -283,16 +283,16 @@ module _ (o : Text) (more : Ty → Text → Walker Ty) (more′ : ℕ → Bool �
 
   -- <source-name> <more> | S [<seq-id>] _ <more>
   pub parts-same : (l : Lead) (c : ℕ) {ts : List Ty} {vs : List Ty} {k : ℕ} {s : Text} {σ : Notes} → Keeps ts o vs k (c ∷ s) σ
-      → Agree ts o PartsIs Lone (atParts l c vs k s more) (at-parts l (length o) s σ more′)
-  parts-same (leadLetter l) c h = neither
-  parts-same (leadWrap q) c h = neither
-  parts-same leadDigit c h =
+      → Agree ts o PartsIs Lone (at-parts l c vs k s more) (note-at-parts l (length o) s σ more′)
+  parts-same (lead-letter l) c h = neither
+  parts-same (lead-wrap q) c h = neither
+  parts-same lead-digit c h =
       name-same h _ _ (λ n r d τ g. agree-from (g .more) (p _ _ _ _ _ _ (g .keeps) (root n) d true (g .is) (λ b. refl)))
   parts-same leadS c {s} h =
       reference-same (keeps-go h s) _ _
-      (λ t r d τ g. agree-when (isClass t) _ (tag-class (g .keeps .forest) d t (g .is))
+      (λ t r d τ g. agree-when (is-class t) _ (tag-class (g .keeps .forest) d t (g .is))
       (λ b. agree-from (g .more)
-      (p _ _ _ _ _ _ (g .keeps) t d _ (g .is) (λ q. tag-root (g .keeps .forest) d t (g .is) ∙ and-bare (single t) (isBare t) q))))
+      (p _ _ _ _ _ _ (g .keeps) t d _ (g .is) (λ q. tag-root (g .keeps .forest) d t (g .is) ∙ and-bare (single t) (is-bare t) q))))
   parts-same leadN c h = neither
   parts-same leadL c h = neither
   parts-same leadNone c h = neither
@@ -300,30 +300,30 @@ module _ (o : Text) (more : Ty → Text → Walker Ty) (more′ : ℕ → Bool �
   module _ (args : Walker Args) (args′ : ℕ → Noter ℕ) (q : SameArgs args args′) where
     -- (I <template-args> E | <source-name>) (E | <more>)
     pub more-same : (i : Bool) (c : ℕ) {ts : List Ty} (w : Text) {vs : List Ty} {k : ℕ} {s : Text} {σ : Notes} → Keeps ts (o ++ w) vs k (c ∷ s) σ
-        → (t : Ty) (d : ℕ) (l : Bool) → Den ts d t → (isBare t ≡ true → l ≡ single t)
-        → Agree ts o PartsIs Lone (atMore i c t w vs k s args more) (at-more i d l (length o) s σ args′ more′)
+        → (t : Ty) (d : ℕ) (l : Bool) → Den ts d t → (is-bare t ≡ true → l ≡ single t)
+        → Agree ts o PartsIs Lone (at-more i c t w vs k s args more) (note-at-more i d l (length o) s σ args′ more′)
     more-same true c w {s} h t d l e b =
-        agree-when (isBare t) _ (tag-bare (h .forest) d t e)
+        agree-when (is-bare t) _ (tag-bare (h .forest) d t e)
         (λ z. agree-then _ _ (q _ _ _ _ _ _ (keeps-put (keeps-go h s) (code "I" ∷ [])) t none d z e)
         (λ xs v vs′ k′ r x τ g. agree-from (g .more) (end-same (w ++ in-brackets (code "I") v) (args-keep o w v (g .keeps)) (app t xs) x l (g .is) (b z))))
     more-same false c w {s} {σ} h t d l e b =
         agree-with (name (c ∷ s)) (name (σ .rest)) _ _ (ap name (h .left))
         (λ n r i. let g = note (h .forest) (sub-node d n) (sub t n) (refl, (e, refl)) in
         agree-from (g .more)
-        (end-same (w ++ nameBytes n) (keeps-as (keeps-put (keeps-noted (keeps-go h r) g) (nameBytes n)) _ (append-assoc o w (nameBytes n))) (sub t n) _ false (g .is) refl))
+        (end-same (w ++ name-bytes n) (keeps-as (keeps-put (keeps-noted (keeps-go h r) g) (name-bytes n)) _ (append-assoc o w (name-bytes n))) (sub t n) _ false (g .is) refl))
 
 -- ---------------------------------------------------------------- types
 
 -- N <parts> E
 module _ {ts : List Ty} {vs : List Ty} {k : ℕ} {r : Text} {σ : Notes} (o w : Text) (s : Keeps ts (o ++ w) vs k r σ) where
   nested-keeps : (d : ℕ) (u : Ty) → Den ts d u → Longer u false
-      → Keeps ts (o ++ wrote u vs w) (enterNested u vs) k r (entered-nested d (length o) σ)
-  unfolding entered-nested pushNew if_then_else_
+      → Keeps ts (o ++ wrote u vs w) (enter-nested u vs) k r (entered-nested d (length o) σ)
+  unfolding entered-nested push-new if_then_else_
   nested-keeps d (letter l) h b = absurd b
   nested-keeps d (wrap c t) h b = absurd b
   nested-keeps d (root n) h b = absurd b
   nested-keeps d (sub t n) h b =
-      rw (tag-sub (s .forest) d (sub t n) h, newest-is (s .forest) (σ .table) vs (s .entries) d (sub t n) h) (go (lastIs (sub t n) vs))
+      rw (tag-sub (s .forest) d (sub t n) h, newest-is (s .forest) (σ .table) vs (s .entries) d (sub t n) h) (go (last-is (sub t n) vs))
     where
       go : (p : Bool) → Keeps ts (o ++ wrote (sub t n) vs w) (if p then vs else push (sub t n) vs) k r (if p then settled d (length o) σ else entered d (length o) σ)
       go true = keeps-settled o w s d (sub t n) h
@@ -333,10 +333,10 @@ module _ {ts : List Ty} {vs : List Ty} {k : ℕ} {r : Text} {σ : Notes} (o w : 
 
 -- L <literal> E
 lit-same : {ts : List Ty} {o : Text} {vs : List Ty} {k : ℕ} {s : Text} {σ : Notes} → Keeps ts o vs k s σ → (t : Ty) (r z : Text) → Literal z t r
-    → Agree ts o Den Never (got t (litBytes t) vs k r) (Got.got (number-of (lit-node t) (σ .nodes)) (put (litBytes t) (noted (lit-node t) (go-to r σ))))
+    → Agree ts o Den Never (got t (lit-bytes t) vs k r) (Got.got (number-of (lit-node t) (σ .nodes)) (put (lit-bytes t) (noted (lit-node t) (go-to r σ))))
 lit-same {ts} {o} {vs} {k} {s} {σ} h t r z e =
     let n = note (h .forest) (lit-node t) t (rw (e .is) (refl, (refl, refl))) in
-    agree-from (n .more) (agree-here (keeps-put (keeps-noted (keeps-go h r) n) (litBytes t)) (n .is))
+    agree-from (n .more) (agree-here (keeps-put (keeps-noted (keeps-go h r) n) (lit-bytes t)) (n .is))
 
 last-length : (o : Text) (c : ℕ) → suc (length o) ≡ length (o ++ (c ∷ []))
 last-length [] c = refl
@@ -345,14 +345,14 @@ last-length (x ∷ o) c = ap suc (last-length o c)
 module _ (o : Text) (type : Walker Ty) (type′ : Noter ℕ) (p : SameType type type′) (args : Walker Args) (args′ : ℕ → Noter ℕ) (q : SameArgs args args′)
     (parts : Walker Ty) (parts′ : ℕ → Noter ℕ) (m : SameParts parts parts′) where
   pub lead-same : (l : Lead) (c : ℕ) → Begins l c → {ts : List Ty} {vs : List Ty} {k : ℕ} {s : Text} {σ : Notes} → Keeps ts o vs k (c ∷ s) σ
-      → Agree ts o Den Never (atLead l c vs k s type args parts) (at-lead l c (length o) s σ type′ args′ parts′)
+      → Agree ts o Den Never (at-lead l c vs k s type args parts) (note-at-lead l c (length o) s σ type′ args′ parts′)
   unfolding OfRd
-  lead-same (leadLetter l) c e {s} h = agree-here (keeps-put (keeps-go h s) (c ∷ [])) e
-  lead-same (leadWrap d) c e {s} h =
+  lead-same (lead-letter l) c e {s} h = agree-here (keeps-put (keeps-go h s) (c ∷ [])) e
+  lead-same (lead-wrap d) c e {s} h =
       agree-then _ _ (p _ _ _ _ _ _ (keeps-put (keeps-go h s) (c ∷ [])))
       (λ t w vs′ k′ r x τ g. agree-when (stands d t) _ (ap (λ z. may-stand z (tag-of (τ .nodes) x)) e ∙ tag-stands (g .keeps .forest) x t (g .is) d)
       (λ b. agree-from (g .more) (both (entered-read o (c ∷ w) (keeps-as (g .keeps) _ (append-assoc o (c ∷ []) w)) (wrap-node c x) (wrap d t) (e, (g .is, refl))))))
-  lead-same leadDigit c e h = name-same h _ _ (λ n r d τ g. with-args-same o args args′ q g)
+  lead-same lead-digit c e h = name-same h _ _ (λ n r d τ g. with-args-same o args args′ q g)
   lead-same leadS c e {s} h = reference-same (keeps-go h s) _ _ (λ t r d τ g. with-args-same o args args′ q g)
   lead-same leadN c e {s} h =
       agree-next _ _ (m _ _ _ _ _ _ (keeps-put (keeps-go h s) (c ∷ [])) (suc (length o)) (last-length o c))

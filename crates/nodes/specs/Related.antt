@@ -10,9 +10,9 @@ use lib.ListN.{length}
 use lib.Seq.{take-append-seam}
 use Rattle.grammar.specs.Text.{Text, if_then_else_, choose}
 use Rattle.catalogue.specs.Tree.{Ty}
-use Rattle.catalogue.specs.Spelling.{refBytes}
+use Rattle.catalogue.specs.Spelling.{ref-bytes}
 use Rattle.catalogue.specs.Class.{push}
-use Rattle.catalogue.specs.Recogniser.{Rd, rd, stop, ifNext}
+use Rattle.catalogue.specs.Recogniser.{Rd, rd, stop, if-next}
 use Rattle.walk.specs.Walk.{Walk, Walker, got, bad, next, when, with, wrote}
 use Rattle.nodes.specs.Nodes.{
   Node,
@@ -95,7 +95,7 @@ module _ {ts : List Ty} {o : Text} {vs : List Ty} {k : ℕ} {r : Text} {σ : Not
     left = s .left;
   }
 
-replaced-is : (o w v : Text) → v ≡ o ++ w → (i : Option ℕ) → replaced (length o) v i ≡ o ++ choose i refBytes w
+replaced-is : (o w v : Text) → v ≡ o ++ w → (i : Option ℕ) → replaced (length o) v i ≡ o ++ choose i ref-bytes w
 unfolding choose
 replaced-is o w v e none = e
 replaced-is o w v e (some i) = rw (e, take-append-seam o w) refl
@@ -109,7 +109,7 @@ module _ {ts : List Ty} {vs : List Ty} {k : ℕ} {r : Text} {σ : Notes} (o w : 
     entries = s .entries;
     written =
         replaced-is o w (σ .out) (s .written) (table-place d (firsts (σ .table)))
-        ∙ ap (λ i. o ++ choose i refBytes w) (place-is (s .forest) (σ .table) vs (s .entries) d u h);
+        ∙ ap (λ i. o ++ choose i ref-bytes w) (place-is (s .forest) (σ .table) vs (s .entries) d u h);
     counts = s .counts;
     left = s .left;
   }
@@ -153,7 +153,7 @@ module _ {A B : Type 0} {ts : List Ty} {o : Text} {D : List Ty → B → A → T
   agree-with stop a′ f g e h = rw e neither
 
   pub agree-if : (c : ℕ) (s s′ : Text) (f : Text → Walk A) (g : Text → Got B) (p : Walk A) (q : Got B) → s′ ≡ s
-      → ((r : Text) → Agree ts o D M (f r) (g r)) → Agree ts o D M p q → Agree ts o D M (ifNext c s f p) (ifNext c s′ g q)
+      → ((r : Text) → Agree ts o D M (f r) (g r)) → Agree ts o D M p q → Agree ts o D M (if-next c s f p) (if-next c s′ g q)
   unfolding if_then_else_
   agree-if c [] s′ f g p q e h k = rw e k
   agree-if c (d ∷ s) s′ f g p q e h k = rw e (go (eqb d c))

@@ -4,9 +4,9 @@ use mathlib.Core.Path.{_≡_}
 use Prim.Native.Nat.{ℕ, _-_, _≤_, _<_, min}
 use lib.ListN.{length, drop}
 use Rattle.grammar.specs.Text.{Text, choose}
-use Rattle.catalogue.specs.Tree.{Kind, Ty, lit, kindCode}
-use Rattle.catalogue.specs.Class.{litOk}
-use Rattle.catalogue.specs.Recogniser.{Rd, rd, stop, withCode, allKinds}
+use Rattle.catalogue.specs.Tree.{Kind, Ty, lit, kind-code}
+use Rattle.catalogue.specs.Class.{lit-ok}
+use Rattle.catalogue.specs.Recogniser.{Rd, rd, stop, with-code, all-kinds}
 use Rattle.walk.specs.Walk.{name, reference, value as value-at, literal as literal-at}
 use Rattle.normal.specs.Parts.{part}
 use Rattle.normal.specs.declared.words.Named.{Named}
@@ -50,19 +50,19 @@ RefIs s at no-reference = reference (drop at s) ≡ stop
 
 -- the digits v are a value of the kind that has the byte
 unfoldable pub valid-by : ℕ → Bool → Text → Bool
-valid-by c g v = choose (withCode kindCode c allKinds) (λ k. litOk k g v) false
+valid-by c g v = choose (with-code kind-code c all-kinds) (λ k. lit-ok k g v) false
 
 -- what was read is the value of a kind and its digits; `to` is the place behind E
 pub record Value (o : Rd Ty) (s : Text) (to kind : ℕ) (minus : Bool) (from : ℕ) : Type 0 where
   pub of : Kind
-  pub byte : kindCode of ≡ kind
+  pub byte : kind-code of ≡ kind
   pub is : o ≡ rd (lit of minus (part s from (to - 1))) (drop to s)
   pub some : from < to
   pub inside : to ≤ length s
 
 abbrev pub ValueIs : Text → ℕ → Bool → ℕ → Valued → Type 0
-ValueIs s c g at (to-value to kind minus from) = Value (value-at (withCode kindCode c allKinds) g (drop at s)) s to kind minus from × (at ≤ from)
-ValueIs s c g at no-value = value-at (withCode kindCode c allKinds) g (drop at s) ≡ stop
+ValueIs s c g at (to-value to kind minus from) = Value (value-at (with-code kind-code c all-kinds) g (drop at s)) s to kind minus from × (at ≤ from)
+ValueIs s c g at no-value = value-at (with-code kind-code c all-kinds) g (drop at s) ≡ stop
 
 abbrev pub LitIs : Text → ℕ → Valued → Type 0
 LitIs s at (to-value to kind minus from) = Value (literal-at (drop at s)) s to kind minus from × (at < from)

@@ -9,13 +9,13 @@ use borrow.Author.Tests.{ltb-true, lt-ltb}
 use lib.Dec.{eqb}
 use lib.ListN.{length, getD, getElem?, length-append}
 use Rattle.catalogue.specs.Bytes.{all, and-left, and-right, and-both, all-append}
-use Rattle.nodes.specs.Nodes.{with-new, table-place, add, add-all, firsts, last-is}
+use Rattle.nodes.specs.Nodes.{with-new, table-place, add, note-add-all, firsts, note-last-is}
 use Rattle.normal.specs.Holds.{most-number, small}
 
 -- ---------------------------------------------------------------- one entry more
 
-add-all-more : (ds es : List ℕ) (d : ℕ) → add-all ds (es ++ (d ∷ [])) ≡ add d (add-all ds es)
-unfolding add-all
+add-all-more : (ds es : List ℕ) (d : ℕ) → note-add-all ds (es ++ (d ∷ [])) ≡ add d (note-add-all ds es)
+unfolding note-add-all
 add-all-more ds [] d = refl
 add-all-more ds (e ∷ es) d = add-all-more (add e ds) es d
 
@@ -38,8 +38,8 @@ add-length d ds = go (table-place d ds)
     go none = omega (arith, length-append ds (d ∷ []))
     go (some i) = omega arith
 
-all-length : (ds es : List ℕ) → length (add-all ds es) ≤ length ds + length es
-unfolding add-all
+all-length : (ds es : List ℕ) → length (note-add-all ds es) ≤ length ds + length es
+unfolding note-add-all
 all-length ds [] = omega arith
 all-length ds (e ∷ es) = omega (arith, all-length (add e ds) es, add-length e ds)
 
@@ -65,13 +65,13 @@ small-more ds d e h = all-append small ds (d ∷ []) e (and-both (small d) true 
 
 -- ---------------------------------------------------------------- the newest
 
-pub last-none : (d : ℕ) (ds : List ℕ) → length ds ≡ 0 → false ≡ last-is d ds
-unfolding last-is
+pub last-none : (d : ℕ) (ds : List ℕ) → length ds ≡ 0 → false ≡ note-last-is d ds
+unfolding note-last-is
 last-none d [] h = refl
 last-none d (e ∷ ds) h = absurd (omega arith)
 
-pub last-at : (d : ℕ) (ds : List ℕ) → 0 < length ds → eqb d (getD ds (length ds - 1) 0) ≡ last-is d ds
-unfolding last-is
+pub last-at : (d : ℕ) (ds : List ℕ) → 0 < length ds → eqb d (getD ds (length ds - 1) 0) ≡ note-last-is d ds
+unfolding note-last-is
 last-at d [] h = absurd (omega arith)
 last-at d (e ∷ []) h = ap (λ (k : ℕ). eqb d (getD (e ∷ []) k 0)) {x = 1 - 1} {y = 0} (omega arith)
 last-at d (e ∷ f ∷ ds) h =

@@ -11,8 +11,8 @@ use lib.ListN.{length, drop}
 use Rattle.grammar.specs.Text.{Text}
 use Rattle.store.specs.Table.{Front}
 use Rattle.catalogue.specs.Bytes.{all}
-use Rattle.catalogue.specs.Spelling.{nameBytes}
-use Rattle.walk.specs.Walk.{name, literal, litBytes}
+use Rattle.catalogue.specs.Spelling.{name-bytes}
+use Rattle.walk.specs.Walk.{name, literal, lit-bytes}
 use Rattle.nodes.specs.Nodes.{
   Node,
   node,
@@ -192,11 +192,11 @@ notes-node x σ = got (number-of x (σ .nodes)) (noted x σ)
 
 -- behind L
 abbrev pub at-literal : Noter ℕ
-at-literal σ = with (literal (σ .rest)) (λ t r. got (number-of (lit-node t) (σ .nodes)) (put (litBytes t) (noted (lit-node t) (go-to r σ))))
+at-literal σ = with (literal (σ .rest)) (λ t r. got (number-of (lit-node t) (σ .nodes)) (put (lit-bytes t) (noted (lit-node t) (go-to r σ))))
 
 -- one more part behind what has the number t
 abbrev pub at-part : ℕ → Noter ℕ
-at-part t σ = with (name (σ .rest)) (λ n r. got (number-of (sub-node t n) (σ .nodes)) (put (nameBytes n) (noted (sub-node t n) (go-to r σ))))
+at-part t σ = with (name (σ .rest)) (λ n r. got (number-of (sub-node t n) (σ .nodes)) (put (name-bytes n) (noted (sub-node t n) (go-to r σ))))
 
 abbrev pub counts-arg : ℕ → ℕ → Noter ℕ
 counts-arg t x σ = got (number-of (arg-node t x) (σ .nodes)) (counted (noted (arg-node t x) σ))

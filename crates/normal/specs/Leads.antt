@@ -8,15 +8,15 @@ use native.Mathlib.Omega.{arith}
 use lib.Dec.{eqb}
 use borrow.Author.Tests.{eqb-true, ne-eqb}
 use Rattle.grammar.specs.Text.{if_then_else_, choose, digit}
-use Rattle.catalogue.specs.Tree.{Letter as Letters, Wrap as Wraps, letterCode, wrapCode}
-use Rattle.catalogue.specs.Recogniser.{withCode, allLetters, allWraps, Lead as First, leadLetter, leadWrap, leadDigit, leadS, leadN, leadL, leadNone, lead}
+use Rattle.catalogue.specs.Tree.{Letter as Letters, Wrap as Wraps, letter-code, wrap-code}
+use Rattle.catalogue.specs.Recogniser.{with-code, all-letters, all-wraps, Lead as First, lead-letter, lead-wrap, lead-digit, leadS, leadN, leadL, leadNone, lead}
 use Rattle.normal.specs.declared.lead.Lead.{Lead}
 use Rattle.normal.specs.declared.lead.Lead.the-variants.{Letter, Wrap, Digit, S, N, L, None}
 
 abbrev pub class : First → Lead
-class (leadLetter l) = Letter
-class (leadWrap q) = Wrap
-class leadDigit = Digit
+class (lead-letter l) = Letter
+class (lead-wrap q) = Wrap
+class lead-digit = Digit
 class leadS = S
 class leadN = N
 class leadL = L
@@ -34,96 +34,96 @@ module _ {A : Type 0} (f : A → ℕ) (c : ℕ) where
   none-of B [] = B
   none-of B (x ∷ xs) = none-of (B × (c ≡ f x → ⊥)) xs
 
-  missed : (B : Type 0) (xs : List A) → none-of B xs → B × (withCode f c xs ≡ none)
-  unfolding withCode if_then_else_
+  missed : (B : Type 0) (xs : List A) → none-of B xs → B × (with-code f c xs ≡ none)
+  unfolding with-code if_then_else_
   missed B [] h = (h, refl)
   missed B (x ∷ xs) h = let (g, e) = missed (B × (c ≡ f x → ⊥)) xs h in (g .0, rw (ne-eqb c (f x) (g .1)) e)
 
-  pub uncoded : (xs : List A) → none-of (Unit {0}) xs → withCode f c xs ≡ none
+  pub uncoded : (xs : List A) → none-of (Unit {0}) xs → with-code f c xs ≡ none
   uncoded xs h = missed (Unit {0}) xs h .1
 
-  pub coded : (xs : List A) (y : A) → withCode f c xs ≡ some y → f y ≡ c
-  unfolding withCode if_then_else_
+  pub coded : (xs : List A) (y : A) → with-code f c xs ≡ some y → f y ≡ c
+  unfolding with-code if_then_else_
   coded [] y e = let z : true ≡ false = ap there (sym e) in absurd (false≢true (sym z))
   coded (x ∷ xs) y e = go (eqb c (f x)) refl (coded xs y) e
     where
-      go : (q : Bool) → eqb c (f x) ≡ q → (withCode f c xs ≡ some y → f y ≡ c) → (if q then some x else withCode f c xs) ≡ some y → f y ≡ c
+      go : (q : Bool) → eqb c (f x) ≡ q → (with-code f c xs ≡ some y → f y ≡ c) → (if q then some x else with-code f c xs) ≡ some y → f y ≡ c
       go true g h e′ = let z : x ≡ y = cc in rw (← z) (sym (eqb-true c (f x) g))
       go false g h e′ = h e′
 
 -- ---------------------------------------------------------------- wrappers and letters
 
-pub a-wrapper : (o : Option Wraps) (x : First) → there o ≡ true → class (choose o leadWrap x) ≡ Wrap
+pub a-wrapper : (o : Option Wraps) (x : First) → there o ≡ true → class (choose o lead-wrap x) ≡ Wrap
 unfolding choose
 a-wrapper none x h = absurd (false≢true h)
 a-wrapper (some q) x h = refl
 
-pub no-wrapper : (o : Option Wraps) (x : First) → there o ≡ false → choose o leadWrap x ≡ x
+pub no-wrapper : (o : Option Wraps) (x : First) → there o ≡ false → choose o lead-wrap x ≡ x
 unfolding choose
 no-wrapper none x h = refl
 no-wrapper (some q) x h = absurd (false≢true (sym h))
 
-pub a-letter : (o : Option Letters) (x : First) → there o ≡ true → class (choose o leadLetter x) ≡ Letter
+pub a-letter : (o : Option Letters) (x : First) → there o ≡ true → class (choose o lead-letter x) ≡ Letter
 unfolding choose
 a-letter none x h = absurd (false≢true h)
 a-letter (some l) x h = refl
 
-pub no-letter : (o : Option Letters) (x : First) → there o ≡ false → choose o leadLetter x ≡ x
+pub no-letter : (o : Option Letters) (x : First) → there o ≡ false → choose o lead-letter x ≡ x
 unfolding choose
 no-letter none x h = refl
 no-letter (some l) x h = absurd (false≢true (sym h))
 
 -- ---------------------------------------------------------------- what a class says of the byte
 
-letter-byte : (c : ℕ) (l : Letters) → lead c ≡ leadLetter l → letterCode l ≡ c
+letter-byte : (c : ℕ) (l : Letters) → lead c ≡ lead-letter l → letter-code l ≡ c
 unfolding lead if_then_else_ choose
-letter-byte c l = go (digit 10 c) (eqb c 83) (eqb c 78) (eqb c 76) (withCode wrapCode c allWraps) (withCode letterCode c allLetters) refl
+letter-byte c l = go (digit 10 c) (eqb c 83) (eqb c 78) (eqb c 76) (with-code wrap-code c all-wraps) (with-code letter-code c all-letters) refl
   where
-    go : (p q r t : Bool) (v : Option Wraps) (o : Option Letters) → withCode letterCode c allLetters ≡ o
-        → (if p then leadDigit else
+    go : (p q r t : Bool) (v : Option Wraps) (o : Option Letters) → with-code letter-code c all-letters ≡ o
+        → (if p then lead-digit else
         if q then leadS else
         if r then leadN else
-        if t then leadL else choose v leadWrap (choose o leadLetter leadNone)) ≡ leadLetter l
-        → letterCode l ≡ c
+        if t then leadL else choose v lead-wrap (choose o lead-letter leadNone)) ≡ lead-letter l
+        → letter-code l ≡ c
     go true q r t v o e h = let z : _≡_ {A = ℕ} 0 1 = cc in absurd (omega arith)
     go false true r t v o e h = let z : _≡_ {A = ℕ} 0 1 = cc in absurd (omega arith)
     go false false true t v o e h = let z : _≡_ {A = ℕ} 0 1 = cc in absurd (omega arith)
     go false false false true v o e h = let z : _≡_ {A = ℕ} 0 1 = cc in absurd (omega arith)
     go false false false false (some w) o e h = let z : _≡_ {A = ℕ} 0 1 = cc in absurd (omega arith)
-    go false false false false none (some m) e h = let z : m ≡ l = cc in rw (← z) (coded letterCode c allLetters m e)
+    go false false false false none (some m) e h = let z : m ≡ l = cc in rw (← z) (coded letter-code c all-letters m e)
     go false false false false none none e h = let z : _≡_ {A = ℕ} 0 1 = cc in absurd (omega arith)
 
-wrap-byte : (c : ℕ) (w : Wraps) → lead c ≡ leadWrap w → wrapCode w ≡ c
+wrap-byte : (c : ℕ) (w : Wraps) → lead c ≡ lead-wrap w → wrap-code w ≡ c
 unfolding lead if_then_else_ choose
-wrap-byte c w = go (digit 10 c) (eqb c 83) (eqb c 78) (eqb c 76) (withCode wrapCode c allWraps) (withCode letterCode c allLetters) refl
+wrap-byte c w = go (digit 10 c) (eqb c 83) (eqb c 78) (eqb c 76) (with-code wrap-code c all-wraps) (with-code letter-code c all-letters) refl
   where
-    go : (p q r t : Bool) (v : Option Wraps) (o : Option Letters) → withCode wrapCode c allWraps ≡ v
-        → (if p then leadDigit else
+    go : (p q r t : Bool) (v : Option Wraps) (o : Option Letters) → with-code wrap-code c all-wraps ≡ v
+        → (if p then lead-digit else
         if q then leadS else
         if r then leadN else
-        if t then leadL else choose v leadWrap (choose o leadLetter leadNone)) ≡ leadWrap w
-        → wrapCode w ≡ c
+        if t then leadL else choose v lead-wrap (choose o lead-letter leadNone)) ≡ lead-wrap w
+        → wrap-code w ≡ c
     go true q r t v o e h = let z : _≡_ {A = ℕ} 0 1 = cc in absurd (omega arith)
     go false true r t v o e h = let z : _≡_ {A = ℕ} 0 1 = cc in absurd (omega arith)
     go false false true t v o e h = let z : _≡_ {A = ℕ} 0 1 = cc in absurd (omega arith)
     go false false false true v o e h = let z : _≡_ {A = ℕ} 0 1 = cc in absurd (omega arith)
-    go false false false false (some u) o e h = let z : u ≡ w = cc in rw (← z) (coded wrapCode c allWraps u e)
+    go false false false false (some u) o e h = let z : u ≡ w = cc in rw (← z) (coded wrap-code c all-wraps u e)
     go false false false false none (some m) e h = let z : _≡_ {A = ℕ} 0 1 = cc in absurd (omega arith)
     go false false false false none none e h = let z : _≡_ {A = ℕ} 0 1 = cc in absurd (omega arith)
 
 abbrev pub LeadIs : ℕ → Lead → Type 0
-LeadIs c Letter = (l : Letters) × ((lead c ≡ leadLetter l) × (letterCode l ≡ c))
-LeadIs c Wrap = (w : Wraps) × ((lead c ≡ leadWrap w) × (wrapCode w ≡ c))
-LeadIs c Digit = lead c ≡ leadDigit
+LeadIs c Letter = (l : Letters) × ((lead c ≡ lead-letter l) × (letter-code l ≡ c))
+LeadIs c Wrap = (w : Wraps) × ((lead c ≡ lead-wrap w) × (wrap-code w ≡ c))
+LeadIs c Digit = lead c ≡ lead-digit
 LeadIs c S = lead c ≡ leadS
 LeadIs c N = lead c ≡ leadN
 LeadIs c L = lead c ≡ leadL
 LeadIs c None = lead c ≡ leadNone
 
 classed : (c : ℕ) (x : First) → lead c ≡ x → LeadIs c (class x)
-classed c (leadLetter l) e = (l, (e, letter-byte c l e))
-classed c (leadWrap w) e = (w, (e, wrap-byte c w e))
-classed c leadDigit e = e
+classed c (lead-letter l) e = (l, (e, letter-byte c l e))
+classed c (lead-wrap w) e = (w, (e, wrap-byte c w e))
+classed c lead-digit e = e
 classed c leadS e = e
 classed c leadN e = e
 classed c leadL e = e

@@ -9,10 +9,10 @@ use native.Mathlib.Omega.{arith}
 use lib.ListN.{length, take, drop, getElem?, length-append, length-drop}
 use lib.Seq.{take-at}
 use Rattle.grammar.specs.Text.{Text, choose}
-use Rattle.catalogue.specs.Tree.{Ty, lit, kindCode}
-use Rattle.catalogue.specs.Spelling.{nameBytes}
+use Rattle.catalogue.specs.Tree.{Ty, lit, kind-code}
+use Rattle.catalogue.specs.Spelling.{name-bytes}
 use Rattle.catalogue.specs.Recogniser.{Rd, rd, stop}
-use Rattle.walk.specs.Walk.{name, reference, literal, litBytes}
+use Rattle.walk.specs.Walk.{name, reference, literal, lit-bytes}
 use Rattle.walk.specs.Holds.{OfRd}
 use Rattle.walk.specs.Leaves.{Literal, lit-sound}
 use Rattle.walk.specs.Sizes.{name-length}
@@ -38,7 +38,7 @@ use Rattle.normal.specs.declared.marks.Valued.the-variants.{To as to-val
 -- ---------------------------------------------------------------- source names
 
 abbrev name-of : Text → ℕ → ℕ → Text
-name-of s from to = nameBytes (part s from to)
+name-of s from to = name-bytes (part s from to)
 
 pub no-name-at : (s : Text) (at : ℕ) {r : Named} → NameIs s at r → r ≡ no-name → name (drop at s) ≡ stop
 no-name-at s at x e = subst (NameIs s at) e x
@@ -50,7 +50,7 @@ module _ {s : Text} {at from to : ℕ} (x : NameAt s at from to) where
   pub name-size : (length (name-of s from to) ≡ to - at) × (at + 2 ≤ to)
   unfolding OfRd
   name-size =
-      let l = subst (λ (o : Rd Text). OfRd o (λ n r. (length (nameBytes n) + length r ≡ length (drop at s)) × (2 ≤ length (nameBytes n)))) (x .is) (name-length (drop at s)) in
+      let l = subst (λ (o : Rd Text). OfRd o (λ n r. (length (name-bytes n) + length r ≡ length (drop at s)) × (2 ≤ length (name-bytes n)))) (x .is) (name-length (drop at s)) in
       let a = length-drop at s in
       let b = length-drop to s in
       let m = x .inside in
@@ -113,18 +113,18 @@ pub signed-below : (k : ℕ) (g : Bool) → k < 256 → signed-kind k g < 65536
 signed-below k true l = omega arith
 signed-below k false l = omega arith
 
-lit-bytes : (s : Text) (t : Ty) (r : Text) → Literal s t r → litBytes t ++ r ≡ code "L" ∷ s
-lit-bytes s t r x = rw (x .is) (simp append-assoc (ap (λ (y : Text). code "L" ∷ y) (x .spells)))
+lit-bytes-are : (s : Text) (t : Ty) (r : Text) → Literal s t r → lit-bytes t ++ r ≡ code "L" ∷ s
+lit-bytes-are s t r x = rw (x .is) (simp append-assoc (ap (λ (y : Text). code "L" ∷ y) (x .spells)))
 
 -- the bytes of a literal are those that were read behind L
-lit-part : (s : Text) (at to : ℕ) (t : Ty) → literal (drop at s) ≡ rd t (drop to s) → at ≤ to → to ≤ length s → litBytes t ≡ code "L" ∷ part s at to
+lit-part : (s : Text) (at to : ℕ) (t : Ty) → literal (drop at s) ≡ rd t (drop to s) → at ≤ to → to ≤ length s → lit-bytes t ≡ code "L" ∷ part s at to
 unfolding OfRd
 lit-part s at to t e l m =
     let x = subst (λ (o : Rd Ty). OfRd o (Literal (drop at s))) e (lit-sound (drop at s)) in
-    let y = lit-bytes (drop at s) t (drop to s) x in
-    let z : length (litBytes t) ≡ suc (to - at) =
-    omega (arith, ap length y, length-append (litBytes t) (drop to s), length-drop at s, length-drop to s) in
-    sym (take-at (litBytes t) (drop to s) (suc (to - at)) z) ∙ ap (take (suc (to - at))) y
+    let y = lit-bytes-are (drop at s) t (drop to s) x in
+    let z : length (lit-bytes t) ≡ suc (to - at) =
+    omega (arith, ap length y, length-append (lit-bytes t) (drop to s), length-drop at s, length-drop to s) in
+    sym (take-at (lit-bytes t) (drop to s) (suc (to - at)) z) ∙ ap (take (suc (to - at))) y
 
 module _ {s o n : Text} {p : Writer} {σ : Notes} (h : Holds s o n p σ) {to kind : ℕ} {g : Bool} {from : ℕ}
     (x : Value (literal (drop (p .at) s)) s to kind g from) (b : p .at < from) where
@@ -134,12 +134,12 @@ module _ {s o n : Text} {p : Writer} {σ : Notes} (h : Holds s o n p σ) {to kin
   pub literal-is : (m : ℕ) → m ≡ signed-kind kind g
       → at-literal σ ≡ notes-node (node (code "L") m (part s from (to - 1))) (put (part s (p .at) to) marked)
   literal-is m e =
-      let f : signed-kind (kindCode (x .of)) g ≡ m = ap (λ (k : ℕ). signed-kind k g) (x .byte) ∙ sym e in
-      let z : σ .out ++ litBytes (lit (x .of) g (part s from (to - 1))) ≡ (σ .out ++ (code "L" ∷ [])) ++ part s (p .at) to =
+      let f : signed-kind (kind-code (x .of)) g ≡ m = ap (λ (k : ℕ). signed-kind k g) (x .byte) ∙ sym e in
+      let z : σ .out ++ lit-bytes (lit (x .of) g (part s from (to - 1))) ≡ (σ .out ++ (code "L" ∷ [])) ++ part s (p .at) to =
       ap (λ (w : Text). σ .out ++ w) (lit-part s (p .at) to (lit (x .of) g (part s from (to - 1))) (x .is) (omega arith) (x .inside))
       ∙ sym (append-assoc (σ .out) (code "L" ∷ []) (part s (p .at) to)) in
       with-some _ (ap literal (h .rest) ∙ x .is)
-      ∙ ap (λ (j : ℕ). by j (σ .out ++ litBytes (lit (x .of) g (part s from (to - 1))))) f
+      ∙ ap (λ (j : ℕ). by j (σ .out ++ lit-bytes (lit (x .of) g (part s from (to - 1))))) f
       ∙ ap (by m) z
     where
       by : ℕ → Text → Got ℕ

@@ -12,9 +12,9 @@ use lib.Seq.{drop-drop}
 use Rattle.grammar.specs.Text.{Text, if_then_else_, choose, starts, run, digit, number}
 use Rattle.grammar.specs.Grammar.{index}
 use Rattle.catalogue.specs.Bytes.{all}
-use Rattle.catalogue.specs.Tree.{Kind, Ty, lit, kindCode}
-use Rattle.catalogue.specs.Class.{wordByte, reserved, listed, nameOk, leadingZero, litOk}
-use Rattle.catalogue.specs.Recogniser.{Rd, rd, stop, ifNext, cut, readName, withCode, allKinds}
+use Rattle.catalogue.specs.Tree.{Kind, Ty, lit, kind-code}
+use Rattle.catalogue.specs.Class.{word-byte, reserved, listed, name-ok, leading-zero, lit-ok}
+use Rattle.catalogue.specs.Recogniser.{Rd, rd, stop, if-next, cut, read-name, with-code, all-kinds}
 use Rattle.walk.specs.Walk.{keep, name, capital, canonical, reference, value as value-at, literal as literal-at}
 use Rattle.normal.specs.Parts.{part, part-more, run-is, past-is}
 use Rattle.grammar.specs.Places.{rest-some, rest-none, starts-inside}
@@ -28,21 +28,21 @@ use Rattle.normal.specs.declared.marks.Valued.the-variants.{To, Bad}
 
 -- the rules of an identifier, tested from the first byte on
 pub name-rules : (s : Text) (from to : ℕ) → from < to → to ≤ length s
-    → nameOk (part s from to) ≡ (not (digit 10 (getD s from 0)) && (all wordByte (part s from to) && not (listed (part s from to) reserved)))
-unfolding nameOk
+    → name-ok (part s from to) ≡ (not (digit 10 (getD s from 0)) && (all word-byte (part s from to) && not (listed (part s from to) reserved)))
+unfolding name-ok
 name-rules s from to h l = rw (part-more s from to h l) refl
 
-pub name-some : (n : Text) → nameOk n ≡ true → 0 < length n
-unfolding nameOk
+pub name-some : (n : Text) → name-ok n ≡ true → 0 < length n
+unfolding name-ok
 name-some [] h = absurd (false≢true h)
 name-some (c ∷ n) h = omega arith
 
 abbrev named : Rd Text → Rd Text
-named (rd n r) = keep (nameOk n) (rd n r)
+named (rd n r) = keep (name-ok n) (rd n r)
 named stop = stop
 
 named-none : (n : ℕ) → named (cut n []) ≡ stop
-unfolding cut if_then_else_ nameOk
+unfolding cut if_then_else_ name-ok
 named-none zero = refl
 named-none (suc n) = rw (lt-leb (suc n) 0 (omega arith)) refl
 
@@ -51,8 +51,8 @@ module _ (s : Text) (at from : ℕ) (e : from ≡ at + length (run (digit 10) (d
   abbrev size : ℕ
   size = number 10 0 (run (digit 10) (drop at s))
 
-  cut-is : readName (drop at s) ≡ cut size (drop from s)
-  unfolding readName
+  cut-is : read-name (drop at s) ≡ cut size (drop from s)
+  unfolding read-name
   cut-is = ap (cut size) (past-is (digit 10) s at from e)
 
   pub name-zero : starts (drop at s) (48 ∷ []) ≡ true → name (drop at s) ≡ stop
@@ -60,7 +60,7 @@ module _ (s : Text) (at from : ℕ) (e : from ≡ at + length (run (digit 10) (d
   name-zero z = rw (first-zero 48 (drop at s), z) refl
 
   module _ (z : starts (drop at s) (48 ∷ []) ≡ false) where
-    by-read : (o : Rd Text) → readName (drop at s) ≡ o → name (drop at s) ≡ named o
+    by-read : (o : Rd Text) → read-name (drop at s) ≡ o → name (drop at s) ≡ named o
     unfolding name
     by-read (rd n r) f = rw (first-zero 48 (drop at s), z, f) refl
     by-read stop f = rw (first-zero 48 (drop at s), z, f) refl
@@ -75,12 +75,12 @@ module _ (s : Text) (at from : ℕ) (e : from ≡ at + length (run (digit 10) (d
     unfolding cut if_then_else_
     name-long w l = name-is ∙ rw (lt-leb size (length (drop from s)) (omega (arith, length-drop from s))) refl
 
-    pub name-by : (to : ℕ) → to ≡ from + size → to ≤ length s → name (drop at s) ≡ keep (nameOk (part s from to)) (rd (part s from to) (drop to s))
+    pub name-by : (to : ℕ) → to ≡ from + size → to ≤ length s → name (drop at s) ≡ keep (name-ok (part s from to)) (rd (part s from to) (drop to s))
     unfolding cut if_then_else_
     name-by to t l =
         let n : size ≡ to - from = omega arith in
         name-is
-        ∙ rw (le-leb size (length (drop from s)) (omega (arith, length-drop from s)), drop-drop size from s, ← t) (ap (λ (k : ℕ). keep (nameOk (take k (drop from s))) (rd (take k (drop from s)) (drop to s))) n)
+        ∙ rw (le-leb size (length (drop from s)) (omega (arith, length-drop from s)), drop-drop size from s, ← t) (ap (λ (k : ℕ). keep (name-ok (take k (drop from s))) (rd (take k (drop from s)) (drop to s))) n)
 
 -- ---------------------------------------------------------------- references
 
@@ -104,11 +104,11 @@ module _ (s : Text) (at end : ℕ) (e : end ≡ at + length (run (digit 36) (dro
   abbrev told : Text → Rd ℕ
   told r = keep (canonical (part s at end)) (rd (index 36 (run (digit 36) (drop at s))) r)
 
-  by-end : reference (drop at s) ≡ ifNext 95 (drop end s) told stop
+  by-end : reference (drop at s) ≡ if-next 95 (drop end s) told stop
   unfolding reference
   by-end =
-      ap (λ (t : Text). ifNext 95 t (λ r. keep (canonical (run (digit 36) (drop at s))) (rd (index 36 (run (digit 36) (drop at s))) r)) stop) (past-is (digit 36) s at end e)
-      ∙ ap (λ (d : Text). ifNext 95 (drop end s) (λ r. keep (canonical d) (rd (index 36 (run (digit 36) (drop at s))) r)) stop) (run-is (digit 36) s at end e)
+      ap (λ (t : Text). if-next 95 t (λ r. keep (canonical (run (digit 36) (drop at s))) (rd (index 36 (run (digit 36) (drop at s))) r)) stop) (past-is (digit 36) s at end e)
+      ∙ ap (λ (d : Text). if-next 95 (drop end s) (λ r. keep (canonical d) (rd (index 36 (run (digit 36) (drop at s))) r)) stop) (run-is (digit 36) s at end e)
 
   pub ref-open : starts (drop end s) (95 ∷ []) ≡ false → reference (drop at s) ≡ stop
   ref-open h = by-end ∙ next-not 95 told stop (drop end s) h
@@ -120,10 +120,10 @@ module _ (s : Text) (at end : ℕ) (e : end ≡ at + length (run (digit 36) (dro
     pub ref-small : all capital (part s at end) ≡ false → reference (drop at s) ≡ stop
     ref-small p = ref-by h ∙ rw p refl
 
-    pub ref-zero : all capital (part s at end) ≡ true → leadingZero (part s at end) ≡ true → reference (drop at s) ≡ stop
+    pub ref-zero : all capital (part s at end) ≡ true → leading-zero (part s at end) ≡ true → reference (drop at s) ≡ stop
     ref-zero p q = ref-by h ∙ rw (p, q) refl
 
-    pub ref-right : all capital (part s at end) ≡ true → leadingZero (part s at end) ≡ false
+    pub ref-right : all capital (part s at end) ≡ true → leading-zero (part s at end) ≡ false
         → (i : ℕ) → i ≡ min (index 36 (run (digit 36) (drop at s))) most-index → RefAt s at i (end + 1)
     ref-right p q i m = record {
       index = index 36 (run (digit 36) (drop at s));
@@ -144,45 +144,45 @@ entry-told vs j h = ⊎-elim
 
 module _ (s : Text) (kind : ℕ) (g : Bool) (from to : ℕ) (e : to ≡ from + length (run (digit 10) (drop from s))) where
   abbrev kept : Kind → Text → Rd Ty
-  kept k r = keep (litOk k g (part s from to)) (rd (lit k g (part s from to)) r)
+  kept k r = keep (lit-ok k g (part s from to)) (rd (lit k g (part s from to)) r)
 
-  by-kind : (k : Kind) → value-at (some k) g (drop from s) ≡ ifNext 69 (drop to s) (kept k) stop
+  by-kind : (k : Kind) → value-at (some k) g (drop from s) ≡ if-next 69 (drop to s) (kept k) stop
   by-kind k =
-      ap (λ (t : Text). ifNext 69 t (λ r. keep (litOk k g (run (digit 10) (drop from s))) (rd (lit k g (run (digit 10) (drop from s))) r)) stop) (past-is (digit 10) s from to e)
-      ∙ ap (λ (d : Text). ifNext 69 (drop to s) (λ r. keep (litOk k g d) (rd (lit k g d) r)) stop) (run-is (digit 10) s from to e)
+      ap (λ (t : Text). if-next 69 t (λ r. keep (lit-ok k g (run (digit 10) (drop from s))) (rd (lit k g (run (digit 10) (drop from s))) r)) stop) (past-is (digit 10) s from to e)
+      ∙ ap (λ (d : Text). if-next 69 (drop to s) (λ r. keep (lit-ok k g d) (rd (lit k g d) r)) stop) (run-is (digit 10) s from to e)
 
   open-by : (o : Option Kind) → starts (drop to s) (69 ∷ []) ≡ false → value-at o g (drop from s) ≡ stop
   open-by none h = refl
   open-by (some k) h = by-kind k ∙ next-not 69 (kept k) stop (drop to s) h
 
-  pub value-open : starts (drop to s) (69 ∷ []) ≡ false → value-at (withCode kindCode kind allKinds) g (drop from s) ≡ stop
-  value-open = open-by (withCode kindCode kind allKinds)
+  pub value-open : starts (drop to s) (69 ∷ []) ≡ false → value-at (with-code kind-code kind all-kinds) g (drop from s) ≡ stop
+  value-open = open-by (with-code kind-code kind all-kinds)
 
   module _ (h : starts (drop to s) (69 ∷ []) ≡ true) where
-    wrong-by : (o : Option Kind) → choose o (λ k. litOk k g (part s from to)) false ≡ false → value-at o g (drop from s) ≡ stop
+    wrong-by : (o : Option Kind) → choose o (λ k. lit-ok k g (part s from to)) false ≡ false → value-at o g (drop from s) ≡ stop
     unfolding choose
     wrong-by none f = refl
     wrong-by (some k) f = by-kind k ∙ next-here 69 (kept k) stop s to h ∙ rw f refl
 
-    pub value-wrong : valid-by kind g (part s from to) ≡ false → value-at (withCode kindCode kind allKinds) g (drop from s) ≡ stop
+    pub value-wrong : valid-by kind g (part s from to) ≡ false → value-at (with-code kind-code kind all-kinds) g (drop from s) ≡ stop
     unfolding valid-by
-    value-wrong = wrong-by (withCode kindCode kind allKinds)
+    value-wrong = wrong-by (with-code kind-code kind all-kinds)
 
-    right-by : (o : Option Kind) → withCode kindCode kind allKinds ≡ o → choose o (λ k. litOk k g (part s from to)) false ≡ true
+    right-by : (o : Option Kind) → with-code kind-code kind all-kinds ≡ o → choose o (λ k. lit-ok k g (part s from to)) false ≡ true
         → Value (value-at o g (drop from s)) s (to + 1) kind g from
     unfolding choose
     right-by none c f = absurd (false≢true f)
     right-by (some k) c f = record {
       of = k;
-      byte = coded kindCode kind allKinds k c;
+      byte = coded kind-code kind all-kinds k c;
       is = by-kind k ∙ next-here 69 (kept k) stop s to h ∙ rw f (ap (λ (j : ℕ). rd (lit k g (part s from j)) (drop (to + 1) s)) {x = to} {y = to + 1 - 1} (omega arith));
       some = omega arith;
       inside = omega (arith, starts-inside s to 69 h);
     }
 
-    pub value-right : valid-by kind g (part s from to) ≡ true → Value (value-at (withCode kindCode kind allKinds) g (drop from s)) s (to + 1) kind g from
+    pub value-right : valid-by kind g (part s from to) ≡ true → Value (value-at (with-code kind-code kind all-kinds) g (drop from s)) s (to + 1) kind g from
     unfolding valid-by
-    value-right = right-by (withCode kindCode kind allKinds) refl
+    value-right = right-by (with-code kind-code kind all-kinds) refl
 
 -- behind the byte of the kind
 module _ (s : Text) (at : ℕ) where
@@ -192,9 +192,9 @@ module _ (s : Text) (at : ℕ) where
 
   module _ (l : at < length s) where
     abbrev of-kind : Bool → Text → Rd Ty
-    of-kind g t = value-at (withCode kindCode (getD s at 0) allKinds) g t
+    of-kind g t = value-at (with-code kind-code (getD s at 0) all-kinds) g t
 
-    by-sign : literal-at (drop at s) ≡ ifNext 110 (drop (at + 1) s) (of-kind true) (of-kind false (drop (at + 1) s))
+    by-sign : literal-at (drop at s) ≡ if-next 110 (drop (at + 1) s) (of-kind true) (of-kind false (drop (at + 1) s))
     unfolding literal-at
     by-sign = rw (rest-some s at l) refl
 
@@ -209,6 +209,6 @@ module _ (s : Text) (at : ℕ) where
 
 -- a value's answer is the literal's
 pub from-value : (s : Text) (at kind : ℕ) (g : Bool) (from : ℕ) (r : Valued) → at < from
-    → literal-at (drop at s) ≡ value-at (withCode kindCode kind allKinds) g (drop from s) → ValueIs s kind g from r → LitIs s at r
+    → literal-at (drop at s) ≡ value-at (with-code kind-code kind all-kinds) g (drop from s) → ValueIs s kind g from r → LitIs s at r
 from-value s at kind g from (To to k m f) l e v = (record { of = v .0 .of; byte = v .0 .byte; is = e ∙ v .0 .is; some = v .0 .some; inside = v .0 .inside }, omega arith)
 from-value s at kind g from Bad l e v = e ∙ v

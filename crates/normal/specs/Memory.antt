@@ -10,7 +10,7 @@ use lib.Seq.{length-take-le}
 use Rattle.grammar.specs.Text.{Text}
 use Rattle.store.specs.Fronts.{front-less}
 use Rattle.store.specs.Lists.{second-lent}
-use Rattle.catalogue.specs.Spelling.{refBytes}
+use Rattle.catalogue.specs.Spelling.{ref-bytes}
 use Rattle.walk.specs.Sizes.{ref-length}
 use Rattle.nodes.specs.Nodes.{
   Node,
@@ -78,19 +78,19 @@ module _ {s o n : Text} {p : Writer} {σ : Notes} (h : Holds s o n p σ) where
     index-most = omega (arith, h .firsts-count, firsts-most h)
 
     module _ (from : ℕ) (l : from ≤ p .out) (r : Room 0 0 5 p) where
-      pub reference-room : from + length (refBytes i) ≤ 65536
+      pub reference-room : from + length (ref-bytes i) ≤ 65536
       reference-room = omega (arith, ref-length i index-most, r .out, h .place, h .source)
 
-      pub settle-here : (d k : ℕ) (o' : Text) (q : Writer) → seek-by (eqb d) (firsts (σ .table)) ≡ some i → Wrote o o' from k (refBytes i)
+      pub settle-here : (d k : ℕ) (o' : Text) (q : Writer) → seek-by (eqb d) (firsts (σ .table)) ≡ some i → Wrote o o' from k (ref-bytes i)
           → q ≡ written-to p k → Went s o' n (Took 0 0 5 from p) q (settled d from σ)
       settle-here d k o' q f w g =
           let e : length (take from (σ .out)) ≡ from = length-take-le from (σ .out) (omega (arith, h .out-count)) in
           subst (λ (x : Writer). Went s o' n (Took 0 0 5 from p) x (settled d from σ)) (sym g)
           (subst (λ (τ : Notes). Went s o' n (Took 0 0 5 from p) (written-to p k) τ) (sym (settled-by d from (some i) f))
           (record {
-            holds = with-out h (take from (σ .out) ++ refBytes i) o' k
+            holds = with-out h (take from (σ .out) ++ ref-bytes i) o' k
                 (front-wrote (front-less (h .out-is) from) (sym e) (omega (arith, e, reference-room)) w)
-                (omega (arith, e, w .end, length-append (take from (σ .out)) (refBytes i)))
+                (omega (arith, e, w .end, length-append (take from (σ .out)) (ref-bytes i)))
                 (omega (arith, w .end, ref-length i index-most, r .out));
             limits = record {
               at = refl;

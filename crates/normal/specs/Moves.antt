@@ -9,7 +9,7 @@ use lib.Seq.{drop-drop}
 use Rattle.grammar.specs.Text.{Text, starts}
 use Rattle.grammar.specs.Places.{rest-some, rest-none}
 use Rattle.grammar.specs.NameSteps.{starts-one}
-use Rattle.catalogue.specs.Recogniser.{ifNext}
+use Rattle.catalogue.specs.Recogniser.{if-next}
 use Rattle.nodes.specs.Nodes.{Notes, put, go-to, counted}
 use Rattle.normal.specs.Tests.{next-not}
 use Rattle.normal.specs.States.{moved-to, counted-to}
@@ -75,8 +75,8 @@ module _ {s o n : Text} {p : Writer} {σ : Notes} (h : Holds s o n p σ) where
   pub byte-is : (c : ℕ) → starts (drop (p .at) s) (c ∷ []) ≡ true → σ .rest ≡ c ∷ drop (p .at + 1) s
   byte-is c e = h .rest ∙ starts-one (drop (p .at) s) c e ∙ ap (λ (t : Text). c ∷ t) (drop-drop 1 (p .at) s)
 
-  pub byte-not : {A : Type 0} (c : ℕ) (f : Text → A) (x : A) → starts (drop (p .at) s) (c ∷ []) ≡ false → ifNext c (σ .rest) f x ≡ x
-  byte-not c f x e = ap (λ (t : Text). ifNext c t f x) (h .rest) ∙ next-not c f x (drop (p .at) s) e
+  pub byte-not : {A : Type 0} (c : ℕ) (f : Text → A) (x : A) → starts (drop (p .at) s) (c ∷ []) ≡ false → if-next c (σ .rest) f x ≡ x
+  byte-not c f x e = ap (λ (t : Text). if-next c t f x) (h .rest) ∙ next-not c f x (drop (p .at) s) e
 
   module _ {c : ℕ} {t : Text} (e : σ .rest ≡ c ∷ t) where
     some-left : p .at < length s

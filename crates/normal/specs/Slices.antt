@@ -12,7 +12,7 @@ use lib.Seq.{paste, take-length}
 use Rattle.grammar.specs.Text.{Text, if_then_else_, choose}
 use Rattle.store.specs.Table.{Front}
 use Rattle.store.specs.Fronts.{front-most, front-take}
-use Rattle.nodes.specs.Nodes.{Node, Notes, notes, put, pushed, firsts, tag-of, last-is}
+use Rattle.nodes.specs.Nodes.{Node, Notes, notes, put, pushed, firsts, tag-of, note-last-is}
 use Rattle.normal.specs.declared.state.Writer.{Writer}
 use Rattle.normal.specs.States.{written-to, noted-to, entered-to}
 use Rattle.normal.specs.Written.{Wrote}
@@ -64,10 +64,10 @@ module _ {s o n : Text} {p : Writer} {σ : Notes} (h : Holds s o n p σ) where
       let b : i < length (σ .table) = omega (arith, h .table-count) in
       (some-at (σ .table) i b ∙ ap some (sym e), omega (arith, e, small-at (σ .table) i (h .numbers) b))
 
-  pub newest-none : (d : ℕ) → p .table ≡ 0 → false ≡ last-is d (σ .table)
+  pub newest-none : (d : ℕ) → p .table ≡ 0 → false ≡ note-last-is d (σ .table)
   newest-none d e = last-none d (σ .table) (omega (arith, h .table-count))
 
-  pub newest-is : (d : ℕ) → 0 < p .table → eqb d (getD n (16384 + (p .table - 1)) 0) ≡ last-is d (σ .table)
+  pub newest-is : (d : ℕ) → 0 < p .table → eqb d (getD n (16384 + (p .table - 1)) 0) ≡ note-last-is d (σ .table)
   newest-is d l =
       ap (eqb d) (in-table (p .table - 1) (omega arith) ∙ ap (λ (k : ℕ). getD (σ .table) (k - 1) 0) (h .table-count))
       ∙ last-at d (σ .table) (omega (arith, h .table-count))

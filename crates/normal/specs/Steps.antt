@@ -9,7 +9,7 @@ use borrow.Author.Tests.{eq-eqb, ne-eqb}
 use lib.Dec.{eqb}
 use Rattle.grammar.specs.Text.{Text, if_then_else_}
 use Rattle.catalogue.specs.Recogniser.{Rd, rd, stop}
-use Rattle.nodes.specs.Nodes.{Node, node, Notes, Noter, noted, number-of, enter, Got, got, bad, next, with, when, counted, tag-of, last-is, settled, entered, entered-nested}
+use Rattle.nodes.specs.Nodes.{Node, node, Notes, Noter, noted, number-of, enter, Got, got, bad, next, with, when, counted, tag-of, note-last-is, settled, entered, entered-nested}
 use Rattle.normal.specs.Holds.{counts-arg}
 
 -- ---------------------------------------------------------------- joined readings
@@ -50,15 +50,15 @@ counted-is t x σ e =
 -- ---------------------------------------------------------------- nested types
 
 module _ (d from : ℕ) (σ : Notes) where
-  pub nested-newest : tag-of (σ .nodes) d ≡ code "N" → last-is d (σ .table) ≡ true → entered-nested d from σ ≡ settled d from σ
+  pub nested-newest : tag-of (σ .nodes) d ≡ code "N" → note-last-is d (σ .table) ≡ true → entered-nested d from σ ≡ settled d from σ
   unfolding entered-nested if_then_else_
   nested-newest e f = rw (eq-eqb _ _ e, f) refl
 
-  pub nested-old : last-is d (σ .table) ≡ false → entered-nested d from σ ≡ entered d from σ
+  pub nested-old : note-last-is d (σ .table) ≡ false → entered-nested d from σ ≡ entered d from σ
   unfolding entered-nested if_then_else_
   nested-old f = go (eqb (tag-of (σ .nodes) d) (code "N"))
     where
-      go : (q : Bool) → (if q && last-is d (σ .table) then settled d from σ else entered d from σ) ≡ entered d from σ
+      go : (q : Bool) → (if q && note-last-is d (σ .table) then settled d from σ else entered d from σ) ≡ entered d from σ
       go true = rw f refl
       go false = refl
 

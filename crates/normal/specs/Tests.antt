@@ -14,13 +14,13 @@ use Rattle.grammar.specs.Laws.{starts-nothing}
 use Rattle.grammar.specs.Places.{starts-byte}
 use Rattle.grammar.specs.NameSteps.{starts-one}
 use Rattle.catalogue.specs.Bytes.{all, first, and-left, and-right, same-eq, eqb-yes}
-use Rattle.catalogue.specs.Class.{leadingZero, numeral}
-use Rattle.catalogue.specs.Recogniser.{ifNext}
+use Rattle.catalogue.specs.Class.{leading-zero, numeral}
+use Rattle.catalogue.specs.Recogniser.{if-next}
 use Rattle.catalogue.specs.ReadsBack.{next-no}
 
 -- ---------------------------------------------------------------- a byte at a place
 
-pub byte-next : {A : Type 0} {c : ℕ} {t r : Text} (f : Text → A) (x : A) → t ≡ c ∷ r → ifNext c t f x ≡ f r
+pub byte-next : {A : Type 0} {c : ℕ} {t r : Text} (f : Text → A) (x : A) → t ≡ c ∷ r → if-next c t f x ≡ f r
 unfolding if_then_else_
 byte-next {A} {c} {t} {r} f x e = rw (e, eqb-yes c) refl
 
@@ -31,10 +31,10 @@ module _ (c : ℕ) where
   first-zero (d ∷ t) = sym (starts-byte d c t)
 
   module _ {A : Type 0} (f : Text → A) (x : A) where
-    pub next-not : (t : Text) → starts t (c ∷ []) ≡ false → ifNext c t f x ≡ x
+    pub next-not : (t : Text) → starts t (c ∷ []) ≡ false → if-next c t f x ≡ x
     next-not t h = next-no c t f x (first-zero t ∙ h)
 
-    pub next-here : (s : Text) (at : ℕ) → starts (drop at s) (c ∷ []) ≡ true → ifNext c (drop at s) f x ≡ f (drop (at + 1) s)
+    pub next-here : (s : Text) (at : ℕ) → starts (drop at s) (c ∷ []) ≡ true → if-next c (drop at s) f x ≡ f (drop (at + 1) s)
     next-here s at h = byte-next f x (starts-one (drop at s) c h) ∙ ap f (drop-drop 1 at s)
 
 -- ---------------------------------------------------------------- a part and a word
@@ -54,7 +54,7 @@ starts-same (x ∷ t) (y ∷ w) h = ap (λ (q : Bool). eqb x y && q) (starts-sam
 
 -- ---------------------------------------------------------------- digits
 
-pub numeral-is : (v : Text) → 0 < length v → all (digit 10) v ≡ true → numeral v ≡ not (leadingZero v)
+pub numeral-is : (v : Text) → 0 < length v → all (digit 10) v ≡ true → numeral v ≡ not (leading-zero v)
 unfolding numeral
 numeral-is [] l h = absurd (omega arith)
 numeral-is (x ∷ v) l h = rw (and-left (digit 10 x) (all (digit 10) v) h, and-right (digit 10 x) (all (digit 10) v) h) refl

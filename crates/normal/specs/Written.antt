@@ -8,7 +8,7 @@ use lib.ListN.{length, take, drop, set, length-append}
 use lib.Seq.{sets-eq, take-at, drop-at, drop-drop, length-take-le}
 use Rattle.grammar.specs.Text.{Text, if_then_else_, decimal}
 use Rattle.grammar.specs.Laws.{decimal-last, decimal-more}
-use Rattle.catalogue.specs.Spelling.{digitOf, base36, refDigits, refBytes}
+use Rattle.catalogue.specs.Spelling.{digit-of, base36, ref-digits, ref-bytes}
 use Rattle.walk.specs.Digits.{base36-one}
 
 pub record Wrote (out out' : Text) (at r : ℕ) (w : Text) : Type 0 where
@@ -113,39 +113,39 @@ module _ (n : ℕ) where
 
 -- ---------------------------------------------------------------- references
 
-base36-more : (k n : ℕ) → 36 ≤ n → base36 (suc k) n ≡ base36 k (n / 36) ++ (digitOf (n % 36) ∷ [])
+base36-more : (k n : ℕ) → 36 ≤ n → base36 (suc k) n ≡ base36 k (n / 36) ++ (digit-of (n % 36) ∷ [])
 unfolding base36 if_then_else_
 base36-more k n h = rw (le-ltb n 36 h) refl
 
-base36-two : (k n : ℕ) → 36 ≤ n → n < 1296 → base36 (suc k) n ≡ digitOf (n / 36) ∷ digitOf (n % 36) ∷ []
-base36-two k n h l = base36-more k n h ∙ ap (λ (d : Text). d ++ (digitOf (n % 36) ∷ [])) (base36-one k (n / 36) (omega arith))
+base36-two : (k n : ℕ) → 36 ≤ n → n < 1296 → base36 (suc k) n ≡ digit-of (n / 36) ∷ digit-of (n % 36) ∷ []
+base36-two k n h l = base36-more k n h ∙ ap (λ (d : Text). d ++ (digit-of (n % 36) ∷ [])) (base36-one k (n / 36) (omega arith))
 
-pub ref-none : (i : ℕ) → i ≡ 0 → refBytes i ≡ 83 ∷ 95 ∷ []
-unfolding refDigits
+pub ref-none : (i : ℕ) → i ≡ 0 → ref-bytes i ≡ 83 ∷ 95 ∷ []
+unfolding ref-digits
 ref-none zero e = refl
 ref-none (suc i) e = absurd (omega arith)
 
-ref-digits : (i : ℕ) → 0 < i → refDigits i ≡ base36 (i - 1) (i - 1)
-unfolding refDigits
-ref-digits zero h = absurd (omega arith)
-ref-digits (suc i) h = ap (λ (j : ℕ). base36 j j) {x = i} {y = suc i - 1} (omega arith)
+ref-digits-are : (i : ℕ) → 0 < i → ref-digits i ≡ base36 (i - 1) (i - 1)
+unfolding ref-digits
+ref-digits-are zero h = absurd (omega arith)
+ref-digits-are (suc i) h = ap (λ (j : ℕ). base36 j j) {x = i} {y = suc i - 1} (omega arith)
 
 module _ (i : ℕ) (some : 0 < i) where
-  pub ref-one : i - 1 < 36 → refBytes i ≡ 83 ∷ digitOf (i - 1) ∷ 95 ∷ []
-  ref-one h = ap (λ (d : Text). 83 ∷ (d ++ (95 ∷ []))) (ref-digits i some ∙ base36-one (i - 1) (i - 1) h)
+  pub ref-one : i - 1 < 36 → ref-bytes i ≡ 83 ∷ digit-of (i - 1) ∷ 95 ∷ []
+  ref-one h = ap (λ (d : Text). 83 ∷ (d ++ (95 ∷ []))) (ref-digits-are i some ∙ base36-one (i - 1) (i - 1) h)
 
-  pub ref-two : 36 ≤ i - 1 → i - 1 < 1296 → refBytes i ≡ 83 ∷ digitOf ((i - 1) / 36) ∷ digitOf ((i - 1) % 36) ∷ 95 ∷ []
+  pub ref-two : 36 ≤ i - 1 → i - 1 < 1296 → ref-bytes i ≡ 83 ∷ digit-of ((i - 1) / 36) ∷ digit-of ((i - 1) % 36) ∷ 95 ∷ []
   ref-two h l =
       ap (λ (d : Text). 83 ∷ (d ++ (95 ∷ [])))
-      (ref-digits i some ∙ ap (λ (k : ℕ). base36 k (i - 1)) {x = i - 1} {y = suc (i - 2)} (omega arith) ∙ base36-two (i - 2) (i - 1) h l)
+      (ref-digits-are i some ∙ ap (λ (k : ℕ). base36 k (i - 1)) {x = i - 1} {y = suc (i - 2)} (omega arith) ∙ base36-two (i - 2) (i - 1) h l)
 
-  pub ref-three : 1296 ≤ i - 1 → i - 1 < 46656 → refBytes i ≡ 83 ∷ digitOf ((i - 1) / 36 / 36) ∷ digitOf ((i - 1) / 36 % 36) ∷ digitOf ((i - 1) % 36) ∷ 95 ∷ []
+  pub ref-three : 1296 ≤ i - 1 → i - 1 < 46656 → ref-bytes i ≡ 83 ∷ digit-of ((i - 1) / 36 / 36) ∷ digit-of ((i - 1) / 36 % 36) ∷ digit-of ((i - 1) % 36) ∷ 95 ∷ []
   ref-three h l =
       ap (λ (d : Text). 83 ∷ (d ++ (95 ∷ [])))
-      (ref-digits i some
+      (ref-digits-are i some
       ∙ ap (λ (k : ℕ). base36 k (i - 1)) {x = i - 1} {y = suc (suc (i - 3))} (omega arith)
       ∙ base36-more (suc (i - 3)) (i - 1) (omega arith)
-      ∙ ap (λ (d : Text). d ++ (digitOf ((i - 1) % 36) ∷ [])) (base36-two (i - 3) ((i - 1) / 36) (omega arith) (omega arith)))
+      ∙ ap (λ (d : Text). d ++ (digit-of ((i - 1) % 36) ∷ [])) (base36-two (i - 3) ((i - 1) / 36) (omega arith) (omega arith)))
 
 pub three-as : {a b c x y z : ℕ} → a ≡ x → b ≡ y → c ≡ z → _≡_ {A = Text} (83 ∷ a ∷ b ∷ c ∷ 95 ∷ []) (83 ∷ x ∷ y ∷ z ∷ 95 ∷ [])
 three-as p q r = λ i. 83 ∷ p i ∷ q i ∷ r i ∷ 95 ∷ []

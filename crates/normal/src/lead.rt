@@ -1,8 +1,8 @@
 // The class of a first byte.
 use grammar::numbers;
 ghost use mathlib.Core.Path.{_≡_};
-ghost use Rattle.catalogue.specs.Tree.{letterCode, wrapCode};
-ghost use Rattle.catalogue.specs.Recogniser.{withCode, allLetters, allWraps, lead};
+ghost use Rattle.catalogue.specs.Tree.{letter-code, wrap-code};
+ghost use Rattle.catalogue.specs.Recogniser.{with-code, all-letters, all-wraps, lead};
 ghost use Rattle.normal.specs.Leads.{there, class};
 
 // Which letter or wrapper it is, the byte says.
@@ -17,7 +17,7 @@ pub enum Lead {
 }
 
 pub fn letter(c: u8) -> bool
-    ensures { λ r. ⌜ r ≡ there (withCode letterCode c allLetters) ⌝ }
+    ensures { λ r. ⌜ r ≡ there (with-code letter-code c all-letters) ⌝ }
 {
     match c {
         b'v' => true,
@@ -46,7 +46,7 @@ pub fn letter(c: u8) -> bool
 }
 
 pub fn wrapper(c: u8) -> bool
-    ensures { λ r. ⌜ r ≡ there (withCode wrapCode c allWraps) ⌝ }
+    ensures { λ r. ⌜ r ≡ there (with-code wrap-code c all-wraps) ⌝ }
 {
     match c {
         b'P' => true,

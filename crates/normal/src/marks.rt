@@ -9,7 +9,7 @@ ghost use lib.ListN.{length};
 ghost use Rattle.grammar.specs.Text.{digit};
 ghost use Rattle.catalogue.specs.Bytes.{all};
 ghost use Rattle.catalogue.specs.Tree.{kb, ki, kj};
-ghost use Rattle.catalogue.specs.Class.{leadingZero, numeral as numeral-ok, litOk};
+ghost use Rattle.catalogue.specs.Class.{leading-zero, numeral as numeral-ok, lit-ok};
 ghost use Rattle.walk.specs.Walk.{capital};
 ghost use Rattle.normal.specs.Parts.{part};
 ghost use Rattle.normal.specs.Answers.{RefIs, ValueIs, LitIs, valid-by};
@@ -52,7 +52,7 @@ fn capitals(s: &[u8], from: usize, to: usize) -> bool
 
 fn leading_zero(s: &[u8], from: usize, to: usize) -> bool
     requires { ⌜ to ≤ length (now s) ⌝ }
-    ensures { λ r. ⌜ r ≡ leadingZero (part (now (s .entry)) from to) ⌝ }
+    ensures { λ r. ⌜ r ≡ leading-zero (part (now (s .entry)) from to) ⌝ }
 {
     if to <= from {
         return false;
@@ -100,7 +100,7 @@ fn numeral(s: &[u8], from: usize, to: usize) -> bool
 
 fn truth_ok(s: &[u8], minus: bool, from: usize, to: usize) -> bool
     requires { ⌜ (from ≤ to) × (to ≤ length (now s)) ⌝ }
-    ensures { λ r. ⌜ r ≡ litOk kb minus (part (now (s .entry)) from to) ⌝ }
+    ensures { λ r. ⌜ r ≡ lit-ok kb minus (part (now (s .entry)) from to) ⌝ }
 {
     if minus {
         return false;
@@ -113,7 +113,7 @@ fn truth_ok(s: &[u8], minus: bool, from: usize, to: usize) -> bool
 
 fn signed_ok(s: &[u8], minus: bool, from: usize, to: usize) -> bool
     requires { ⌜ (from ≤ to) × ((to ≤ length (now s)) × (all (digit 10) (part (now s) from to) ≡ true)) ⌝ }
-    ensures { λ r. ⌜ r ≡ litOk ki minus (part (now (s .entry)) from to) ⌝ }
+    ensures { λ r. ⌜ r ≡ lit-ok ki minus (part (now (s .entry)) from to) ⌝ }
 {
     if !numeral(s, from, to) {
         return false;
@@ -126,7 +126,7 @@ fn signed_ok(s: &[u8], minus: bool, from: usize, to: usize) -> bool
 
 fn unsigned_ok(s: &[u8], minus: bool, from: usize, to: usize) -> bool
     requires { ⌜ (from ≤ to) × ((to ≤ length (now s)) × (all (digit 10) (part (now s) from to) ≡ true)) ⌝ }
-    ensures { λ r. ⌜ r ≡ litOk kj minus (part (now (s .entry)) from to) ⌝ }
+    ensures { λ r. ⌜ r ≡ lit-ok kj minus (part (now (s .entry)) from to) ⌝ }
 {
     if minus {
         return false;

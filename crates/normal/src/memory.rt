@@ -11,8 +11,8 @@ ghost use Prim.Native.Nat.{_+_, _-_, _*_, _≤_, _<_};
 ghost use lib.Dec.{eqb};
 ghost use lib.ListN.{length, take, getD, getElem?};
 ghost use Rattle.grammar.specs.Text.{Text};
-ghost use Rattle.catalogue.specs.Spelling.{nameBytes};
-ghost use Rattle.nodes.specs.Nodes.{Notes, node, same-node, last-is, settled, pushed};
+ghost use Rattle.catalogue.specs.Spelling.{name-bytes};
+ghost use Rattle.nodes.specs.Nodes.{Notes, node, same-node, note-last-is, settled, pushed};
 ghost use Rattle.normal.specs.Parts.{part};
 ghost use Rattle.normal.specs.Seeks.{Sought};
 ghost use Rattle.normal.specs.Holds.{Holds, Ready, Tag, Room, Steps, Does, Puts, Inside, node-in, nodes-in, notes-node, most-number};
@@ -41,8 +41,8 @@ pub fn put_part(out: &mut [u8], p: Writer, s: &[u8], from: usize, to: usize) -> 
 // A part of the symbol is written as a source name.
 pub fn put_name(out: &mut [u8], p: Writer, s: &[u8], from: usize, to: usize) -> Writer
     requires { ⌜ (from ≤ to) × ((to ≤ length (now s)) × ((to - from ≤ 4096)
-        × (p .out + length (nameBytes (part (now s) from to)) ≤ length (now out)))) ⌝ }
-    ensures { λ r. ⌜ Puts (nameBytes (part (now (s .entry)) from to)) (now (out .entry)) (now (out .exit)) p r ⌝ }
+        × (p .out + length (name-bytes (part (now s) from to)) ≤ length (now out)))) ⌝ }
+    ensures { λ r. ⌜ Puts (name-bytes (part (now (s .entry)) from to)) (now (out .entry)) (now (out .exit)) p r ⌝ }
 {
     let end = p.out;
     let next = write::write_name(out, end, s, from, to);
@@ -75,7 +75,7 @@ pub fn entry(notes: &[u16], p: Writer, i: usize) -> usize
 // Whether the newest entry of the table is d.
 pub fn newest(notes: &[u16], p: Writer, d: usize) -> bool
     requires { ⌜ ((s : Text) × ((o : Text) × Ready s o (now notes) p)) ⌝ }
-    ensures { λ r. ⌜ ((s o : Text) (σ : Notes) → Holds s o (now (notes .entry)) p σ → r ≡ last-is d (σ .table)) ⌝ }
+    ensures { λ r. ⌜ ((s o : Text) (σ : Notes) → Holds s o (now (notes .entry)) p σ → r ≡ note-last-is d (σ .table)) ⌝ }
 {
     let n = p.table;
     if n == 0 {

@@ -13,7 +13,7 @@ ghost use Prim.Native.Nat.{_≤_, _<_};
 ghost use lib.Dec.{eqb};
 ghost use lib.ListN.{length};
 ghost use Rattle.grammar.specs.Text.{Text};
-ghost use Rattle.nodes.specs.Nodes.{at-name, at-reference, a-bare, a-class, may-stand, signed-kind, entered, entered-nested};
+ghost use Rattle.nodes.specs.Nodes.{note-at-name, at-reference, a-bare, a-class, may-stand, signed-kind, entered, entered-nested};
 ghost use Rattle.normal.specs.Holds.{
   Ready,
   Room,
@@ -49,7 +49,7 @@ pub fn close(out: &mut [u8], p: Writer) -> Writer
 // <source-name>, a first part
 pub fn first_name(s: &[u8], out: &mut [u8], notes: &mut [u16], p: Writer) -> Told
     requires { ⌜ Ready (now s) (now out) (now notes) p ⌝ }
-    ensures { λ r. ⌜ Reads 2 (p .out) (at-name (p .out)) (now (s .entry)) (now (out .entry)) (now (notes .entry)) (now (out .exit)) (now (notes .exit)) p r ⌝ }
+    ensures { λ r. ⌜ Reads 2 (p .out) (note-at-name (p .out)) (now (s .entry)) (now (out .entry)) (now (notes .entry)) (now (out .exit)) (now (notes .exit)) p r ⌝ }
 {
     let at = p.at;
     let Named::At(from, to) = words::source_name(s, at) else {

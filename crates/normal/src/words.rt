@@ -7,7 +7,7 @@ ghost use Prim.Native.Nat.{_≤_};
 ghost use lib.ListN.{length, drop};
 ghost use Rattle.grammar.specs.Text.{same};
 ghost use Rattle.catalogue.specs.Bytes.{all};
-ghost use Rattle.catalogue.specs.Class.{wordByte, reserved, listed, nameOk};
+ghost use Rattle.catalogue.specs.Class.{word-byte, reserved, listed, name-ok};
 ghost use Rattle.normal.specs.Parts.{part};
 ghost use Rattle.normal.specs.Answers.{NameIs};
 
@@ -18,7 +18,7 @@ pub enum Named {
 
 // A letter, a digit or `_`.
 fn word_byte(c: u8) -> bool
-    ensures { λ r. ⌜ r ≡ wordByte c ⌝ }
+    ensures { λ r. ⌜ r ≡ word-byte c ⌝ }
 {
     if numbers::digit_value(c) < 36 {
         return true;
@@ -28,7 +28,7 @@ fn word_byte(c: u8) -> bool
 
 fn word_bytes(s: &[u8], from: usize, to: usize) -> bool
     requires { ⌜ to ≤ length (now s) ⌝ }
-    ensures { λ r. ⌜ r ≡ all wordByte (part (now (s .entry)) from to) ⌝ }
+    ensures { λ r. ⌜ r ≡ all word-byte (part (now (s .entry)) from to) ⌝ }
 {
     let mut i = from;
     while i < to {
@@ -117,7 +117,7 @@ fn is_reserved(s: &[u8], from: usize, to: usize) -> bool
 // Whether a part may be a source name.
 pub fn word_ok(s: &[u8], from: usize, to: usize) -> bool
     requires { ⌜ to ≤ length (now s) ⌝ }
-    ensures { λ r. ⌜ r ≡ nameOk (part (now (s .entry)) from to) ⌝ }
+    ensures { λ r. ⌜ r ≡ name-ok (part (now (s .entry)) from to) ⌝ }
 {
     if to <= from {
         return false;

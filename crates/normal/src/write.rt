@@ -4,14 +4,14 @@ ghost use mathlib.Core.Path.{_≡_};
 ghost use Prim.Native.Nat.{suc, _+_, _-_, _≤_, _<_};
 ghost use lib.ListN.{length};
 ghost use Rattle.grammar.specs.Text.{decimal};
-ghost use Rattle.catalogue.specs.Spelling.{digitOf, refBytes, nameBytes};
+ghost use Rattle.catalogue.specs.Spelling.{digit-of, ref-bytes, name-bytes};
 ghost use Rattle.normal.specs.Parts.{part};
 ghost use Rattle.normal.specs.Written.{Wrote};
 
 // A digit or a capital.
 fn digit_of(d: usize) -> u8
     requires { ⌜ d < 36 ⌝ }
-    ensures { λ r. ⌜ r ≡ digitOf d ⌝ }
+    ensures { λ r. ⌜ r ≡ digit-of d ⌝ }
 {
     if d < 10 {
         b'0' + d as u8
@@ -22,8 +22,8 @@ fn digit_of(d: usize) -> u8
 
 // The reference to entry i.
 pub fn write_reference(out: &mut [u8], at: usize, i: usize) -> usize
-    requires { ⌜ (i ≤ 4096) × (at + length (refBytes i) ≤ length (now out)) ⌝ }
-    ensures { λ r. ⌜ Wrote (now (out .entry)) (now (out .exit)) at r (refBytes i) ⌝ }
+    requires { ⌜ (i ≤ 4096) × (at + length (ref-bytes i) ≤ length (now out)) ⌝ }
+    ensures { λ r. ⌜ Wrote (now (out .entry)) (now (out .exit)) at r (ref-bytes i) ⌝ }
 {
     out[at] = b'S';
     if i == 0 {
@@ -79,8 +79,8 @@ fn write_decimal(out: &mut [u8], at: usize, n: usize) -> usize
 // The length of an identifier and its bytes.
 pub fn write_name(out: &mut [u8], at: usize, s: &[u8], from: usize, to: usize) -> usize
     requires { ⌜ (from ≤ to) × ((to ≤ length (now s)) × ((to - from ≤ 4096)
-        × (at + length (nameBytes (part (now s) from to)) ≤ length (now out)))) ⌝ }
-    ensures { λ r. ⌜ Wrote (now (out .entry)) (now (out .exit)) at r (nameBytes (part (now (s .entry)) from to)) ⌝ }
+        × (at + length (name-bytes (part (now s) from to)) ≤ length (now out)))) ⌝ }
+    ensures { λ r. ⌜ Wrote (now (out .entry)) (now (out .exit)) at r (name-bytes (part (now (s .entry)) from to)) ⌝ }
 {
     let n = to - from;
     let next = write_decimal(out, at, n);

@@ -14,7 +14,7 @@ use Rattle.grammar.specs.Names.{refusal, named, demangle, mangled-name, answer,
 use Rattle.grammar.specs.Names as n
 use Rattle.grammar.specs.Fuel.{never-0}
 use Rattle.catalogue.specs.Recogniser.{classify}
-use Rattle.catalogue.specs.Answer.{normalIn, normal-told, normal-after, normal-answer, normal-work-fits}
+use Rattle.catalogue.specs.Answer.{normal-in, normal-told, normal-after, normal-answer, normal-work-fits}
 use Rattle.walk.specs.Equal.{walk-is}
 use Rattle.nodes.specs.Nodes.{note-symbol}
 use Rattle.nodes.specs.Equal.{nodes-are-walk}
@@ -52,7 +52,7 @@ module _ (w out : Text) where
       (f ∙ ap₂ (λ (x : Text) (k : ℕ). x ++ drop k out) (take-length w) (let e : 0 + length w ≡ length w = omega arith in e))
 
 -- the code's walk finds what the recogniser finds
-pub note-is : (s : Text) → note-symbol s ≡ normalIn (classify s)
+pub note-is : (s : Text) → note-symbol s ≡ normal-in (classify s)
 note-is s = nodes-are-walk s ∙ walk-is s
 
 module _ (s out : Text) where
@@ -83,7 +83,7 @@ unfolding number-of normal-after
 after-refused s (named x) e h = absurd (h e)
 after-refused s (refusal r) e h = ap refusal (sym e)
 
-after-accepted : (s : Text) (a : n.Answer) {k : ℕ} → (a ≡ refusal 0 → ⊥) → k ≡ number-of a → k ≡ 0 → normal-after s a ≡ normal-told (normalIn (classify s))
+after-accepted : (s : Text) (a : n.Answer) {k : ℕ} → (a ≡ refusal 0 → ⊥) → k ≡ number-of a → k ≡ 0 → normal-after s a ≡ normal-told (normal-in (classify s))
 unfolding number-of normal-after
 after-accepted s (named x) z e h = refl
 after-accepted s (refusal r) z e h = absurd (z (ap refusal (sym e ∙ h)))

@@ -9,7 +9,7 @@ use lib.ListN.{length, take}
 use Rattle.grammar.specs.Text.{Text}
 use Rattle.grammar.specs.Names.{named, demangle, most-symbol-bytes, work-fits}
 use Rattle.catalogue.specs.Class.{Catalogue}
-use Rattle.catalogue.specs.Normal.{normalOf}
+use Rattle.catalogue.specs.Normal.{normal-of}
 use Rattle.catalogue.specs.Answer.{normal-work-fits}
 use Rattle.walk.specs.SymbolComplete.{walk-complete}
 use Rattle.walk.specs.Equal.{walk-is, walk-normal}
@@ -56,10 +56,10 @@ Always-normalized s x =
 name-of : {s x : Text} → Named s x → demangle most-symbol-bytes s ≡ named x
 name-of {s} h = name-written s (h .before) (h .after) (h .answer) (h .runs) (h .wrote .number) ∙ ap named (h .wrote .text)
 
-normal-of : {s v : Text} → Normalized s v → Has-normal s v
-normal-of {s} h = rw (h .wrote .text) at (normal-written s (h .before) (h .after) (h .answer) (h .runs) (h .wrote .number))
+normal-of-is : {s v : Text} → Normalized s v → Has-normal s v
+normal-of-is {s} h = rw (h .wrote .text) at (normal-written s (h .before) (h .after) (h .answer) (h .runs) (h .wrote .number))
 
-class-of : {s v : Text} → Has-normal s v → (c : Catalogue s) × (normalOf c ≡ v)
+class-of : {s v : Text} → Has-normal s v → (c : Catalogue s) × (normal-of c ≡ v)
 class-of {s} {v} h = walk-normal s v (walk-is s ∙ h .is)
 
 -- ---- demand 3
@@ -68,26 +68,26 @@ class-of {s} {v} h = walk-normal s v (walk-is s ∙ h .is)
 -- name and is its own normal symbol." The first half, of any two symbols for which both entries answered 0.
 pub equal-normals-equal-names : {s t x y v w : Text} → Named s x → Named t y → Normalized s v → Normalized t w → (v ≡ w) ↔ (x ≡ y)
 equal-normals-equal-names {x = x} {y = y} h k i j =
-    let (c, e) = class-of (normal-of i) in
-    let (d, f) = class-of (normal-of j) in
+    let (c, e) = class-of (normal-of-is i) in
+    let (d, f) = class-of (normal-of-is j) in
     let n = demand-3-first c d x y (name-of h) (name-of k) in
     ((λ z. n .0 (e ∙ z ∙ sym f)), (λ z. sym e ∙ n .1 z ∙ f))
 
 module _ {s x v : Text} (h : Named s x) (k : Normalized s v) where
   normal-name : demangle most-symbol-bytes v ≡ named x
   normal-name =
-      let (c, e) = class-of (normal-of k) in
-      rw e at (demand-3-second c x (name-of h) (rw e (normal-of k .short)) .1)
+      let (c, e) = class-of (normal-of-is k) in
+      rw e at (demand-3-second c x (name-of h) (rw e (normal-of-is k .short)) .1)
 
   normal-normal : Has-normal v v
   normal-normal =
-      let (c, e) = class-of (normal-of k) in
-      let (d, i, f) = demand-3-second c x (name-of h) (rw e (normal-of k .short)) in
+      let (c, e) = class-of (normal-of-is k) in
+      let (d, i, f) = demand-3-second c x (name-of h) (rw e (normal-of-is k .short)) in
       record {
         name = x;
         accepted = normal-name;
-        is = rw e at (sym (walk-is (normalOf c)) ∙ walk-complete d ∙ ap some (f d));
-        short = normal-of k .short;
+        is = rw e at (sym (walk-is (normal-of c)) ∙ walk-complete d ∙ ap some (f d));
+        short = normal-of-is k .short;
       }
 
   -- "Over the catalogue class, normal symbols are equal exactly when printed names are, and a normal symbol is accepted, prints the same

@@ -4,7 +4,7 @@ use lib.ListN.{length}
 use Rattle.grammar.specs.Text.{Text}
 use Rattle.grammar.specs.Names.{Answer, within}
 use Rattle.catalogue.specs.Recogniser.{classify}
-use Rattle.catalogue.specs.Answer.{normalIn, normal-told}
+use Rattle.catalogue.specs.Answer.{normal-in, normal-told}
 use Rattle.names.specs.Outcome.{Slices}
 
 -- the work slices have their least lengths, or more
@@ -15,4 +15,4 @@ pub record Long (l : Slices) : Type 0 where
 
 -- the answer for an accepted symbol, where the output slice has n bytes
 abbrev pub accepted-answer : ℕ → Text → Answer
-accepted-answer n s = within n (normal-told (normalIn (classify s)))
+accepted-answer n s = within n (normal-told (normal-in (classify s)))

@@ -28,7 +28,7 @@ use Rattle.grammar.specs.Names.{
 }
 use Rattle.grammar.specs.Fuel.{never-0}
 use Rattle.catalogue.specs.Recogniser.{classify}
-use Rattle.catalogue.specs.Answer.{normalIn, normal-told, normal-after, normal-symbol, normal-answer, normal-work-fits}
+use Rattle.catalogue.specs.Answer.{normal-in, normal-told, normal-after, normal-symbol, normal-answer, normal-work-fits}
 use Rattle.names.specs.declared.entry.Answer as told
 use Rattle.names.specs.Outcome.{Slices, Outcome, lent, leaves, demangled, Demangles, Leaves, number-in, bytes-in}
 use Rattle.symbols.specs.Outcome.{normalized, Normalizes}
@@ -139,7 +139,7 @@ module _ (s : Text) (l l' : Slices) (r : told.Answer) (h : Demangles s l l' r) w
 pub record Has-normal (s v : Text) : Type 0 where
   pub name : Text
   pub accepted : demangle most-symbol-bytes s ≡ named name
-  pub is : normalIn (classify s) ≡ some v
+  pub is : normal-in (classify s) ≡ some v
   pub short : length v ≤ most-symbol-bytes
 
 told-is : (o : Option Text) → number-of (normal-told o) ≡ 0 → (v : Text) × ((normal-told o ≡ named v) × ((o ≡ some v) × (length v ≤ most-symbol-bytes)))
@@ -155,7 +155,7 @@ told-is (some v) e = go (leb (length v) most-symbol-bytes) refl e
 has-normal : (s : Text) (a : Answer) → demangle most-symbol-bytes s ≡ a → number-of (normal-after s a) ≡ 0
     → (v : Text) × ((normal-after s a ≡ named v) × Has-normal s v)
 unfolding number-of normal-after
-has-normal s (named x) e z = let (v, (i, (j, k))) = told-is (normalIn (classify s)) z in (v, (i, record { name = x; accepted = e; is = j; short = k }))
+has-normal s (named x) e z = let (v, (i, (j, k))) = told-is (normal-in (classify s)) z in (v, (i, record { name = x; accepted = e; is = j; short = k }))
 has-normal s (refusal r) e z = absurd (never-0 most-symbol-bytes s (e ∙ ap refusal z))
 
 normal-named : (s v : Text) → Has-normal s v → normal-symbol s ≡ named v

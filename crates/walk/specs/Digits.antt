@@ -13,12 +13,12 @@ use Rattle.grammar.specs.Laws.{decimal-last}
 use Rattle.grammar.specs.Grammar.{index}
 use Rattle.catalogue.specs.Bytes.{all, first, and-left, and-right, or-cases, or-true, not-true, all-append}
 use Rattle.catalogue.specs.Numbers.{digit-low}
-use Rattle.catalogue.specs.Spelling.{digitOf, base36, refDigits}
-use Rattle.catalogue.specs.Class.{leadingZero}
+use Rattle.catalogue.specs.Spelling.{digit-of, base36, ref-digits}
+use Rattle.catalogue.specs.Class.{leading-zero}
 use Rattle.walk.specs.Walk.{capital, canonical}
 
-abbrev pub isZero : ℕ → Bool
-isZero c = eqb c (code "0")
+abbrev pub is-zero : ℕ → Bool
+is-zero c = eqb c (code "0")
 
 -- ---------------------------------------------------------------- runs
 
@@ -63,18 +63,18 @@ capital-range c h = go (or-cases (between 48 57 c) (between 65 90 c) h)
     go (inl e) = inl (leb-true 48 c (and-left (leb 48 c) (leb c 57) e), leb-true c 57 (and-right (leb 48 c) (leb c 57) e))
     go (inr e) = inr (leb-true 65 c (and-left (leb 65 c) (leb c 90) e), leb-true c 90 (and-right (leb 65 c) (leb c 90) e))
 
-capital-digit : (c : ℕ) → capital c ≡ true → (digitOf (digit-value c) ≡ c) × (digit-value c < 36)
-unfolding digitOf if_then_else_
+capital-digit : (c : ℕ) → capital c ≡ true → (digit-of (digit-value c) ≡ c) × (digit-value c < 36)
+unfolding digit-of if_then_else_
 capital-digit c h = go (capital-range c h)
   where
-    go : ((48 ≤ c) × (c ≤ 57)) ⊎ ((65 ≤ c) × (c ≤ 90)) → (digitOf (digit-value c) ≡ c) × (digit-value c < 36)
+    go : ((48 ≤ c) × (c ≤ 57)) ⊎ ((65 ≤ c) × (c ≤ 90)) → (digit-of (digit-value c) ≡ c) × (digit-value c < 36)
     go (inl r) = let e = value-low c (r .0) (r .1) in rw e (rw (lt-ltb (c - 48) 10 (omega arith)) (omega arith), omega arith)
     go (inr r) =
         let e = value-high c (r .0) (r .1) in
         rw e (rw (le-ltb (c - 65 + 10) 10 (omega arith)) (omega arith), omega arith)
 
-digit-capital : (d : ℕ) → d < 36 → capital (digitOf d) ≡ true
-unfolding digitOf if_then_else_
+digit-capital : (d : ℕ) → d < 36 → capital (digit-of d) ≡ true
+unfolding digit-of if_then_else_
 digit-capital d h = go (ltb d 10) refl
   where
     go : (p : Bool) → ltb d 10 ≡ p → capital (if p then 48 + d else 65 + (d - 10)) ≡ true
@@ -83,11 +83,11 @@ digit-capital d h = go (ltb d 10) refl
         let k = ltb-false d 10 e in
         rw (le-leb 65 (65 + (d - 10)) (omega arith), le-leb (65 + (d - 10)) 90 (omega arith)) (or-true (between 48 57 (65 + (d - 10))))
 
-digitOf-some : (d : ℕ) → 1 ≤ d → isZero (digitOf d) ≡ false
-unfolding digitOf if_then_else_
-digitOf-some d h = go (ltb d 10)
+digit-of-some : (d : ℕ) → 1 ≤ d → is-zero (digit-of d) ≡ false
+unfolding digit-of if_then_else_
+digit-of-some d h = go (ltb d 10)
   where
-    go : (p : Bool) → isZero (if p then 48 + d else 65 + (d - 10)) ≡ false
+    go : (p : Bool) → is-zero (if p then 48 + d else 65 + (d - 10)) ≡ false
     go true = ne-eqb (48 + d) 48 (λ e. (omega arith))
     go false = ne-eqb (65 + (d - 10)) 48 (λ e. (omega arith))
 
@@ -142,7 +142,7 @@ decimal-more k a (c ∷ d) h e g =
     ∙ rw (decimal-snoc k a (digit-value c) h v1 (omega arith), append-assoc (decimal k a) ((48 + digit-value c) ∷ []) d, ← v0) refl
 
 -- decimal digits without a leading zero are the number's
-pub decimal-of : (k : ℕ) (d : Text) → first isZero d ≡ false → all (digit 10) d ≡ true → 1 ≤ number 10 0 d → number 10 0 d < k
+pub decimal-of : (k : ℕ) (d : Text) → first is-zero d ≡ false → all (digit 10) d ≡ true → 1 ≤ number 10 0 d → number 10 0 d < k
     → decimal k (number 10 0 d) ≡ d
 unfolding number
 decimal-of k [] z e h g = absurd (omega arith)
@@ -161,12 +161,12 @@ decimal-of k (c ∷ d) z e h g =
     some (suc v) p = omega arith
 
 -- no leading zero is written
-pub decimal-first : (k n : ℕ) (s : Text) → 1 ≤ n → n < k → first isZero (decimal k n ++ s) ≡ false
+pub decimal-first : (k n : ℕ) (s : Text) → 1 ≤ n → n < k → first is-zero (decimal k n ++ s) ≡ false
 unfolding decimal if_then_else_
 decimal-first zero n s h l = absurd (omega arith)
 decimal-first (suc k) n s h l = go (λ t g g′. decimal-first k (n / 10) t g g′) (ltb n 10) refl
   where
-    go : ((t : Text) → 1 ≤ n / 10 → n / 10 < k → first isZero (decimal k (n / 10) ++ t) ≡ false) → (p : Bool) → ltb n 10 ≡ p → first isZero ((if p then (48 + n) ∷ [] else decimal k (n / 10) ++ ((48 + n % 10) ∷ [])) ++ s) ≡ false
+    go : ((t : Text) → 1 ≤ n / 10 → n / 10 < k → first is-zero (decimal k (n / 10) ++ t) ≡ false) → (p : Bool) → ltb n 10 ≡ p → first is-zero ((if p then (48 + n) ∷ [] else decimal k (n / 10) ++ ((48 + n % 10) ∷ [])) ++ s) ≡ false
     go ih true e = ne-eqb (48 + n) 48 (λ q. (omega arith))
     go ih false e =
         let z = ltb-false n 10 e in
@@ -175,7 +175,7 @@ decimal-first (suc k) n s h l = go (λ t g g′. decimal-first k (n / 10) t g g�
 
 -- ---------------------------------------------------------------- base 36
 
-pub base36-one : (k a : ℕ) → a < 36 → base36 k a ≡ digitOf a ∷ []
+pub base36-one : (k a : ℕ) → a < 36 → base36 k a ≡ digit-of a ∷ []
 unfolding base36 if_then_else_
 base36-one zero a h = refl
 base36-one (suc k) a h = rw (lt-ltb a 36 h) refl
@@ -187,11 +187,11 @@ base36-fuel (suc k) zero a h l = base36-one (suc k) a (omega arith)
 base36-fuel (suc k) (suc m) a h l = go (λ g g′. base36-fuel k m (a / 36) g g′) (ltb a 36) refl
   where
     go : (a / 36 ≤ k → a / 36 ≤ m → base36 k (a / 36) ≡ base36 m (a / 36)) → (p : Bool) → ltb a 36 ≡ p
-        → (if p then digitOf a ∷ [] else base36 k (a / 36) ++ (digitOf (a % 36) ∷ [])) ≡ (if p then digitOf a ∷ [] else base36 m (a / 36) ++ (digitOf (a % 36) ∷ []))
+        → (if p then digit-of a ∷ [] else base36 k (a / 36) ++ (digit-of (a % 36) ∷ [])) ≡ (if p then digit-of a ∷ [] else base36 m (a / 36) ++ (digit-of (a % 36) ∷ []))
     go ih true e = refl
     go ih false e = let z = ltb-false a 36 e in rw (ih (omega arith) (omega arith)) refl
 
-base36-snoc : (k a v : ℕ) → 1 ≤ a → v < 36 → a * 36 + v ≤ k → base36 k (a * 36 + v) ≡ base36 k a ++ (digitOf v ∷ [])
+base36-snoc : (k a v : ℕ) → 1 ≤ a → v < 36 → a * 36 + v ≤ k → base36 k (a * 36 + v) ≡ base36 k a ++ (digit-of v ∷ [])
 unfolding base36 if_then_else_
 base36-snoc zero a v h l g = absurd (omega arith)
 base36-snoc (suc k) a v h l g =
@@ -206,28 +206,28 @@ base36-more k a (c ∷ d) h e g =
     let v = capital-digit c (and-left (capital c) (all capital d) e) in
     let l = number-grows 36 (a * 36 + digit-value c) d (omega arith) in
     base36-more k (a * 36 + digit-value c) d (omega arith) (and-right (capital c) (all capital d) e) g
-    ∙ rw (base36-snoc k a (digit-value c) h (v .1) (omega arith), append-assoc (base36 k a) (digitOf (digit-value c) ∷ []) d, v .0) refl
+    ∙ rw (base36-snoc k a (digit-value c) h (v .1) (omega arith), append-assoc (base36 k a) (digit-of (digit-value c) ∷ []) d, v .0) refl
 
-not-zero : (v c : ℕ) → digitOf v ≡ c → isZero c ≡ false → 1 ≤ v
-unfolding digitOf if_then_else_
+not-zero : (v c : ℕ) → digit-of v ≡ c → is-zero c ≡ false → 1 ≤ v
+unfolding digit-of if_then_else_
 not-zero zero c p q = absurd (false≢true (sym q ∙ rw (sym p) refl))
 not-zero (suc v) c p q = omega arith
 
 -- the digits of a reference, read, are its number's
-pub ref-of : (d : Text) → canonical d ≡ true → refDigits (index 36 d) ≡ d
-unfolding index refDigits number
+pub ref-of : (d : Text) → canonical d ≡ true → ref-digits (index 36 d) ≡ d
+unfolding index ref-digits number
 ref-of [] h = refl
 ref-of (c ∷ []) h =
     let v = capital-digit c (and-left (capital c) true (and-left (capital c && true) true h)) in
     let i : index 36 (c ∷ []) ≡ suc (digit-value c) = omega arith in
-    ap refDigits i ∙ (base36-one (digit-value c) (digit-value c) (v .1) ∙ ap (λ x. x ∷ []) (v .0))
+    ap ref-digits i ∙ (base36-one (digit-value c) (digit-value c) (v .1) ∙ ap (λ x. x ∷ []) (v .0))
 ref-of (c ∷ e ∷ d) h =
-    let caps = and-left (all capital (c ∷ e ∷ d)) (not (isZero c)) h in
+    let caps = and-left (all capital (c ∷ e ∷ d)) (not (is-zero c)) h in
     let v = capital-digit c (and-left (capital c) (all capital (e ∷ d)) caps) in
-    let z = not-true (isZero c) (and-right (all capital (c ∷ e ∷ d)) (not (isZero c)) h) in
+    let z = not-true (is-zero c) (and-right (all capital (c ∷ e ∷ d)) (not (is-zero c)) h) in
     let n = number-first 36 c (e ∷ d) in
     let i : index 36 (c ∷ e ∷ d) ≡ suc (number 36 (digit-value c) (e ∷ d)) = omega arith in
-    ap refDigits i
+    ap ref-digits i
     ∙ (base36-more (number 36 (digit-value c) (e ∷ d)) (digit-value c) (e ∷ d) (not-zero (digit-value c) c (v .0) z) (and-right (capital c) (all capital (e ∷ d)) caps)
     (omega arith)
     ∙ rw (base36-one (number 36 (digit-value c) (e ∷ d)) (digit-value c) (v .1), v .0) refl)
@@ -237,41 +237,41 @@ unfolding base36 if_then_else_
 base36-capital zero n h = rw (digit-capital n (omega arith)) refl
 base36-capital (suc k) n h = go (λ g. base36-capital k (n / 36) g) (ltb n 36) refl
   where
-    go : (n / 36 ≤ k → all capital (base36 k (n / 36)) ≡ true) → (p : Bool) → ltb n 36 ≡ p → all capital (if p then digitOf n ∷ [] else base36 k (n / 36) ++ (digitOf (n % 36) ∷ [])) ≡ true
+    go : (n / 36 ≤ k → all capital (base36 k (n / 36)) ≡ true) → (p : Bool) → ltb n 36 ≡ p → all capital (if p then digit-of n ∷ [] else base36 k (n / 36) ++ (digit-of (n % 36) ∷ [])) ≡ true
     go ih true e = rw (digit-capital n (ltb-true n 36 e)) refl
     go ih false e =
         let z = ltb-false n 36 e in
-        all-append capital (base36 k (n / 36)) (digitOf (n % 36) ∷ []) (ih (omega arith))
+        all-append capital (base36 k (n / 36)) (digit-of (n % 36) ∷ []) (ih (omega arith))
         (rw (digit-capital (n % 36) (omega arith)) refl)
 
-base36-first : (k n : ℕ) (s : Text) → 1 ≤ n → n ≤ k → first isZero (base36 k n ++ s) ≡ false
+base36-first : (k n : ℕ) (s : Text) → 1 ≤ n → n ≤ k → first is-zero (base36 k n ++ s) ≡ false
 unfolding base36 if_then_else_
 base36-first zero n s h l = absurd (omega arith)
 base36-first (suc k) n s h l = go (λ t g g′. base36-first k (n / 36) t g g′) (ltb n 36) refl
   where
-    go : ((t : Text) → 1 ≤ n / 36 → n / 36 ≤ k → first isZero (base36 k (n / 36) ++ t) ≡ false) → (p : Bool) → ltb n 36 ≡ p → first isZero ((if p then digitOf n ∷ [] else base36 k (n / 36) ++ (digitOf (n % 36) ∷ [])) ++ s) ≡ false
-    go ih true e = digitOf-some n h
+    go : ((t : Text) → 1 ≤ n / 36 → n / 36 ≤ k → first is-zero (base36 k (n / 36) ++ t) ≡ false) → (p : Bool) → ltb n 36 ≡ p → first is-zero ((if p then digit-of n ∷ [] else base36 k (n / 36) ++ (digit-of (n % 36) ∷ [])) ++ s) ≡ false
+    go ih true e = digit-of-some n h
     go ih false e =
         let z = ltb-false n 36 e in
-        rw (append-assoc (base36 k (n / 36)) (digitOf (n % 36) ∷ []) s)
-        (ih ((digitOf (n % 36) ∷ []) ++ s) (omega arith) (omega arith))
+        rw (append-assoc (base36 k (n / 36)) (digit-of (n % 36) ∷ []) s)
+        (ih ((digit-of (n % 36) ∷ []) ++ s) (omega arith) (omega arith))
 
-zero-lead : (d : Text) → first isZero d ≡ false → leadingZero d ≡ false
+zero-lead : (d : Text) → first is-zero d ≡ false → leading-zero d ≡ false
 zero-lead [] h = refl
 zero-lead (c ∷ []) h = refl
 zero-lead (c ∷ e ∷ d) h = h
 
-base36-lead : (k n : ℕ) → n ≤ k → leadingZero (base36 k n) ≡ false
+base36-lead : (k n : ℕ) → n ≤ k → leading-zero (base36 k n) ≡ false
 base36-lead k n h = go (ltb n 36) refl
   where
-    go : (p : Bool) → ltb n 36 ≡ p → leadingZero (base36 k n) ≡ false
+    go : (p : Bool) → ltb n 36 ≡ p → leading-zero (base36 k n) ≡ false
     go true e = rw (base36-one k n (ltb-true n 36 e)) refl
     go false e =
         let z = ltb-false n 36 e in
         zero-lead (base36 k n) (rw (append-nil (base36 k n)) at (base36-first k n [] (omega arith) h))
 
 -- the digits of a reference are canonical
-pub ref-canonical : (i : ℕ) → canonical (refDigits i) ≡ true
-unfolding refDigits
+pub ref-canonical : (i : ℕ) → canonical (ref-digits i) ≡ true
+unfolding ref-digits
 ref-canonical zero = refl
 ref-canonical (suc i) = rw (base36-capital i i (omega arith), base36-lead i i (omega arith)) refl

@@ -8,23 +8,23 @@ use Rattle.grammar.specs.Text.{Text, b, if_then_else_, choose, same, run, past,
 use Rattle.grammar.specs.Tables.{_⇒_}
 use Rattle.grammar.specs.Grammar.{index}
 use Rattle.catalogue.specs.Bytes.{text-discrete}
-use Rattle.catalogue.specs.Tree.{ty-discrete, sameTy}
-use Rattle.catalogue.specs.Spelling.{digitOf, base36, refDigits}
-use Rattle.catalogue.specs.Class.{wordByte, reserved, listed, nameOk, numeral, litOk, stands, lastIs, pushNew}
+use Rattle.catalogue.specs.Tree.{ty-discrete, same-ty}
+use Rattle.catalogue.specs.Spelling.{digit-of, base36, ref-digits}
+use Rattle.catalogue.specs.Class.{word-byte, reserved, listed, name-ok, numeral, lit-ok, stands, last-is, push-new}
 use Rattle.catalogue.specs.Normal.{seek}
-use Rattle.catalogue.specs.Recogniser.{cut, readName, withCode, lead}
+use Rattle.catalogue.specs.Recogniser.{cut, read-name, with-code, lead}
 use Rattle.catalogue.specs.Examples.{Rows, normals, inside, outside}
 use Rattle.walk.specs.Walk.{
   name,
   reference,
   literal,
   add,
-  addAll,
+  add-all,
   wrote,
   walkType,
-  walkTypes,
-  walkEnc,
-  walkSym,
+  walk-types,
+  walk-enc,
+  walk-sym,
 }
 
 -- the walk writes the row's normal symbol
@@ -38,29 +38,29 @@ refused (some w) = false
 
 unfoldable pub writes : Rows → Bool
 writes [] = true
-writes ((w ⇒ (n, p)) ∷ rows) = is (walkSym (b w)) (b n) && writes rows
+writes ((w ⇒ (n, p)) ∷ rows) = is (walk-sym (b w)) (b n) && writes rows
 
 unfoldable pub refuses : List String → Bool
 refuses [] = true
-refuses (w ∷ ws) = refused (walkSym (b w)) && refuses ws
+refuses (w ∷ ws) = refused (walk-sym (b w)) && refuses ws
 
 pub normals-written : writes normals ≡ true
 unfolding
-    writes normals b if_then_else_ choose same run past digit digit-value number decimal index text-discrete ty-discrete sameTy digitOf base36 refDigits
-    wordByte reserved listed nameOk numeral litOk stands lastIs pushNew seek cut readName withCode lead
-    name reference literal add addAll wrote walkType walkTypes walkEnc walkSym
+    writes normals b if_then_else_ choose same run past digit digit-value number decimal index text-discrete ty-discrete same-ty digit-of base36 ref-digits
+    word-byte reserved listed name-ok numeral lit-ok stands last-is push-new seek cut read-name with-code lead
+    name reference literal add add-all wrote walkType walk-types walk-enc walk-sym
 normals-written = refl
 
 pub inside-written : writes inside ≡ true
 unfolding
-    writes inside b if_then_else_ choose same run past digit digit-value number decimal index text-discrete ty-discrete sameTy digitOf base36 refDigits
-    wordByte reserved listed nameOk numeral litOk stands lastIs pushNew seek cut readName withCode lead
-    name reference literal add addAll wrote walkType walkTypes walkEnc walkSym
+    writes inside b if_then_else_ choose same run past digit digit-value number decimal index text-discrete ty-discrete same-ty digit-of base36 ref-digits
+    word-byte reserved listed name-ok numeral lit-ok stands last-is push-new seek cut read-name with-code lead
+    name reference literal add add-all wrote walkType walk-types walk-enc walk-sym
 inside-written = refl
 
 pub outside-refused : refuses outside ≡ true
 unfolding
-    refuses outside b if_then_else_ choose same run past digit digit-value number decimal index text-discrete ty-discrete sameTy digitOf base36 refDigits
-    wordByte reserved listed nameOk numeral litOk stands lastIs pushNew seek cut readName withCode lead
-    name reference literal add addAll wrote walkType walkTypes walkEnc walkSym
+    refuses outside b if_then_else_ choose same run past digit digit-value number decimal index text-discrete ty-discrete same-ty digit-of base36 ref-digits
+    word-byte reserved listed name-ok numeral lit-ok stands last-is push-new seek cut read-name with-code lead
+    name reference literal add add-all wrote walkType walk-types walk-enc walk-sym
 outside-refused = refl

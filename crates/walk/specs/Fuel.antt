@@ -10,25 +10,25 @@ use lib.Dec.{eqb}
 use lib.ListN.{length, getElem?}
 use Rattle.grammar.specs.Text.{Text, if_then_else_, choose}
 use Rattle.catalogue.specs.Bytes.{eqb-eq}
-use Rattle.catalogue.specs.Tree.{Ty, Args, root, sub, app, also, isLit, isClass, isBare, single}
-use Rattle.catalogue.specs.Spelling.{nameBytes}
+use Rattle.catalogue.specs.Tree.{Ty, Args, root, sub, app, also, is-lit, is-class, is-bare, single}
+use Rattle.catalogue.specs.Spelling.{name-bytes}
 use Rattle.catalogue.specs.Class.{push}
 use Rattle.catalogue.specs.Recogniser.{
   Rd,
   rd,
   stop,
-  ifNext,
+  if-next,
   Lead,
-  leadLetter,
-  leadWrap,
-  leadDigit,
+  lead-letter,
+  lead-wrap,
+  lead-digit,
   leadS,
   leadN,
   leadL,
   leadNone,
   lead,
 }
-use Rattle.walk.specs.Walk.{Walk, got, bad, Walker, next, when, with, name, reference, wrote, in-brackets, withArgs, enter, endOr, atLead, atParts, atMore, atArg, atEnd, walkType, walkParts, walkMore, walkArgs, walkTypes}
+use Rattle.walk.specs.Walk.{Walk, got, bad, Walker, next, when, with, name, reference, wrote, in-brackets, with-args, enter, end-or, at-lead, at-parts, at-more, at-arg, at-end, walkType, walk-parts, walk-more, walk-args, walk-types}
 use Rattle.walk.specs.Holds.{OfRd, Claim, Of}
 use Rattle.walk.specs.Fewer.{Fewer, name-fewer, ref-fewer, type-fewer, args-fewer}
 
@@ -47,7 +47,7 @@ with-agree Q (rd x r) f g h e = e x r h
 with-agree Q stop f g h e = refl
 
 pub if-agree : {A : Type 0} (c : ℕ) (s : Text) (f g : Text → A) (x y : A) → ((r : Text) → s ≡ c ∷ r → f r ≡ g r) → x ≡ y
-    → ifNext c s f x ≡ ifNext c s g y
+    → if-next c s f x ≡ if-next c s g y
 unfolding if_then_else_
 if-agree c [] f g x y h e = e
 if-agree c (d ∷ s) f g x y h e = go (eqb d c) refl
@@ -69,66 +69,66 @@ Agree n f g = (vs : List Ty) (k : ℕ) (s : Text) → length s < n → f vs k s 
 abbrev pub AgreeMore : ℕ → (Ty → Text → Walker Ty) → (Ty → Text → Walker Ty) → Type 0
 AgreeMore n f g = (t : Ty) (w : Text) → Agree n (f t w) (g t w)
 
-args-enter : (t : Ty) (w : Text) (o o′ : Walk Args) → o ≡ o′ → withArgs t w o enter ≡ withArgs t w o′ enter
-args-enter t w o o′ e = ap (λ o. withArgs t w o enter) e
+args-enter : (t : Ty) (w : Text) (o o′ : Walk Args) → o ≡ o′ → with-args t w o enter ≡ with-args t w o′ enter
+args-enter t w o o′ e = ap (λ o. with-args t w o enter) e
 
 lead-agree : (l : Lead) (c : ℕ) (vs : List Ty) (k : ℕ) (s : Text) (type type′ : Walker Ty) (args args′ : Walker Args) (parts parts′ : Walker Ty)
     → Agree (suc (length s)) type type′ → Agree (length s) args args′ → Agree (suc (length s)) parts parts′
-    → atLead l c vs k s type args parts ≡ atLead l c vs k s type′ args′ parts′
-lead-agree (leadLetter l) c vs k s type type′ args args′ parts parts′ p q m = refl
-lead-agree (leadWrap d) c vs k s type type′ args args′ parts parts′ p q m = rw (p vs k s (omega arith)) refl
-lead-agree leadDigit c vs k s type type′ args args′ parts parts′ p q m =
+    → at-lead l c vs k s type args parts ≡ at-lead l c vs k s type′ args′ parts′
+lead-agree (lead-letter l) c vs k s type type′ args args′ parts parts′ p q m = refl
+lead-agree (lead-wrap d) c vs k s type type′ args args′ parts parts′ p q m = rw (p vs k s (omega arith)) refl
+lead-agree lead-digit c vs k s type type′ args args′ parts parts′ p q m =
     with-agree (λ n r. length r + 2 ≤ suc (length s)) (name (c ∷ s)) _ _ (name-fewer (c ∷ s))
     (λ n r h. if-agree (code "I") r _ _ _ _
     (λ r′ e. let e′ = ap length e in
-    args-enter (root n) (wrote (root n) vs (nameBytes n)) _ _ (q (push (root n) vs) k r′ (omega arith))) refl)
+    args-enter (root n) (wrote (root n) vs (name-bytes n)) _ _ (q (push (root n) vs) k r′ (omega arith))) refl)
 lead-agree leadS c vs k s type type′ args args′ parts parts′ p q m =
     with-agree (λ i r. length r < length s) (reference s) _ _ (ref-fewer s)
     (λ i r h. choose-agree (getElem? vs i) _ _ (λ t. if-agree (code "I") r _ _ _ _
     (λ r′ e. let e′ = ap length e in
-    ap (when (single t && isBare t)) (args-enter t (wrote t vs []) _ _ (q vs k r′ (omega arith)))) refl))
+    ap (when (single t && is-bare t)) (args-enter t (wrote t vs []) _ _ (q vs k r′ (omega arith)))) refl))
 lead-agree leadN c vs k s type type′ args args′ parts parts′ p q m = rw (m vs k s (omega arith)) refl
 lead-agree leadL c vs k s type type′ args args′ parts parts′ p q m = refl
 lead-agree leadNone c vs k s type type′ args args′ parts parts′ p q m = refl
 
 parts-agree : (l : Lead) (c : ℕ) (vs : List Ty) (k : ℕ) (s : Text) (more more′ : Ty → Text → Walker Ty) → AgreeMore (length s) more more′
-    → atParts l c vs k s more ≡ atParts l c vs k s more′
-parts-agree (leadLetter l) c vs k s more more′ p = refl
-parts-agree (leadWrap d) c vs k s more more′ p = refl
-parts-agree leadDigit c vs k s more more′ p =
+    → at-parts l c vs k s more ≡ at-parts l c vs k s more′
+parts-agree (lead-letter l) c vs k s more more′ p = refl
+parts-agree (lead-wrap d) c vs k s more more′ p = refl
+parts-agree lead-digit c vs k s more more′ p =
     with-agree (λ n r. length r + 2 ≤ suc (length s)) (name (c ∷ s)) _ _ (name-fewer (c ∷ s))
-    (λ n r h. p (root n) (wrote (root n) vs (nameBytes n)) (push (root n) vs) k r (omega arith))
+    (λ n r h. p (root n) (wrote (root n) vs (name-bytes n)) (push (root n) vs) k r (omega arith))
 parts-agree leadS c vs k s more more′ p =
     with-agree (λ i r. length r < length s) (reference s) _ _ (ref-fewer s)
-    (λ i r h. choose-agree (getElem? vs i) _ _ (λ t. ap (when (isClass t)) (p t (wrote t vs []) vs k r h)))
+    (λ i r h. choose-agree (getElem? vs i) _ _ (λ t. ap (when (is-class t)) (p t (wrote t vs []) vs k r h)))
 parts-agree leadN c vs k s more more′ p = refl
 parts-agree leadL c vs k s more more′ p = refl
 parts-agree leadNone c vs k s more more′ p = refl
 
 end-agree : (n : ℕ) (more more′ : Ty → Text → Walker Ty) → AgreeMore n more more′ → (u : Ty) (w : Text) (vs : List Ty) (k : ℕ) (r : Text)
-    → length r < n → endOr more u w vs k r ≡ endOr more′ u w vs k r
+    → length r < n → end-or more u w vs k r ≡ end-or more′ u w vs k r
 end-agree n more more′ p u w vs k r h = if-agree (code "E") r _ _ _ _ (λ r′ e. refl) (p u (wrote u vs w) (push u vs) k r h)
 
 more-agree : (i : Bool) (c : ℕ) (t : Ty) (w : Text) (vs : List Ty) (k : ℕ) (s : Text) (args args′ : Walker Args) (more more′ : Ty → Text → Walker Ty)
     → Of (args vs k s) (Fewer (length s)) → args vs k s ≡ args′ vs k s → AgreeMore (length s) more more′
-    → atMore i c t w vs k s args more ≡ atMore i c t w vs k s args′ more′
+    → at-more i c t w vs k s args more ≡ at-more i c t w vs k s args′ more′
 more-agree true c t w vs k s args args′ more more′ o q p =
-    ap (when (isBare t))
+    ap (when (is-bare t))
     (next-agree (Fewer (length s)) (args vs k s) _ _ o
     (λ xs v ws k′ r l. end-agree (length s) more more′ p (app t xs) (w ++ in-brackets (code "I") v) ws k′ r l)
-    ∙ ap (λ a. withArgs t w a (endOr more′)) q)
+    ∙ ap (λ a. with-args t w a (end-or more′)) q)
 more-agree false c t w vs k s args args′ more more′ o q p =
     with-agree (λ n r. length r + 2 ≤ suc (length s)) (name (c ∷ s)) _ _ (name-fewer (c ∷ s))
-    (λ n r h. end-agree (length s) more more′ p (sub t n) (w ++ nameBytes n) vs k r (omega arith))
+    (λ n r h. end-agree (length s) more more′ p (sub t n) (w ++ name-bytes n) vs k r (omega arith))
 
 arg-agree : (n : ℕ) (t : Ty) (w : Text) (vs : List Ty) (k : ℕ) (r : Text) (args args′ : Walker Args) → Agree n args args′ → length r < n
-    → atArg t w vs k r args ≡ atArg t w vs k r args′
+    → at-arg t w vs k r args ≡ at-arg t w vs k r args′
 arg-agree n t w vs k r args args′ p h =
     if-agree (code "E") r _ _ _ _ (λ r′ e. refl)
     (ap (λ a. next a (λ xs v vs′ k′ r′. got (also t xs) (w ++ v) vs′ k′ r′)) (p vs (suc k) r h))
 
 end-types : (n : ℕ) (t : Ty) (w : Text) (vs : List Ty) (k : ℕ) (r : Text) (types types′ : Walker Args) → Agree n types types′ → length r < n
-    → atEnd t w vs k r types ≡ atEnd t w vs k r types′
+    → at-end t w vs k r types ≡ at-end t w vs k r types′
 end-types n t w vs k [] types types′ p h = refl
 end-types n t w vs k (c ∷ r) types types′ p h = rw (p vs k (c ∷ r) h) refl
 
@@ -148,7 +148,7 @@ mutual
       lead-agree (lead c) c vs k s _ _ _ _ _ _ (λ ws j r m. type-fuel f g ws j r (omega arith) (omega arith))
       (λ ws j r m. args-fuel f g ws j r (omega arith) (omega arith)) (λ ws j r m. parts-fuel f g ws j r (omega arith) (omega arith))
 
-  pub parts-fuel : (f g : ℕ) (vs : List Ty) (k : ℕ) (s : Text) → length s ≤ f → length s ≤ g → walkParts f vs k s ≡ walkParts g vs k s
+  pub parts-fuel : (f g : ℕ) (vs : List Ty) (k : ℕ) (s : Text) → length s ≤ f → length s ≤ g → walk-parts f vs k s ≡ walk-parts g vs k s
   parts-fuel zero zero vs k s h l = refl
   parts-fuel zero (suc g) vs k [] h l = refl
   parts-fuel zero (suc g) vs k (c ∷ s) h l = absurd (omega arith)
@@ -159,7 +159,7 @@ mutual
       parts-agree (lead c) c vs k s _ _ (λ t w ws j r m. more-fuel f g t w ws j r (omega arith) (omega arith))
 
   pub more-fuel : (f g : ℕ) (t : Ty) (w : Text) (vs : List Ty) (k : ℕ) (s : Text) → length s < f → length s < g
-      → walkMore f t w vs k s ≡ walkMore g t w vs k s
+      → walk-more f t w vs k s ≡ walk-more g t w vs k s
   more-fuel zero g t w vs k s h l = absurd (omega arith)
   more-fuel (suc f) zero t w vs k s h l = absurd (omega arith)
   more-fuel (suc f) (suc g) t w vs k [] h l = refl
@@ -167,7 +167,7 @@ mutual
       more-agree (eqb c (code "I")) c t w vs k s _ _ _ _ (args-fewer f vs k s) (args-fuel f g vs k s (omega arith) (omega arith))
       (λ u v ws j r m. more-fuel f g u v ws j r (omega arith) (omega arith))
 
-  pub args-fuel : (f g : ℕ) (vs : List Ty) (k : ℕ) (s : Text) → length s < f → length s < g → walkArgs f vs k s ≡ walkArgs g vs k s
+  pub args-fuel : (f g : ℕ) (vs : List Ty) (k : ℕ) (s : Text) → length s < f → length s < g → walk-args f vs k s ≡ walk-args g vs k s
   args-fuel zero g vs k s h l = absurd (omega arith)
   args-fuel (suc f) zero vs k s h l = absurd (omega arith)
   args-fuel (suc f) (suc g) vs k s h l =
@@ -175,13 +175,13 @@ mutual
       (λ t w ws j r m. arg-agree (length s) t w ws j r _ _ (λ xs i r′ n. args-fuel f g xs i r′ (omega arith) (omega arith)) m)
       ∙ rw (type-fuel f g vs k s (omega arith) (omega arith)) refl
 
-pub types-fuel : (f g : ℕ) (vs : List Ty) (k : ℕ) (s : Text) → length s < f → length s < g → walkTypes f vs k s ≡ walkTypes g vs k s
-unfolding walkTypes
+pub types-fuel : (f g : ℕ) (vs : List Ty) (k : ℕ) (s : Text) → length s < f → length s < g → walk-types f vs k s ≡ walk-types g vs k s
+unfolding walk-types
 types-fuel zero g vs k s h l = absurd (omega arith)
 types-fuel (suc f) zero vs k s h l = absurd (omega arith)
 types-fuel (suc f) (suc g) vs k s h l =
     next-agree (Fewer (length s)) (walkType f vs k s) _ _ (type-fewer f vs k s)
-    (λ t w ws j r m. ap (when (not (isLit t)))
+    (λ t w ws j r m. ap (when (not (is-lit t)))
     (end-types (length s) t w ws j r _ _ (λ xs i r′ n. types-fuel f g xs i r′ (omega arith) (omega arith)) m))
     ∙ rw (type-fuel f g vs k s (omega arith) (omega arith)) refl
 
@@ -190,48 +190,48 @@ types-fuel (suc f) (suc g) vs k s h l =
 unfoldable pub walked : Walker Ty
 walked vs k s = walkType (length s) vs k s
 
-unfoldable pub walkedParts : Walker Ty
-walkedParts vs k s = walkParts (length s) vs k s
+unfoldable pub walked-parts : Walker Ty
+walked-parts vs k s = walk-parts (length s) vs k s
 
-unfoldable pub walkedMore : Ty → Text → Walker Ty
-walkedMore t w vs k s = walkMore (suc (length s)) t w vs k s
+unfoldable pub walked-more : Ty → Text → Walker Ty
+walked-more t w vs k s = walk-more (suc (length s)) t w vs k s
 
-unfoldable pub walkedArgs : Walker Args
-walkedArgs vs k s = walkArgs (suc (length s)) vs k s
+unfoldable pub walked-args : Walker Args
+walked-args vs k s = walk-args (suc (length s)) vs k s
 
-unfoldable pub walkedTypes : Walker Args
-walkedTypes vs k s = walkTypes (suc (length s)) vs k s
+unfoldable pub walked-types : Walker Args
+walked-types vs k s = walk-types (suc (length s)) vs k s
 
 module _ (vs : List Ty) (k : ℕ) where
-  pub walked-is : (c : ℕ) (s : Text) → walked vs k (c ∷ s) ≡ atLead (lead c) c vs k s walked walkedArgs walkedParts
-  unfolding walked walkedArgs walkedParts walkType
+  pub walked-is : (c : ℕ) (s : Text) → walked vs k (c ∷ s) ≡ at-lead (lead c) c vs k s walked walked-args walked-parts
+  unfolding walked walked-args walked-parts walkType
   walked-is c s =
       lead-agree (lead c) c vs k s _ _ _ _ _ _ (λ ws j r m. type-fuel (length s) (length r) ws j r (omega arith) (omega arith))
       (λ ws j r m. args-fuel (length s) (suc (length r)) ws j r (omega arith) (omega arith))
       (λ ws j r m. parts-fuel (length s) (length r) ws j r (omega arith) (omega arith))
 
-  pub parts-is : (c : ℕ) (s : Text) → walkedParts vs k (c ∷ s) ≡ atParts (lead c) c vs k s walkedMore
-  unfolding walkedParts walkedMore walkType
+  pub parts-is : (c : ℕ) (s : Text) → walked-parts vs k (c ∷ s) ≡ at-parts (lead c) c vs k s walked-more
+  unfolding walked-parts walked-more walkType
   parts-is c s =
       parts-agree (lead c) c vs k s _ _ (λ t w ws j r m. more-fuel (length s) (suc (length r)) t w ws j r (omega arith) (omega arith))
 
   pub more-is : (t : Ty) (w : Text) (c : ℕ) (s : Text)
-      → walkedMore t w vs k (c ∷ s) ≡ atMore (eqb c (code "I")) c t w vs k s walkedArgs walkedMore
-  unfolding walkedMore walkedArgs walkType
+      → walked-more t w vs k (c ∷ s) ≡ at-more (eqb c (code "I")) c t w vs k s walked-args walked-more
+  unfolding walked-more walked-args walkType
   more-is t w c s =
       more-agree (eqb c (code "I")) c t w vs k s _ _ _ _ (args-fewer (suc (length s)) vs k s) refl
       (λ u v ws j r m. more-fuel (suc (length s)) (suc (length r)) u v ws j r (omega arith) (omega arith))
 
-  pub args-is : (s : Text) → walkedArgs vs k s ≡ next (walked vs k s) (λ t w ws j r. atArg t w ws j r walkedArgs)
-  unfolding walked walkedArgs walkType
+  pub args-is : (s : Text) → walked-args vs k s ≡ next (walked vs k s) (λ t w ws j r. at-arg t w ws j r walked-args)
+  unfolding walked walked-args walkType
   args-is s =
       next-agree (Fewer (length s)) (walkType (length s) vs k s) _ _ (type-fewer (length s) vs k s)
       (λ t w ws j r m. arg-agree (length s) t w ws j r _ _ (λ xs i r′ n. args-fuel (length s) (suc (length r′)) xs i r′ (omega arith) (omega arith)) m)
 
   pub types-is : (s : Text)
-      → walkedTypes vs k s ≡ next (walked vs k s) (λ t w ws j r. when (not (isLit t)) (atEnd t w ws j r walkedTypes))
-  unfolding walked walkedTypes walkTypes
+      → walked-types vs k s ≡ next (walked vs k s) (λ t w ws j r. when (not (is-lit t)) (at-end t w ws j r walked-types))
+  unfolding walked walked-types walk-types
   types-is s =
       next-agree (Fewer (length s)) (walkType (length s) vs k s) _ _ (type-fewer (length s) vs k s)
-      (λ t w ws j r m. ap (when (not (isLit t)))
+      (λ t w ws j r m. ap (when (not (is-lit t)))
       (end-types (length s) t w ws j r _ _ (λ xs i r′ n. types-fuel (length s) (suc (length r′)) xs i r′ (omega arith) (omega arith)) m))

@@ -8,7 +8,7 @@ use lib.Dec.{eqb}
 use Rattle.grammar.specs.Text.{Text, if_then_else_, choose}
 use Rattle.catalogue.specs.Bytes.{eqb-eq}
 use Rattle.catalogue.specs.Tree.{Ty}
-use Rattle.catalogue.specs.Recogniser.{Rd, rd, stop, bind, ifNext}
+use Rattle.catalogue.specs.Recogniser.{Rd, rd, stop, bind, if-next}
 use Rattle.walk.specs.Walk.{Walk, got, bad, Walker, next, when, keep, with}
 
 -- ---------------------------------------------------------------- leaves
@@ -37,7 +37,7 @@ rd-then P Q (rd x r) f h k = k x r h
 rd-then P Q stop f h k = tt
 
 pub rd-next : {A : Type 0} (P : A → Text → Type 0) (c : ℕ) (s : Text) (f : Text → Rd A) (o : Rd A) → ((r : Text) → s ≡ c ∷ r → OfRd (f r) P)
-    → OfRd o P → OfRd (ifNext c s f o) P
+    → OfRd o P → OfRd (if-next c s f o) P
 unfolding OfRd if_then_else_
 rd-next P c [] f o h k = k
 rd-next P c (d ∷ s) f o h k = go (eqb d c) refl
@@ -86,7 +86,7 @@ module _ {A : Type 0} (P : Claim A) where
   of-then Q (got x w vs k r) f h g = g x w vs k r h
   of-then Q bad f h g = tt
 
-  pub of-next : (c : ℕ) (s : Text) (f : Text → Walk A) (o : Walk A) → ((r : Text) → s ≡ c ∷ r → Of (f r) P) → Of o P → Of (ifNext c s f o) P
+  pub of-next : (c : ℕ) (s : Text) (f : Text → Walk A) (o : Walk A) → ((r : Text) → s ≡ c ∷ r → Of (f r) P) → Of o P → Of (if-next c s f o) P
   unfolding if_then_else_
   of-next c [] f o h k = k
   of-next c (d ∷ s) f o h k = go (eqb d c) refl

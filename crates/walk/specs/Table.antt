@@ -8,56 +8,56 @@ use native.Mathlib.Omega.{arith}
 use lib.ListN.{getElem?}
 use Rattle.grammar.specs.Text.{Text, if_then_else_}
 use Rattle.catalogue.specs.Bytes.{and-right, or-false}
-use Rattle.catalogue.specs.Tree.{Letter, Wrap, Kind, Ty, Args, letter, wrap, root, sub, app, lit, sameTy, isClass, isBare, single, one, also}
+use Rattle.catalogue.specs.Tree.{Letter, Wrap, Kind, Ty, Args, letter, wrap, root, sub, app, lit, same-ty, is-class, is-bare, single, one, also}
 use Rattle.catalogue.specs.Spelling.{
   Sp,
   Pre,
   SpArgs,
-  sLetter,
-  sWrap,
-  sRef,
+  s-letter,
+  s-wrap,
+  s-ref,
   plain,
   templ,
   retempl,
-  nestSub,
-  nestApp,
-  sLit,
-  pRef,
-  pRoot,
-  pSub,
-  pApp,
-  sOne,
-  sAlso,
+  nest-sub,
+  nest-app,
+  s-lit,
+  p-ref,
+  p-root,
+  p-sub,
+  p-app,
+  s-one,
+  s-also,
 }
 use Rattle.catalogue.specs.Class.{
-  nameOk,
-  litOk,
+  name-ok,
+  lit-ok,
   stands,
   push,
-  lastIs,
-  pushNew,
+  last-is,
+  push-new,
   entry,
   resolve,
-  resolvePre,
-  resolveArgs,
+  resolve-pre,
+  resolve-args,
 }
-use Rattle.catalogue.specs.Normal.{seek, known, after, afterPre, afterArgs}
-use Rattle.catalogue.specs.WellFormed.{Wf, WfArgs, AllWf, Good, GoodPre, Post, post-ok, post-then, post-if, post-entry, post-both, post-map, wf-push, wf-pushNew, bare-class, entry-wf}
-use Rattle.catalogue.specs.Entries.{has, has-push, has-seek, at-has, seek-has, last-has, Known, Closed, after-same, afterPre-same, afterArgs-same, grown-has, after-closed, afterPre-closed}
-use Rattle.catalogue.specs.NoDoubles.{size, sizeArgs, new-trans, after-new, afterPre-new, afterArgs-new, fresh}
-use Rattle.walk.specs.Walk.{add, addAll, distinct}
+use Rattle.catalogue.specs.Normal.{seek, known, after, after-pre, after-args}
+use Rattle.catalogue.specs.WellFormed.{Wf, WfArgs, AllWf, Good, GoodPre, Post, post-ok, post-then, post-if, post-entry, post-both, post-map, wf-push, wf-push-new, bare-class, entry-wf}
+use Rattle.catalogue.specs.Entries.{has, has-push, has-seek, at-has, seek-has, last-has, Known, Closed, after-same, after-pre-same, after-args-same, grown-has, after-closed, after-pre-closed}
+use Rattle.catalogue.specs.NoDoubles.{size, size-args, new-trans, after-new, after-pre-new, after-args-new, fresh}
+use Rattle.walk.specs.Walk.{add, add-all, distinct}
 
 -- ---------------------------------------------------------------- the table without later doubles
 
 pub distinct-push : (u : Ty) (vs : List Ty) → distinct (push u vs) ≡ add u (distinct vs)
-unfolding addAll
+unfolding add-all
 distinct-push u vs = go [] vs
   where
-    go : (us vs : List Ty) → addAll us (push u vs) ≡ add u (addAll us vs)
+    go : (us vs : List Ty) → add-all us (push u vs) ≡ add u (add-all us vs)
     go us [] = refl
     go us (v ∷ vs) = go (add v us) vs
 
-has-add : (x u : Ty) (us : List Ty) → has x (add u us) ≡ has x us || sameTy x u
+has-add : (x u : Ty) (us : List Ty) → has x (add u us) ≡ has x us || same-ty x u
 unfolding add
 has-add x u us = grown-has (seek u us) u x us us (push u us) refl (λ y. has-push y u us) (λ h. refl)
 
@@ -66,12 +66,12 @@ or-assoc true q r = refl
 or-assoc false q r = refl
 
 pub distinct-has : (x : Ty) (vs : List Ty) → has x (distinct vs) ≡ has x vs
-unfolding addAll has
+unfolding add-all has
 distinct-has x vs = go [] vs
   where
-    go : (us vs : List Ty) → has x (addAll us vs) ≡ has x us || has x vs
+    go : (us vs : List Ty) → has x (add-all us vs) ≡ has x us || has x vs
     go us [] = sym (or-false (has x us))
-    go us (v ∷ vs) = go (add v us) vs ∙ rw (has-add x v us) (or-assoc (has x us) (sameTy x v) (has x vs))
+    go us (v ∷ vs) = go (add v us) vs ∙ rw (has-add x v us) (or-assoc (has x us) (same-ty x v) (has x vs))
 
 -- an entry that is there changes nothing
 pub add-same : (u : Ty) (us : List Ty) → has u us ≡ true → add u us ≡ us
@@ -85,11 +85,11 @@ seek-fresh u us h = go (seek u us) refl
     go none e = refl
     go (some i) e = absurd (false≢true (sym h ∙ seek-has u us i e))
 
-pub distinct-pushNew : (u : Ty) (vs : List Ty) → distinct (pushNew u vs) ≡ add u (distinct vs)
-unfolding pushNew if_then_else_
-distinct-pushNew u vs = go (lastIs u vs) refl
+pub distinct-push-new : (u : Ty) (vs : List Ty) → distinct (push-new u vs) ≡ add u (distinct vs)
+unfolding push-new if_then_else_
+distinct-push-new u vs = go (last-is u vs) refl
   where
-    go : (p : Bool) → lastIs u vs ≡ p → distinct (if p then vs else push u vs) ≡ add u (distinct vs)
+    go : (p : Bool) → last-is u vs ≡ p → distinct (if p then vs else push u vs) ≡ add u (distinct vs)
     go true e = sym (add-same u (distinct vs) (distinct-has u vs ∙ last-has u vs e))
     go false e = distinct-push u vs
 
@@ -123,16 +123,16 @@ unfolding add
 push-grown {u} {us} {ws} g =
     by-known u us (λ h. rw (g .if-known h) refl) (λ h. rw (seek-fresh u us h, seek-fresh u ws (g .if-new h)) refl)
 
-not-last : (u : Ty) (us : List Ty) → has u us ≡ false → lastIs u us ≡ false
-not-last u us h = go (lastIs u us) refl
+not-last : (u : Ty) (us : List Ty) → has u us ≡ false → last-is u us ≡ false
+not-last u us h = go (last-is u us) refl
   where
-    go : (p : Bool) → lastIs u us ≡ p → p ≡ false
+    go : (p : Bool) → last-is u us ≡ p → p ≡ false
     go false e = refl
     go true e = sym (last-has u us e) ∙ h
 
-pub pushNew-grown : {u : Ty} {us ws : List Ty} → Grows u us ws → known (seek u us) us (pushNew u ws) ≡ add u ws
-unfolding add pushNew if_then_else_
-pushNew-grown {u} {us} {ws} g =
+pub push-new-grown : {u : Ty} {us ws : List Ty} → Grows u us ws → known (seek u us) us (push-new u ws) ≡ add u ws
+unfolding add push-new if_then_else_
+push-new-grown {u} {us} {ws} g =
     by-known u us (λ h. let r = has-seek u us h in rw (g .if-known h) (rw (r .1) refl))
     (λ h. rw (seek-fresh u us h, seek-fresh u ws (g .if-new h), not-last u ws (g .if-new h)) refl)
 
@@ -146,19 +146,19 @@ wrap-grows c t us k = record {
   if-new = λ h. fresh (wrap c t) us (after t us) (size t) (after-new t us) (omega arith) h;
 }
 
-pub sub-grows : (t : Ty) (n : Text) (us : List Ty) → Closed us → Grows (sub t n) us (afterPre t us)
+pub sub-grows : (t : Ty) (n : Text) (us : List Ty) → Closed us → Grows (sub t n) us (after-pre t us)
 unfolding size
 sub-grows t n us k = record {
-  if-known = λ h. afterPre-same t us (k (sub t n) h);
-  if-new = λ h. fresh (sub t n) us (afterPre t us) (size t) (afterPre-new t us) (omega arith) h;
+  if-known = λ h. after-pre-same t us (k (sub t n) h);
+  if-new = λ h. fresh (sub t n) us (after-pre t us) (size t) (after-pre-new t us) (omega arith) h;
 }
 
-pub app-grows : (t : Ty) (xs : Args) (us : List Ty) → Closed us → Grows (app t xs) us (afterArgs xs (afterPre t us))
+pub app-grows : (t : Ty) (xs : Args) (us : List Ty) → Closed us → Grows (app t xs) us (after-args xs (after-pre t us))
 unfolding size
 app-grows t xs us k = record {
-  if-known = λ h. let c = k (app t xs) h in rw (afterPre-same t us (c .0)) (afterArgs-same xs us (c .1));
-  if-new = λ h. fresh (app t xs) us (afterArgs xs (afterPre t us)) (size t + sizeArgs xs)
-      (new-trans us (afterPre t us) (afterArgs xs (afterPre t us)) (size t) (sizeArgs xs) (afterPre-new t us) (afterArgs-new xs (afterPre t us)))
+  if-known = λ h. let c = k (app t xs) h in rw (after-pre-same t us (c .0)) (after-args-same xs us (c .1));
+  if-new = λ h. fresh (app t xs) us (after-args xs (after-pre t us)) (size t + size-args xs)
+      (new-trans us (after-pre t us) (after-args xs (after-pre t us)) (size t) (size-args xs) (after-pre-new t us) (after-args-new xs (after-pre t us)))
       (omega arith) h;
 }
 
@@ -176,14 +176,14 @@ pub record Table (vs : List Ty) (t : Ty) (ws : List Ty) : Type 0 where
 
 pub record TablePre (vs : List Ty) (t : Ty) (ws : List Ty) : Type 0 where
   pub wf : Wf t
-  pub class : isClass t ≡ true
+  pub class : is-class t ≡ true
   pub kept : Kept ws
-  pub is : afterPre t (distinct vs) ≡ distinct ws
+  pub is : after-pre t (distinct vs) ≡ distinct ws
 
 pub record TableArgs (vs : List Ty) (xs : Args) (ws : List Ty) : Type 0 where
   pub wf : WfArgs xs
   pub kept : Kept ws
-  pub is : afterArgs xs (distinct vs) ≡ distinct ws
+  pub is : after-args xs (distinct vs) ≡ distinct ws
 
 module _ {vs : List Ty} (a : Kept vs) where
   pub table-of : (t : Ty) (ws : List Ty) → Good t ws → after t (distinct vs) ≡ distinct ws → Table vs t ws
@@ -193,11 +193,11 @@ module _ {vs : List Ty} (a : Kept vs) where
     is = e;
   }
 
-  pub tablePre-of : (t : Ty) (ws : List Ty) → GoodPre t ws → afterPre t (distinct vs) ≡ distinct ws → TablePre vs t ws
-  tablePre-of t ws g e = record {
+  pub table-pre-of : (t : Ty) (ws : List Ty) → GoodPre t ws → after-pre t (distinct vs) ≡ distinct ws → TablePre vs t ws
+  table-pre-of t ws g e = record {
     wf = g .0;
     class = g .1;
-    kept = record { wf = g .2; closed = rw e at (afterPre-closed t (g .0) (distinct vs) (a .closed)) };
+    kept = record { wf = g .2; closed = rw e at (after-pre-closed t (g .0) (distinct vs) (a .closed)) };
     is = e;
   }
 
@@ -205,9 +205,9 @@ module _ {vs : List Ty} (a : Kept vs) where
   table-entry t i e g =
       table-of t vs g (after-same t (distinct vs) (known-of t (distinct vs) (distinct-has t vs ∙ at-has i vs t e)))
 
-  pub tablePre-entry : (t : Ty) (i : ℕ) → getElem? vs i ≡ some t → isClass t ≡ true → Good t vs → TablePre vs t vs
-  tablePre-entry t i e c g =
-      tablePre-of t vs (g .0, c, g .1) (afterPre-same t (distinct vs) (known-of t (distinct vs) (distinct-has t vs ∙ at-has i vs t e)))
+  pub table-pre-entry : (t : Ty) (i : ℕ) → getElem? vs i ≡ some t → is-class t ≡ true → Good t vs → TablePre vs t vs
+  table-pre-entry t i e c g =
+      table-pre-of t vs (g .0, c, g .1) (after-pre-same t (distinct vs) (known-of t (distinct vs) (distinct-has t vs ∙ at-has i vs t e)))
 
   pub table-wrap : (c : Wrap) (t : Ty) (ws : List Ty) → Table vs t ws → stands c t ≡ true → Table vs (wrap c t) (push (wrap c t) ws)
   unfolding after
@@ -215,31 +215,31 @@ module _ {vs : List Ty} (a : Kept vs) where
       table-of (wrap c t) (push (wrap c t) ws) ((h .wf, p), wf-push (wrap c t) ws (h .wf, p) (h .kept .wf))
       (push-grown (wrap-grows c t (distinct vs) (a .closed)) ∙ rw (h .is) (sym (distinct-push (wrap c t) ws)))
 
-  pub table-root : (n : Text) → nameOk n ≡ true → Table vs (root n) (push (root n) vs)
+  pub table-root : (n : Text) → name-ok n ≡ true → Table vs (root n) (push (root n) vs)
   unfolding after
   table-root n p =
       table-of (root n) (push (root n) vs) (p, wf-push (root n) vs p (a .wf))
       (push-grown (self-grows (root n) (distinct vs)) ∙ sym (distinct-push (root n) vs))
 
-  pub tablePre-root : (n : Text) → nameOk n ≡ true → TablePre vs (root n) (push (root n) vs)
+  pub table-pre-root : (n : Text) → name-ok n ≡ true → TablePre vs (root n) (push (root n) vs)
   unfolding after
-  tablePre-root n p =
-      tablePre-of (root n) (push (root n) vs) (p, refl, wf-push (root n) vs p (a .wf))
+  table-pre-root n p =
+      table-pre-of (root n) (push (root n) vs) (p, refl, wf-push (root n) vs p (a .wf))
       (push-grown (self-grows (root n) (distinct vs)) ∙ sym (distinct-push (root n) vs))
 
-  pub table-sub : (t : Ty) (n : Text) (ws : List Ty) → TablePre vs t ws → nameOk n ≡ true → Table vs (sub t n) (pushNew (sub t n) ws)
+  pub table-sub : (t : Ty) (n : Text) (ws : List Ty) → TablePre vs t ws → name-ok n ≡ true → Table vs (sub t n) (push-new (sub t n) ws)
   unfolding after
   table-sub t n ws h p =
-      table-of (sub t n) (pushNew (sub t n) ws) ((h .wf, h .class, p), wf-pushNew (sub t n) ws (h .wf, h .class, p) (h .kept .wf))
-      (pushNew-grown (sub-grows t n (distinct vs) (a .closed)) ∙ rw (h .is) (sym (distinct-pushNew (sub t n) ws)))
+      table-of (sub t n) (push-new (sub t n) ws) ((h .wf, h .class, p), wf-push-new (sub t n) ws (h .wf, h .class, p) (h .kept .wf))
+      (push-new-grown (sub-grows t n (distinct vs) (a .closed)) ∙ rw (h .is) (sym (distinct-push-new (sub t n) ws)))
 
-  pub tablePre-sub : (t : Ty) (n : Text) (ws : List Ty) → TablePre vs t ws → nameOk n ≡ true → TablePre vs (sub t n) (push (sub t n) ws)
+  pub table-pre-sub : (t : Ty) (n : Text) (ws : List Ty) → TablePre vs t ws → name-ok n ≡ true → TablePre vs (sub t n) (push (sub t n) ws)
   unfolding after
-  tablePre-sub t n ws h p =
-      tablePre-of (sub t n) (push (sub t n) ws) ((h .wf, h .class, p), refl, wf-push (sub t n) ws (h .wf, h .class, p) (h .kept .wf))
+  table-pre-sub t n ws h p =
+      table-pre-of (sub t n) (push (sub t n) ws) ((h .wf, h .class, p), refl, wf-push (sub t n) ws (h .wf, h .class, p) (h .kept .wf))
       (push-grown (sub-grows t n (distinct vs) (a .closed)) ∙ rw (h .is) (sym (distinct-push (sub t n) ws)))
 
-  module _ (t : Ty) (xs : Args) (us ws : List Ty) (h : TablePre vs t us) (g : TableArgs us xs ws) (p : isBare t ≡ true) where
+  module _ (t : Ty) (xs : Args) (us ws : List Ty) (h : TablePre vs t us) (g : TableArgs us xs ws) (p : is-bare t ≡ true) where
     pub table-app : Table vs (app t xs) (push (app t xs) ws)
     unfolding after
     table-app =
@@ -247,10 +247,10 @@ module _ {vs : List Ty} (a : Kept vs) where
         ((h .wf, p, g .wf), wf-push (app t xs) ws (h .wf, p, g .wf) (g .kept .wf))
         (push-grown (app-grows t xs (distinct vs) (a .closed)) ∙ rw (h .is, g .is) (sym (distinct-push (app t xs) ws)))
 
-    pub tablePre-app : TablePre vs (app t xs) (push (app t xs) ws)
+    pub table-pre-app : TablePre vs (app t xs) (push (app t xs) ws)
     unfolding after
-    tablePre-app =
-        tablePre-of (app t xs) (push (app t xs) ws)
+    table-pre-app =
+        table-pre-of (app t xs) (push (app t xs) ws)
         ((h .wf, p, g .wf), refl, wf-push (app t xs) ws (h .wf, p, g .wf) (g .kept .wf))
         (push-grown (app-grows t xs (distinct vs) (a .closed)) ∙ rw (h .is, g .is) (sym (distinct-push (app t xs) ws)))
 
@@ -282,54 +282,54 @@ mutual
   unfolding resolve
 
   pub table : (s : Sp) (vs : List Ty) → Kept vs → Post (resolve s vs) (Table vs)
-  table (sLetter l) vs a = post-ok _ _ (Table vs) (record { wf = tt; kept = a; is = after-letter l (distinct vs) })
-  table (sWrap c s) vs a =
+  table (s-letter l) vs a = post-ok _ _ (Table vs) (record { wf = tt; kept = a; is = after-letter l (distinct vs) })
+  table (s-wrap c s) vs a =
       post-then (Table vs) (Table vs) (resolve s vs) _ (table s vs a)
       (λ t ws h. post-if _ (stands c t) _ (λ p. post-ok _ _ (Table vs) (table-wrap a c t ws h p)))
-  table (sRef i) vs a =
+  table (s-ref i) vs a =
       post-map _ (Table vs) (entry (getElem? vs i) vs) (λ t ws h. rw (h .2) (table-entry a t i (h .1) (rw (h .2) at (h .0)))) (entry-at vs i (a .wf))
-  table (plain n) vs a = post-if _ (nameOk n) _ (λ p. post-ok _ _ (Table vs) (table-root a n p))
+  table (plain n) vs a = post-if _ (name-ok n) _ (λ p. post-ok _ _ (Table vs) (table-root a n p))
   table (templ n ss) vs a =
-      post-if _ (nameOk n) _
-      (λ p. let q = tablePre-root a n p in
-      post-then (TableArgs (push (root n) vs)) (Table vs) (resolveArgs ss (push (root n) vs)) _ (tableArgs ss (push (root n) vs) (q .kept))
+      post-if _ (name-ok n) _
+      (λ p. let q = table-pre-root a n p in
+      post-then (TableArgs (push (root n) vs)) (Table vs) (resolve-args ss (push (root n) vs)) _ (table-args ss (push (root n) vs) (q .kept))
       (λ xs ws h. post-ok _ _ (Table vs) (table-app a (root n) xs (push (root n) vs) ws q h refl)))
   table (retempl i ss) vs a =
       post-then _ (Table vs) (entry (getElem? vs i) vs) _ (entry-at vs i (a .wf))
-      (λ t us r. post-if _ (single t && isBare t) _
-      (λ p. let bare = and-right (single t) (isBare t) p in
-      let q : TablePre vs t us = rw (r .2) (tablePre-entry a t i (r .1) (bare-class t bare) (rw (r .2) at (r .0))) in
-      post-then (TableArgs us) (Table vs) (resolveArgs ss us) _ (tableArgs ss us (q .kept))
+      (λ t us r. post-if _ (single t && is-bare t) _
+      (λ p. let bare = and-right (single t) (is-bare t) p in
+      let q : TablePre vs t us = rw (r .2) (table-pre-entry a t i (r .1) (bare-class t bare) (rw (r .2) at (r .0))) in
+      post-then (TableArgs us) (Table vs) (resolve-args ss us) _ (table-args ss us (q .kept))
       (λ xs ws h. post-ok _ _ (Table vs) (table-app a t xs us ws q h bare))))
-  table (nestSub q n) vs a =
-      post-then (TablePre vs) (Table vs) (resolvePre q vs) _ (tablePre q vs a)
-      (λ t ws h. post-if _ (nameOk n) _ (λ p. post-ok _ _ (Table vs) (table-sub a t n ws h p)))
-  table (nestApp q ss) vs a =
-      post-then (TablePre vs) (Table vs) (resolvePre q vs) _ (tablePre q vs a)
-      (λ t us r. post-if _ (not (single t) && isBare t) _
-      (λ p. post-then (TableArgs us) (Table vs) (resolveArgs ss us) _ (tableArgs ss us (r .kept))
-      (λ xs ws h. post-ok _ _ (Table vs) (table-app a t xs us ws r h (and-right (not (single t)) (isBare t) p)))))
-  table (sLit k g v) vs a = post-if _ (litOk k g v) _ (λ p. post-ok _ _ (Table vs) (record { wf = p; kept = a; is = after-lit k g v (distinct vs) }))
+  table (nest-sub q n) vs a =
+      post-then (TablePre vs) (Table vs) (resolve-pre q vs) _ (table-pre q vs a)
+      (λ t ws h. post-if _ (name-ok n) _ (λ p. post-ok _ _ (Table vs) (table-sub a t n ws h p)))
+  table (nest-app q ss) vs a =
+      post-then (TablePre vs) (Table vs) (resolve-pre q vs) _ (table-pre q vs a)
+      (λ t us r. post-if _ (not (single t) && is-bare t) _
+      (λ p. post-then (TableArgs us) (Table vs) (resolve-args ss us) _ (table-args ss us (r .kept))
+      (λ xs ws h. post-ok _ _ (Table vs) (table-app a t xs us ws r h (and-right (not (single t)) (is-bare t) p)))))
+  table (s-lit k g v) vs a = post-if _ (lit-ok k g v) _ (λ p. post-ok _ _ (Table vs) (record { wf = p; kept = a; is = after-lit k g v (distinct vs) }))
 
-  pub tablePre : (q : Pre) (vs : List Ty) → Kept vs → Post (resolvePre q vs) (TablePre vs)
-  tablePre (pRef i) vs a =
+  pub table-pre : (q : Pre) (vs : List Ty) → Kept vs → Post (resolve-pre q vs) (TablePre vs)
+  table-pre (p-ref i) vs a =
       post-then _ (TablePre vs) (entry (getElem? vs i) vs) _ (entry-at vs i (a .wf))
-      (λ t ws h. post-if _ (isClass t) _
-      (λ p. post-ok _ _ (TablePre vs) (rw (h .2) (tablePre-entry a t i (h .1) p (rw (h .2) at (h .0))))))
-  tablePre (pRoot n) vs a = post-if _ (nameOk n) _ (λ p. post-ok _ _ (TablePre vs) (tablePre-root a n p))
-  tablePre (pSub q n) vs a =
-      post-then (TablePre vs) (TablePre vs) (resolvePre q vs) _ (tablePre q vs a)
-      (λ t ws h. post-if _ (nameOk n) _ (λ p. post-ok _ _ (TablePre vs) (tablePre-sub a t n ws h p)))
-  tablePre (pApp q ss) vs a =
-      post-then (TablePre vs) (TablePre vs) (resolvePre q vs) _ (tablePre q vs a)
-      (λ t us r. post-if _ (isBare t) _
-      (λ p. post-then (TableArgs us) (TablePre vs) (resolveArgs ss us) _ (tableArgs ss us (r .kept))
-      (λ xs ws h. post-ok _ _ (TablePre vs) (tablePre-app a t xs us ws r h p))))
+      (λ t ws h. post-if _ (is-class t) _
+      (λ p. post-ok _ _ (TablePre vs) (rw (h .2) (table-pre-entry a t i (h .1) p (rw (h .2) at (h .0))))))
+  table-pre (p-root n) vs a = post-if _ (name-ok n) _ (λ p. post-ok _ _ (TablePre vs) (table-pre-root a n p))
+  table-pre (p-sub q n) vs a =
+      post-then (TablePre vs) (TablePre vs) (resolve-pre q vs) _ (table-pre q vs a)
+      (λ t ws h. post-if _ (name-ok n) _ (λ p. post-ok _ _ (TablePre vs) (table-pre-sub a t n ws h p)))
+  table-pre (p-app q ss) vs a =
+      post-then (TablePre vs) (TablePre vs) (resolve-pre q vs) _ (table-pre q vs a)
+      (λ t us r. post-if _ (is-bare t) _
+      (λ p. post-then (TableArgs us) (TablePre vs) (resolve-args ss us) _ (table-args ss us (r .kept))
+      (λ xs ws h. post-ok _ _ (TablePre vs) (table-pre-app a t xs us ws r h p))))
 
-  pub tableArgs : (ss : SpArgs) (vs : List Ty) → Kept vs → Post (resolveArgs ss vs) (TableArgs vs)
-  tableArgs (sOne s) vs a =
+  pub table-args : (ss : SpArgs) (vs : List Ty) → Kept vs → Post (resolve-args ss vs) (TableArgs vs)
+  table-args (s-one s) vs a =
       post-then (Table vs) (TableArgs vs) (resolve s vs) _ (table s vs a) (λ t ws h. post-ok _ _ (TableArgs vs) (args-one t ws h))
-  tableArgs (sAlso s ss) vs a =
+  table-args (s-also s ss) vs a =
       post-then (Table vs) (TableArgs vs) (resolve s vs) _ (table s vs a)
-      (λ t us h. post-then (TableArgs us) (TableArgs vs) (resolveArgs ss us) _ (tableArgs ss us (h .kept))
+      (λ t us h. post-then (TableArgs us) (TableArgs vs) (resolve-args ss us) _ (table-args ss us (h .kept))
       (λ xs ws g. post-ok _ _ (TableArgs vs) (args-also t xs us ws h g)))

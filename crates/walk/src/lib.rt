@@ -3,10 +3,10 @@
 ghost use Prim.Native.Nat.{ℕ, _≤_};
 ghost use lib.ListN.{length};
 ghost use Rattle.grammar.specs.Names.{most-symbol-bytes};
-ghost use Rattle.catalogue.specs.Spelling.{refBytes};
+ghost use Rattle.catalogue.specs.Spelling.{ref-bytes};
 
 pub fn most_reference() -> usize
-    ensures { λ r. ⌜ ((i : ℕ) → i ≤ most-symbol-bytes → length (refBytes i) ≤ r) ⌝ }
+    ensures { λ r. ⌜ ((i : ℕ) → i ≤ most-symbol-bytes → length (ref-bytes i) ≤ r) ⌝ }
 {
     5
 }

@@ -7,8 +7,8 @@ use native.Mathlib.Omega.{arith}
 use lib.Dec.{eqb}
 use lib.ListN.{length, drop, getD}
 use Rattle.grammar.specs.Text.{Text, if_then_else_, starts, run, past, number}
-use Rattle.catalogue.specs.Class.{nameOk}
-use Rattle.catalogue.specs.Recogniser.{Rd, rd, stop, cut, readName, Lead, leadLetter, leadWrap, leadDigit, leadS, leadN, leadL, leadNone, lead}
+use Rattle.catalogue.specs.Class.{name-ok}
+use Rattle.catalogue.specs.Recogniser.{Rd, rd, stop, cut, read-name, Lead, lead-letter, lead-wrap, lead-digit, leadS, leadN, leadL, leadNone, lead}
 use Rattle.walk.specs.Walk.{name}
 use Rattle.nodes.specs.Nodes.{
   Notes,
@@ -26,9 +26,9 @@ use Rattle.nodes.specs.Nodes.{
   a-bare,
   a-class,
   at-reference,
-  at-parts,
-  at-more,
-  end-or,
+  note-at-parts,
+  note-at-more,
+  note-end-or,
   note-args,
   note-parts,
   note-more,
@@ -99,7 +99,7 @@ module _ {s o o₁ o₂ n n₂ : Text} {p p₁ : Writer} {r₁ : Told}
 abbrev pub PartsBy : Lead → Text → Text → Text → Text → Text → Writer → Told → Type 0
 PartsBy l s o n o' n' p r =
     (σ : Notes) → Holds s o n p σ → (m : ℕ) → length s ≤ suc m + p .at → (c : ℕ) (t : Text) → σ .rest ≡ c ∷ t
-    → Refines s (Spent 1 (p .out) p) o' n' r (at-parts l (p .out) t σ (λ u lone τ. note-more m u lone (p .out) τ))
+    → Refines s (Spent 1 (p .out) p) o' n' r (note-at-parts l (p .out) t σ (λ u lone τ. note-more m u lone (p .out) τ))
 
 module _ {s o n : Text} {p : Writer} where
   pub parts-end : length s ≤ p .at → Fueled 1 (p .out) 0 (λ m. note-parts m (p .out)) s o n o n p Bad
@@ -109,25 +109,25 @@ module _ {s o n : Text} {p : Writer} where
       → Fueled 1 (p .out) 0 (λ m. note-parts m (p .out)) s o n o' n' p r
   parts-by i e u σ h zero f = absurd (omega arith)
   parts-by {l = l} i e u σ h (suc m) f =
-      by (parts-some σ m (first-byte h i) (p .out) ∙ ap (λ (x : Lead). at-parts x (p .out) (drop (p .at + 1) s) σ (λ v lone τ. note-more m v lone (p .out) τ)) e)
+      by (parts-some σ m (first-byte h i) (p .out) ∙ ap (λ (x : Lead). note-at-parts x (p .out) (drop (p .at + 1) s) σ (λ v lone τ. note-more m v lone (p .out) τ)) e)
       (u σ h m (omega arith) _ (drop (p .at + 1) s) (first-byte h i))
 
   -- another byte begins no parts
   pub parts-other : (l : Lead) → (class l ≡ Digit → ⊥) → (class l ≡ S → ⊥) → PartsBy l s o n o n p Bad
-  parts-other (leadLetter l) i j σ h m f c t e = refuses
-  parts-other (leadWrap q) i j σ h m f c t e = refuses
-  parts-other leadDigit i j σ h m f c t e = absurd (i refl)
+  parts-other (lead-letter l) i j σ h m f c t e = refuses
+  parts-other (lead-wrap q) i j σ h m f c t e = refuses
+  parts-other lead-digit i j σ h m f c t e = absurd (i refl)
   parts-other leadS i j σ h m f c t e = absurd (j refl)
   parts-other leadN i j σ h m f c t e = refuses
   parts-other leadL i j σ h m f c t e = refuses
   parts-other leadNone i j σ h m f c t e = refuses
 
   module _ {o₁ n₁ : Text} {r₁ : Told} (u : FirstPart by-name s o n o₁ n₁ p r₁) where
-    pub parts-unnamed : r₁ ≡ Bad → PartsBy leadDigit s o n o₁ n₁ p Bad
+    pub parts-unnamed : r₁ ≡ Bad → PartsBy lead-digit s o n o₁ n₁ p Bad
     parts-unnamed e σ h m l c t i = by (on-bad _ (refused e (u σ h c t i))) refuses
 
     pub parts-named : {o₂ n₂ : Text} {q : Writer} {d : ℕ} {r : Told} → r₁ ≡ Number q d
-        → Fueled 1 (p .out) 1 (λ m. note-more m d true (p .out)) s o₁ n₁ o₂ n₂ q r → PartsBy leadDigit s o n o₂ n₂ p r
+        → Fueled 1 (p .out) 1 (λ m. note-more m d true (p .out)) s o₁ n₁ o₂ n₂ q r → PartsBy lead-digit s o n o₂ n₂ p r
     parts-named e v σ h m l c t i =
         let w = answered e (u σ h c t i) in
         by (on-got (λ d τ. note-more m d true (p .out) τ) (w .is))
@@ -140,7 +140,7 @@ module _ {s o n : Text} {p : Writer} where
     module _ {q : Writer} {d : ℕ} (e : r₁ ≡ Number q d) {tag : ℕ} (g : Tag n₁ q d tag) where
       referred-at : {σ : Notes} → Holds s o n p σ → (m c : ℕ) (t : Text) → σ .rest ≡ c ∷ t
           → (w : Answered s (Behind p) o₁ n₁ q d (at-reference (p .out) (go-to t σ)))
-          × (at-parts leadS (p .out) t σ (λ u lone τ. note-more m u lone (p .out) τ) ≡ when (a-class tag) (note-more m d (eqb tag 48) (p .out) (w .state)))
+          × (note-at-parts leadS (p .out) t σ (λ u lone τ. note-more m u lone (p .out) τ) ≡ when (a-class tag) (note-more m d (eqb tag 48) (p .out) (w .state)))
       referred-at {σ} h m c t i =
           let w = answered e (u σ h c t i) in (
             w,
@@ -166,15 +166,15 @@ with-next (rd n r) g f = refl
 with-next stop g f = refl
 
 name-none : name [] ≡ stop
-unfolding name readName cut run past number nameOk if_then_else_
+unfolding name read-name cut run past number name-ok if_then_else_
 name-none = refl
 
 -- the end of a nested name, or more of its parts
 abbrev pub Ends : ℕ → Bool → ℕ → Text → Text → Text → Text → Text → Writer → Told → Type 0
-Ends u lone from = Fueled 0 from 1 (λ m. end-or from (λ t l τ. note-more m t l from τ) u lone)
+Ends u lone from = Fueled 0 from 1 (λ m. note-end-or from (λ t l τ. note-more m t l from τ) u lone)
 
 abbrev ending : ℕ → ℕ → Bool → ℕ → Noter ℕ
-ending m from lone u τ = end-or from (λ v l ρ. note-more m v l from ρ) u lone τ
+ending m from lone u τ = note-end-or from (λ v l ρ. note-more m v l from ρ) u lone τ
 
 module _ (m t : ℕ) (lone : Bool) (from : ℕ) (σ : Notes) where
   part-by : (r : Text) → σ .rest ≡ r → starts r (73 ∷ []) ≡ false → note-more (suc m) t lone from σ ≡ next (at-part t σ) (ending m from false)
@@ -182,7 +182,7 @@ module _ (m t : ℕ) (lone : Bool) (from : ℕ) (σ : Notes) where
   part-by [] e i = rw (e, name-none) refl
   part-by (c ∷ r) e i =
       more-some σ m e t lone from
-      ∙ ap (λ (b : Bool). at-more b t lone from r σ (λ v τ. note-args m v τ) (λ v l τ. note-more m v l from τ)) (sym (starts-byte c 73 r) ∙ i)
+      ∙ ap (λ (b : Bool). note-at-more b t lone from r σ (λ v τ. note-args m v τ) (λ v l τ. note-more m v l from τ)) (sym (starts-byte c 73 r) ∙ i)
       ∙ with-next (name (σ .rest)) _ (ending m from false)
 
 module _ {s o n : Text} {p : Writer} (t : ℕ) (lone : Bool) (from : ℕ) where

@@ -11,8 +11,8 @@ use lib.ListN.{length, drop, length-drop}
 use Rattle.grammar.specs.Text.{Text, if_then_else_, starts}
 use Rattle.grammar.specs.Laws.{starts-nothing}
 use Rattle.store.specs.Table.{Front}
-use Rattle.catalogue.specs.Spelling.{nameBytes}
-use Rattle.catalogue.specs.Recogniser.{Rd, stop, ifNext}
+use Rattle.catalogue.specs.Spelling.{name-bytes}
+use Rattle.catalogue.specs.Recogniser.{Rd, stop, if-next}
 use Rattle.walk.specs.Walk.{name}
 use Rattle.nodes.specs.Nodes.{
   Notes,
@@ -26,12 +26,12 @@ use Rattle.nodes.specs.Nodes.{
   begun,
   a-bare,
   a-lit,
-  add-all,
+  note-add-all,
   tag-of,
-  at-scoped,
+  note-at-scoped,
   at-function,
-  at-end,
-  at-params,
+  note-at-end,
+  note-at-params,
   note-type,
   note-types,
   note-parts,
@@ -63,7 +63,7 @@ use Rattle.writer.specs.declared.symbol.Written.the-variants.{Symbol, Ba
 -- nothing is noted, and w is written
 pub begun-holds : (s w : Text) (at : ℕ) {out ns : Text} {p : Writer} → p ≡ begun-at at (length w) → length s ≤ 4096 → at ≤ length s → length w ≤ 16 * at
     → Front 65536 w out → length ns ≡ 24576 → Holds s out ns p (notes w [] [] 0 (drop at s))
-unfolding nodes-in flat Inside add-all
+unfolding nodes-in flat Inside note-add-all
 begun-holds s w at {out} {ns} {p} e l h k o z = subst (λ (q : Writer). Holds s out ns q (notes w [] [] 0 (drop at s))) (sym e) (record {
   source = l;
   place = h;
@@ -94,11 +94,11 @@ module _ {s out ns : Text} where
 -- ---------------------------------------------------------------- a source name
 
 pub plain-none : (s : Text) {o : Text} → name (drop 2 s) ≡ stop → Plain s o no-name
-plain-none s e n z = heads-by (ap (λ (x : Rd Text). with x (λ w r. got false (begun (nameBytes w) r))) e) nameless
+plain-none s e n z = heads-by (ap (λ (x : Rd Text). with x (λ w r. got false (begun (name-bytes w) r))) e) nameless
 
 module _ {s : Text} {from to : ℕ} (h : NameAt s 2 from to) where
   abbrev word : Text
-  word = nameBytes (part s from to)
+  word = name-bytes (part s from to)
 
   -- it has as many bytes as were read
   pub plain-size : length word + 2 ≡ to
@@ -112,7 +112,7 @@ module _ {s : Text} {from to : ℕ} (h : NameAt s 2 from to) where
       let k = plain-size in
       let b2 : 2 ≤ to = omega (arith, h .behind, h .some) in
       let i = begun-holds s (95 ∷ 90 ∷ []) to e l (h .inside) (omega arith) z y in
-      heads-by (ap (λ (x : Rd Text). with x (λ w r. got false (begun (nameBytes w) r))) (h .is))
+      heads-by (ap (λ (x : Rd Text). with x (λ w r. got false (begun (name-bytes w) r))) (h .is))
       (heads (f .1 s n (notes (95 ∷ 90 ∷ []) [] [] 0 (drop to s)) i (omega arith)) (omega (arith, ap (λ (x : Writer). x .at) (f .0))))
 
 -- ---------------------------------------------------------------- a nested name
@@ -151,7 +151,7 @@ module _ {s w o n : Text} {p : Writer} (b : Begun s w o n p) where
         subst (λ (j : ℕ). Refines s (Spent 1 (p .out) p) o' n' r (note-parts m j (first s w))) end-is (f (first s w) scoped-holds m (omega arith))
 
     pub scoped-none : (c : Bool) → r ≡ Bad → Scoped w c s o' n' no-name
-    scoped-none c g m k = heads-by (ap (at-scoped c) (refused g (by-size m k))) nameless
+    scoped-none c g m k = heads-by (ap (note-at-scoped c) (refused g (by-size m k))) nameless
 
     module _ {q : Writer} {u : ℕ} (g : r ≡ Number q u) where
       pub scoped-told : (m : ℕ) → length s ≤ m + length w → Answered s (Spent 1 (p .out) p) o' n' q u (note-parts m (length w) (first s w))
@@ -165,10 +165,10 @@ module _ {s w o n : Text} {p : Writer} (b : Begun s w o n p) where
 
       module _ (c : Bool) {v : ℕ} {y : Bool} (d : Tag n' q u v) (x : y ≡ a-bare v) where
         by-tag : (m : ℕ) (k : length s ≤ m + length w)
-            → at-scoped c (note-parts m (length w) (first s w)) ≡ when y (got c (closed (scoped-told m k .state)))
+            → note-at-scoped c (note-parts m (length w) (first s w)) ≡ when y (got c (closed (scoped-told m k .state)))
         by-tag m k =
             let t = scoped-told m k in
-            ap (at-scoped c) (t .is) ∙ ap (λ (b : Bool). when b (got c (closed (t .state)))) (sym (x ∙ ap (λ (j : ℕ). a-bare j) (d s o' (t .state) (t .holds))))
+            ap (note-at-scoped c) (t .is) ∙ ap (λ (b : Bool). when b (got c (closed (t .state)))) (sym (x ∙ ap (λ (j : ℕ). a-bare j) (d s o' (t .state) (t .holds))))
 
         pub scoped-full : y ≡ false → Scoped w c s o' n' no-name
         scoped-full h m k = heads-by (by-tag m k ∙ ap (λ (b : Bool). when b (got c (closed (scoped-told m k .state)))) h) nameless
@@ -184,13 +184,13 @@ module _ {s w o n : Text} {p : Writer} (b : Begun s w o n p) where
 
 module _ (m : ℕ) where
   abbrev constant : Text → Got Bool
-  constant t = at-scoped true (note-parts m 4 (notes (95 ∷ 90 ∷ 78 ∷ 75 ∷ []) [] [] 0 t))
+  constant t = note-at-scoped true (note-parts m 4 (notes (95 ∷ 90 ∷ 78 ∷ 75 ∷ []) [] [] 0 t))
 
   abbrev other : Text → Got Bool
-  other t = at-scoped false (note-parts m 3 (notes (95 ∷ 90 ∷ 78 ∷ []) [] [] 0 t))
+  other t = note-at-scoped false (note-parts m 3 (notes (95 ∷ 90 ∷ 78 ∷ []) [] [] 0 t))
 
   abbrev nested : Text → Got Bool
-  nested t = ifNext 75 t constant (other t)
+  nested t = if-next 75 t constant (other t)
 
 module _ (s : Text) {o n : Text} {r : Headed} where
   pub function-plain : starts (drop 2 s) (78 ∷ []) ≡ false → length n ≡ 24576 → Plain s o r → Functions s o n r
@@ -213,11 +213,11 @@ pub record Goes (s out ns : Text) (p : Writer) (g : Got (Unit {0})) : Type 0 whe
   pub fuel : ℕ
   pub holds : Holds s out ns p state
   pub enough : length s + 1 ≤ fuel + p .at
-  pub is : g ≡ at-end state (state .rest) (λ ρ. note-types fuel ρ)
+  pub is : g ≡ note-at-end state (state .rest) (λ ρ. note-types fuel ρ)
 
 pub goes-ended : {s out ns : Text} {p : Writer} {g : Got (Unit {0})} → Goes s out ns p g → length s ≤ p .at → Ended s out ns (Symbol p) g
 goes-ended {s} {out} {ns} {p} {g} a h =
-    let e : g ≡ got tt (a .state) = a .is ∙ ap (λ (t : Text). at-end (a .state) t (λ ρ. note-types (a .fuel) ρ)) (a .holds .rest ∙ rest-none s (p .at) h) in
+    let e : g ≡ got tt (a .state) = a .is ∙ ap (λ (t : Text). note-at-end (a .state) t (λ ρ. note-types (a .fuel) ρ)) (a .holds .rest ∙ rest-none s (p .at) h) in
     subst (λ (x : Got (Unit {0})). Ended s out ns (Symbol p) x) (sym e) (ended (a .holds))
 
 pub ends-broken : {s out ns : Text} {g : Got (Unit {0})} → g ≡ bad → Ended s out ns no-symbol g
@@ -227,11 +227,11 @@ module _ {s o n : Text} {p : Writer} {g : Got (Unit {0})} (a : Goes s o n p g) (
   abbrev less : ℕ
   less = a .fuel - 1
 
-  step : g ≡ next (note-type less (a .state)) (λ t τ. when (not (a-lit (tag-of (τ .nodes) t))) (at-end τ (τ .rest) (λ ρ. note-types less ρ)))
+  step : g ≡ next (note-type less (a .state)) (λ t τ. when (not (a-lit (tag-of (τ .nodes) t))) (note-at-end τ (τ .rest) (λ ρ. note-types less ρ)))
   unfolding note-types
   step =
       a .is
-      ∙ ap (λ (t : Text). at-end (a .state) t (λ ρ. note-types (a .fuel) ρ)) (a .holds .rest ∙ rest-some s (p .at) here)
+      ∙ ap (λ (t : Text). note-at-end (a .state) t (λ ρ. note-types (a .fuel) ρ)) (a .holds .rest ∙ rest-some s (p .at) here)
       ∙ ap (λ (m : ℕ). note-types m (a .state)) {x = a .fuel} {y = suc less} (omega (arith, a .enough))
 
   module _ {o' n' : Text} {r : Told} (f : Fueled 1 (p .out) 0 note-type s o n o' n' p r) where
@@ -239,7 +239,7 @@ module _ {s o n : Text} {p : Writer} {g : Got (Unit {0})} (a : Goes s o n p g) (
     typed = f (a .state) (a .holds) less (omega (arith, a .enough))
 
     pub turn-none : r ≡ Bad → g ≡ bad
-    turn-none e = step ∙ ap (λ (x : Got ℕ). next x (λ t τ. when (not (a-lit (tag-of (τ .nodes) t))) (at-end τ (τ .rest) (λ ρ. note-types less ρ)))) (refused e typed)
+    turn-none e = step ∙ ap (λ (x : Got ℕ). next x (λ t τ. when (not (a-lit (tag-of (τ .nodes) t))) (note-at-end τ (τ .rest) (λ ρ. note-types less ρ)))) (refused e typed)
 
     module _ {q : Writer} {t : ℕ} (e : r ≡ Number q t) where
       pub turn-told : Answered s (Spent 1 (p .out) p) o' n' q t (note-type less (a .state))
@@ -249,11 +249,11 @@ module _ {s o n : Text} {p : Writer} {g : Got (Unit {0})} (a : Goes s o n p g) (
         abbrev after : Notes
         after = turn-told .state
 
-        by-lit : (y : Bool) → a-lit v ≡ y → g ≡ when (not y) (at-end after (after .rest) (λ ρ. note-types less ρ))
+        by-lit : (y : Bool) → a-lit v ≡ y → g ≡ when (not y) (note-at-end after (after .rest) (λ ρ. note-types less ρ))
         by-lit y z =
             step
-            ∙ ap (λ (x : Got ℕ). next x (λ t τ. when (not (a-lit (tag-of (τ .nodes) t))) (at-end τ (τ .rest) (λ ρ. note-types less ρ)))) (turn-told .is)
-            ∙ ap (λ (y : Bool). when (not y) (at-end after (after .rest) (λ ρ. note-types less ρ)))
+            ∙ ap (λ (x : Got ℕ). next x (λ t τ. when (not (a-lit (tag-of (τ .nodes) t))) (note-at-end τ (τ .rest) (λ ρ. note-types less ρ)))) (turn-told .is)
+            ∙ ap (λ (y : Bool). when (not y) (note-at-end after (after .rest) (λ ρ. note-types less ρ)))
             (ap (λ (c : ℕ). a-lit c) (sym (d s o' after (turn-told .holds))) ∙ z)
 
         pub turn-lit : v ≡ 76 → g ≡ bad
@@ -272,14 +272,14 @@ module _ {s o n : Text} {p : Writer} {g : Got (Unit {0})} (a : Goes s o n p g) (
 pub record Turned (s o n o' n' : Text) (p q : Writer) : Type 0 where
   pub out-kept : length o' ≡ length o
   pub notes-kept : length n' ≡ length n
-  pub goes : (σ : Notes) → Holds s o n p σ → (m : ℕ) → length s + 1 ≤ m + p .at → Goes s o' n' q (at-end σ (σ .rest) (λ ρ. note-types m ρ))
+  pub goes : (σ : Notes) → Holds s o n p σ → (m : ℕ) → length s + 1 ≤ m + p .at → Goes s o' n' q (note-at-end σ (σ .rest) (λ ρ. note-types m ρ))
 
 pub turned-none : {s o n : Text} {p : Writer} → Turned s o n o n p p
 turned-none = record { out-kept = refl; notes-kept = refl; goes = λ σ h m l. record { state = σ; fuel = m; holds = h; enough = l; is = refl } }
 
 -- where the first state is ready, so is this one
 pub turned-from : {s o n o' n' : Text} {p q : Writer} → Turned s o n o' n' p q → (y : Ready s o n p)
-    → Goes s o' n' q (at-end (y .0) (y .0 .rest) (λ ρ. note-types (length s + 1) ρ))
+    → Goes s o' n' q (note-at-end (y .0) (y .0 .rest) (λ ρ. note-types (length s + 1) ρ))
 turned-from {s} a y = a .goes (y .0) (y .1) (length s + 1) (omega arith)
 
 -- ---------------------------------------------------------------- whole symbols
@@ -349,7 +349,7 @@ module _ {s out ns : Text} where
 pub outside-by : {s out ns : Text} → note-symbol s ≡ none → Writes s out ns no-symbol (note-symbol s)
 outside-by {s} {out} {ns} e = subst (λ (x : Option Text). Writes s out ns no-symbol x) (sym e) outside
 
-params-some : (k : Bool) (σ : Notes) (t : Text) (f : Notes → Got (Unit {0})) → (k ≡ true → 0 < length t) → at-params k σ t f ≡ at-end σ t f
+params-some : (k : Bool) (σ : Notes) (t : Text) (f : Notes → Got (Unit {0})) → (k ≡ true → 0 < length t) → note-at-params k σ t f ≡ note-at-end σ t f
 params-some false σ [] f h = refl
 params-some true σ [] f h = let z = h refl in absurd (omega arith)
 params-some k σ (d ∷ t) f h = refl
@@ -359,7 +359,7 @@ module _ {s : Text} (y : starts s (95 ∷ 90 ∷ []) ≡ true) {o n : Text} {r :
   size = suc (length (drop 2 s))
 
   abbrev read-types : Bool → Notes → Got (Unit {0})
-  read-types k σ = at-params k σ (σ .rest) (λ τ. note-types size τ)
+  read-types k σ = note-at-params k σ (σ .rest) (λ τ. note-types size τ)
 
   named : Heads s o n r (at-function (drop 2 s) (λ from σ. note-parts size from σ))
   named = f size (omega (arith, long s y, length-drop 2 s))
@@ -389,13 +389,13 @@ module _ {s : Text} (y : starts s (95 ∷ 90 ∷ []) ≡ true) {o n : Text} {r :
     symbol-alone z l =
         by-types
         ∙ ap (λ (c : Bool). symbol-of (read-types c first-types)) z
-        ∙ ap (λ (t : Text). symbol-of (at-params true first-types t (λ τ. note-types size τ))) (rest-is ∙ rest-none s (p .at) l)
+        ∙ ap (λ (t : Text). symbol-of (note-at-params true first-types t (λ τ. note-types size τ))) (rest-is ∙ rest-none s (p .at) l)
 
     module _ (h : k ≡ true → p .at < length s) {o' n' : Text} {w : Written} (t : Types s o n o' n' p w) where
-      typed-symbol : Ended s o' n' w (at-end first-types (first-types .rest) (λ τ. note-types size τ))
+      typed-symbol : Ended s o' n' w (note-at-end first-types (first-types .rest) (λ τ. note-types size τ))
       typed-symbol = t first-types (symbol-headed .holds) size (omega (arith, symbol-headed .far, long s y, length-drop 2 s))
 
-      by-end : (g : Got (Unit {0})) → at-end first-types (first-types .rest) (λ τ. note-types size τ) ≡ g → note-symbol s ≡ symbol-of g
+      by-end : (g : Got (Unit {0})) → note-at-end first-types (first-types .rest) (λ τ. note-types size τ) ≡ g → note-symbol s ≡ symbol-of g
       by-end g z =
           by-types
           ∙ ap symbol-of (params-some k first-types (first-types .rest) (λ τ. note-types size τ)
@@ -403,11 +403,11 @@ module _ {s : Text} (y : starts s (95 ∷ 90 ∷ []) ≡ true) {o n : Text} {r :
           ∙ ap symbol-of z
 
       pub symbol-broken : w ≡ no-symbol → note-symbol s ≡ none
-      symbol-broken z = by-end bad (unended (subst (λ (v : Written). Ended s o' n' v (at-end first-types (first-types .rest) (λ τ. note-types size τ))) z typed-symbol))
+      symbol-broken z = by-end bad (unended (subst (λ (v : Written). Ended s o' n' v (note-at-end first-types (first-types .rest) (λ τ. note-types size τ))) z typed-symbol))
 
       module _ {q : Writer} (z : w ≡ Symbol q) where
-        symbol-ended : Ended-by s o' n' q (at-end first-types (first-types .rest) (λ τ. note-types size τ))
-        symbol-ended = ends (subst (λ (v : Written). Ended s o' n' v (at-end first-types (first-types .rest) (λ τ. note-types size τ))) z typed-symbol)
+        symbol-ended : Ended-by s o' n' q (note-at-end first-types (first-types .rest) (λ τ. note-types size τ))
+        symbol-ended = ends (subst (λ (v : Written). Ended s o' n' v (note-at-end first-types (first-types .rest) (λ τ. note-types size τ))) z typed-symbol)
 
         args-are : q .args ≡ symbol-ended .state .args
         args-are = symbol-ended .holds .args-count

@@ -8,8 +8,8 @@ use lib.Dec.{eqb}
 use lib.ListN.{length, drop, getD}
 use Rattle.grammar.specs.Text.{Text, starts}
 use Rattle.catalogue.specs.Tree.{Letter, Wrap}
-use Rattle.catalogue.specs.Recogniser.{ifNext, Lead, leadLetter, leadWrap, leadL, leadNone, lead}
-use Rattle.nodes.specs.Nodes.{Notes, Noter, Got, got, next, when, put, go-to, entered, at-lead, at-name, at-reference, with-args, note-type, note-args, note-parts}
+use Rattle.catalogue.specs.Recogniser.{if-next, Lead, lead-letter, lead-wrap, leadL, leadNone, lead}
+use Rattle.nodes.specs.Nodes.{Notes, Noter, Got, got, next, when, put, go-to, entered, note-at-lead, note-at-name, at-reference, note-with-args, note-type, note-args, note-parts}
 use Rattle.normal.specs.States.{moved-to}
 use Rattle.normal.specs.Holds.{
   Holds,
@@ -54,7 +54,7 @@ fueled {s} e i u (σ, h) = answered i (u σ h (length s + e) (omega arith))
 
 module _ {s o o₁ o₂ n n₂ : Text} {p p₁ : Writer} {r₁ : Told}
     (k : Copies s o o₁ p p₁) (u : Fueled 1 (p₁ .out) 0 note-type s o₁ n o₂ n₂ p₁ r₁) where
-  pub wrap-refused : (q : Wrap) (c : ℕ) → r₁ ≡ Bad → Leads (leadWrap q) c s o n o₂ n₂ p Bad
+  pub wrap-refused : (q : Wrap) (c : ℕ) → r₁ ≡ Bad → Leads (lead-wrap q) c s o n o₂ n₂ p Bad
   wrap-refused q c e σ h m l t i = by (on-bad _ (refused e (u _ (k .1 n σ h c t i) m (omega (arith, k .0))))) refuses
 
   module _ {p₂ : Writer} {d : ℕ} (e : r₁ ≡ Number p₂ d) where
@@ -65,7 +65,7 @@ module _ {s o o₁ o₂ n n₂ : Text} {p p₁ : Writer} {r₁ : Told}
         (w .small, (omega (arith, w .limits, k .0), (spent-room h (passed-spent (k .0) (omega arith) (w .limits)) (omega arith) (omega arith) (omega arith), (w .state, w .holds))))
 
     pub wrap-answer : {o₃ n₃ : Text} {r : Told} (q : Wrap) (c : ℕ) → Steps 1 1 5 (p .out) (wraps c d (p .out)) s o₂ n₂ o₃ n₃ p₂ r
-        → Leads (leadWrap q) c s o n o₃ n₃ p r
+        → Leads (lead-wrap q) c s o n o₃ n₃ p r
     wrap-answer q c v σ h m l t i =
         let w = answered e (u _ (k .1 n σ h c t i) m (omega (arith, k .0))) in
         by (on-got _ (w .is) ∙ ap (λ (from : ℕ). wraps c d from (w .state)) (sym (h .out-count)))
@@ -75,7 +75,7 @@ module _ {s o o₁ o₂ n n₂ : Text} {p p₁ : Writer} {r₁ : Told}
 
 -- a first part: what its reading is, from the place where it is written, behind a first byte
 abbrev pub by-name : ℕ → Text → Noter ℕ
-by-name from t σ = at-name from σ
+by-name from t σ = note-at-name from σ
 
 abbrev pub by-reference : ℕ → Text → Noter ℕ
 by-reference from t σ = at-reference from (go-to t σ)
@@ -92,10 +92,10 @@ FirstPart f s o n o' n' p r =
 abbrev pub Classed : (ℕ → Text → Noter ℕ) → Text → Text → Text → Text → Text → Writer → Told → Type 0
 Classed f s o n o' n' p r =
     (c : ℕ) (σ : Notes) → Holds s o n p σ → (m : ℕ) → length s ≤ suc m + p .at → (t : Text) → σ .rest ≡ c ∷ t
-    → Refines s (Spent 1 (p .out) p) o' n' r (next (f (length (σ .out)) t σ) (λ d τ. with-args d (length (σ .out)) (λ v ρ. note-args m v ρ) τ))
+    → Refines s (Spent 1 (p .out) p) o' n' r (next (f (length (σ .out)) t σ) (λ d τ. note-with-args d (length (σ .out)) (λ v ρ. note-args m v ρ) τ))
 
 module _ {s o n o₁ n₁ : Text} {p : Writer} {r₁ : Told} where
-  pub first-named : Reads 2 (p .out) (at-name (p .out)) s o n o₁ n₁ p r₁ → FirstPart by-name s o n o₁ n₁ p r₁
+  pub first-named : Reads 2 (p .out) (note-at-name (p .out)) s o n o₁ n₁ p r₁ → FirstPart by-name s o n o₁ n₁ p r₁
   first-named u σ h c t e = u σ h
 
   pub first-referred : {q : Writer} → q ≡ moved-to p (p .at + 1) → Reads 1 (q .out) (at-reference (q .out)) s o n o₁ n₁ q r₁
@@ -108,9 +108,9 @@ module _ {s o n o₁ n₁ : Text} {p : Writer} {r₁ : Told} where
 
   module _ (f : ℕ → Text → Noter ℕ) (u : FirstPart f s o n o₁ n₁ p r₁) where
     class-at : (m : ℕ) (σ : Notes) (t : Text) → Holds s o n p σ
-        → next (f (length (σ .out)) t σ) (λ d τ. with-args d (length (σ .out)) (λ v ρ. note-args m v ρ) τ)
-        ≡ next (f (p .out) t σ) (λ d τ. with-args d (p .out) (λ v ρ. note-args m v ρ) τ)
-    class-at m σ t h = ap (λ (from : ℕ). next (f from t σ) (λ d τ. with-args d from (λ v ρ. note-args m v ρ) τ)) (sym (h .out-count))
+        → next (f (length (σ .out)) t σ) (λ d τ. note-with-args d (length (σ .out)) (λ v ρ. note-args m v ρ) τ)
+        ≡ next (f (p .out) t σ) (λ d τ. note-with-args d (p .out) (λ v ρ. note-args m v ρ) τ)
+    class-at m σ t h = ap (λ (from : ℕ). next (f from t σ) (λ d τ. note-with-args d from (λ v ρ. note-args m v ρ) τ)) (sym (h .out-count))
 
     pub class-refused : r₁ ≡ Bad → Classed f s o n o₁ n₁ p Bad
     class-refused e c σ h m l t i = by (class-at m σ t h ∙ on-bad _ (refused e (u σ h c t i))) refuses
@@ -122,7 +122,7 @@ module _ {s o n o₁ n₁ : Text} {p : Writer} {r₁ : Told} where
       pub class-answer : {o₂ n₂ : Text} {r : Told} → WithArgs d (p .out) s o₁ n₁ o₂ n₂ q r → Classed f s o n o₂ n₂ p r
       class-answer v c σ h m l t i =
           let w = answered e (u σ h c t i) in
-          by (class-at m σ t h ∙ on-got (λ d τ. with-args d (p .out) (λ v ρ. note-args m v ρ) τ) (w .is))
+          by (class-at m σ t h ∙ on-got (λ d τ. note-with-args d (p .out) (λ v ρ. note-args m v ρ) τ) (w .is))
           (within (λ x y. spent-spent (w .limits .1) y) (v (w .state) (w .holds) m (omega (arith, w .limits .0))))
 
 -- ---------------------------------------------------------------- I <template-args> E
@@ -182,7 +182,7 @@ module _ {s o n : Text} {p : Writer} (t from : ℕ) where
   without-args e l b σ h m f = by (byte-not h 73 _ _ e) (tells h (spent-nothing b) l)
 
   module _ (i : starts (drop (p .at) s) (73 ∷ []) ≡ true) {tag : ℕ} (g : Tag n p t tag) where
-    with-args-at : {σ : Notes} (m : ℕ) → Holds s o n p σ → {b : Bool} → eqb tag 48 ≡ b → with-args t from (λ v ρ. note-args m v ρ) σ ≡ when b (enclosed m t from (drop (p .at + 1) s) σ)
+    with-args-at : {σ : Notes} (m : ℕ) → Holds s o n p σ → {b : Bool} → eqb tag 48 ≡ b → note-with-args t from (λ v ρ. note-args m v ρ) σ ≡ when b (enclosed m t from (drop (p .at + 1) s) σ)
     with-args-at {σ} m h {b} e =
         byte-next _ _ (byte-is h 73 i) ∙ ap (λ (x : ℕ). when (eqb x 48) (enclosed m t from (drop (p .at + 1) s) σ)) (sym (g s o σ h)) ∙ ap (λ (b : Bool). when b (enclosed m t from (drop (p .at + 1) s) σ)) e
 
@@ -206,7 +206,7 @@ module _ {s o n : Text} {p : Writer} (t from : ℕ) where
 -- ---------------------------------------------------------------- args
 
 abbrev behind-arg : ℕ → ℕ → Noter ℕ
-behind-arg m d ρ = ifNext 69 (ρ .rest) (λ r. got d (go-to r ρ)) (note-args m d ρ)
+behind-arg m d ρ = if-next 69 (ρ .rest) (λ r. got d (go-to r ρ)) (note-args m d ρ)
 
 abbrev pub ArgsFrom : ℕ → Text → Text → Text → Writer → Text → Text → Told → Type 0
 ArgsFrom t s o n p o' n' r = Fueled 0 (p .out) 1 (λ m. note-args m t) s o n o' n' p r
@@ -281,10 +281,10 @@ module _ {s o n : Text} {p : Writer} where
       → Fueled 1 (p .out) 0 note-type s o n o' n' p r
   type-by i e u σ h zero f = absurd (omega arith)
   type-by {l = l} i e u σ h (suc m) f =
-      by (type-some σ m (first-byte h i) ∙ ap (λ (x : Lead). at-lead x (getD s (p .at) 0) (length (σ .out)) (drop (p .at + 1) s) σ (λ τ. note-type m τ) (λ v τ. note-args m v τ) (λ from τ. note-parts m from τ)) e)
+      by (type-some σ m (first-byte h i) ∙ ap (λ (x : Lead). note-at-lead x (getD s (p .at) 0) (length (σ .out)) (drop (p .at + 1) s) σ (λ τ. note-type m τ) (λ v τ. note-args m v τ) (λ from τ. note-parts m from τ)) e)
       (u σ h m (omega arith) (drop (p .at + 1) s) (first-byte h i))
 
-  pub letter-answer : {o' : Text} {q : Writer} (l : Letter) (c : ℕ) → c < most-number → Copies s o o' p q → Leads (leadLetter l) c s o n o' n p (Number q c)
+  pub letter-answer : {o' : Text} {q : Writer} (l : Letter) (c : ℕ) → c < most-number → Copies s o o' p q → Leads (lead-letter l) c s o n o' n p (Number q c)
   letter-answer l c y k σ h m f t e =
       tells (k .1 n σ h c t e) (let v = k .0 in record { at = omega arith; nodes = omega arith; table = omega arith; out = omega arith; args = omega arith; stands = omega arith }) y
 

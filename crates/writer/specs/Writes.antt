@@ -6,7 +6,7 @@ use mathlib.Core.Path.{_≡_}
 use Prim.Native.Nat.{ℕ, _+_, _≤_}
 use lib.ListN.{length, drop}
 use Rattle.grammar.specs.Text.{Text}
-use Rattle.catalogue.specs.Spelling.{nameBytes}
+use Rattle.catalogue.specs.Spelling.{name-bytes}
 use Rattle.walk.specs.Walk.{name}
 use Rattle.nodes.specs.Nodes.{
   Notes,
@@ -16,9 +16,9 @@ use Rattle.nodes.specs.Nodes.{
   bad,
   with,
   begun,
-  at-scoped,
+  note-at-scoped,
   at-function,
-  at-end,
+  note-at-end,
   note-parts,
   note-types,
 }
@@ -43,7 +43,7 @@ pub data Heads (s out notes : Text) : Headed → Got Bool → Type 0 where
 
 -- a source name behind _Z
 abbrev pub at-plain : Text → Got Bool
-at-plain t = with (name t) (λ n r. got false (begun (nameBytes n) r))
+at-plain t = with (name t) (λ n r. got false (begun (name-bytes n) r))
 
 abbrev pub Plain : Text → Text → Headed → Type 0
 Plain s o' r = (n : Text) → length n ≡ 24576 → Heads s o' n r (at-plain (drop 2 s))
@@ -52,7 +52,7 @@ Plain s o' r = (n : Text) → length n ≡ 24576 → Heads s o' n r (at-plain (d
 abbrev pub Scoped : Text → Bool → Text → Text → Text → Headed → Type 0
 Scoped w k s o' n' r =
     (m : ℕ) → length s ≤ m + length w
-    → Heads s o' n' r (at-scoped k (note-parts m (length w) (notes w [] [] 0 (drop (length w) s))))
+    → Heads s o' n' r (note-at-scoped k (note-parts m (length w) (notes w [] [] 0 (drop (length w) s))))
 
 abbrev pub Functions : Text → Text → Text → Headed → Type 0
 Functions s o' n' r = (m : ℕ) → length s ≤ m + 3 → Heads s o' n' r (at-function (drop 2 s) (λ from σ. note-parts m from σ))
@@ -67,4 +67,4 @@ pub data Ended (s out notes : Text) : Written → Got (Unit {0}) → Type 0 wher
 -- none, where nothing is left
 abbrev pub Types : Text → Text → Text → Text → Text → Writer → Written → Type 0
 Types s o n o' n' p r =
-    (σ : Notes) → Holds s o n p σ → (m : ℕ) → length s + 1 ≤ m + p .at → Ended s o' n' r (at-end σ (σ .rest) (λ ρ. note-types m ρ))
+    (σ : Notes) → Holds s o n p σ → (m : ℕ) → length s + 1 ≤ m + p .at → Ended s o' n' r (note-at-end σ (σ .rest) (λ ρ. note-types m ρ))

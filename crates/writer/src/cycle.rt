@@ -10,7 +10,7 @@ use normal::steps;
 ghost use Prim.Native.Nat.{ℕ, _≤_, _<_};
 ghost use lib.ListN.{length};
 ghost use Rattle.catalogue.specs.Tree.{Wrap};
-ghost use Rattle.catalogue.specs.Recogniser.{leadWrap, leadDigit, leadS, leadN};
+ghost use Rattle.catalogue.specs.Recogniser.{lead-wrap, lead-digit, leadS, leadN};
 ghost use Rattle.nodes.specs.Nodes.{note-type, note-args, note-parts, note-more};
 ghost use Rattle.normal.specs.Holds.{Ready, Fueled, most-number};
 ghost use Rattle.writer.specs.Cycle.{Leads, WithArgs};
@@ -39,7 +39,7 @@ pub fn ty(s: &[u8], out: &mut [u8], notes: &mut [u16], p: Writer) -> Told
 // P R O K V <type>
 fn wrap(s: &[u8], out: &mut [u8], notes: &mut [u16], p: Writer, c: u8) -> Told
     requires { ⌜ (p .at < length (now s)) × Ready (now s) (now out) (now notes) p ⌝ }
-    ensures { λ r. ⌜ ((q : Wrap) → Leads (leadWrap q) c (now (s .entry)) (now (out .entry)) (now (notes .entry)) (now (out .exit)) (now (notes .exit)) p r) ⌝ }
+    ensures { λ r. ⌜ ((q : Wrap) → Leads (lead-wrap q) c (now (s .entry)) (now (out .entry)) (now (notes .entry)) (now (out .exit)) (now (notes .exit)) p r) ⌝ }
 {
     let from = p.out;
     let behind = steps::copy_byte(s, out, p);
@@ -52,7 +52,7 @@ fn wrap(s: &[u8], out: &mut [u8], notes: &mut [u16], p: Writer, c: u8) -> Told
 // <source-name> [I <template-args> E]
 fn named(s: &[u8], out: &mut [u8], notes: &mut [u16], p: Writer) -> Told
     requires { ⌜ (p .at < length (now s)) × Ready (now s) (now out) (now notes) p ⌝ }
-    ensures { λ r. ⌜ ((c : ℕ) → Leads leadDigit c (now (s .entry)) (now (out .entry)) (now (notes .entry)) (now (out .exit)) (now (notes .exit)) p r) ⌝ }
+    ensures { λ r. ⌜ ((c : ℕ) → Leads lead-digit c (now (s .entry)) (now (out .entry)) (now (notes .entry)) (now (out .exit)) (now (notes .exit)) p r) ⌝ }
 {
     let from = p.out;
     let Told::Number(next, t) = steps::first_name(s, out, notes, p) else {

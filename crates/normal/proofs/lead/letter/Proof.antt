@@ -1,14 +1,14 @@
 -- `normal::lead::letter` tells the bytes of the letters. Assumes nothing.
 use mathlib.Core.Path.{refl, sym, ap}
 use Rattle.grammar.specs.Text.{if_then_else_}
-use Rattle.catalogue.specs.Tree.{letterCode}
-use Rattle.catalogue.specs.Recogniser.{withCode, allLetters}
+use Rattle.catalogue.specs.Tree.{letter-code}
+use Rattle.catalogue.specs.Recogniser.{with-code, all-letters}
 use Rattle.normal.specs.Leads.{there, uncoded}
 use Rattle.normal.proofs.lead.letter.Statement.{statement}
 use Rattle.normal.proofs.lead.letter.Tie as tie
 
 pub letter-spec : {M : Type 1} → statement M
-unfolding withCode if_then_else_
+unfolding with-code if_then_else_
 letter-spec =
     tie.close
     (tie.spec
@@ -33,4 +33,4 @@ letter-spec =
     (λ c. rw (c .match .keys19) refl)
     (λ c. rw (c .match .keys20) refl)
     (λ c. rw (c .match .keys21) refl)
-    (λ c. sym (ap there (uncoded letterCode _ allLetters (c .match .rest)))))
+    (λ c. sym (ap there (uncoded letter-code _ all-letters (c .match .rest)))))

@@ -1,14 +1,14 @@
 -- `normal::lead::wrapper` tells the bytes of the wrappers. Assumes nothing.
 use mathlib.Core.Path.{refl, sym, ap}
 use Rattle.grammar.specs.Text.{if_then_else_}
-use Rattle.catalogue.specs.Tree.{wrapCode}
-use Rattle.catalogue.specs.Recogniser.{withCode, allWraps}
+use Rattle.catalogue.specs.Tree.{wrap-code}
+use Rattle.catalogue.specs.Recogniser.{with-code, all-wraps}
 use Rattle.normal.specs.Leads.{there, uncoded}
 use Rattle.normal.proofs.lead.wrapper.Statement.{statement}
 use Rattle.normal.proofs.lead.wrapper.Tie as tie
 
 pub wrapper-spec : {M : Type 1} → statement M
-unfolding withCode if_then_else_
+unfolding with-code if_then_else_
 wrapper-spec =
     tie.close
     (tie.spec
@@ -17,4 +17,4 @@ wrapper-spec =
     (λ c. rw (c .match .keys3) refl)
     (λ c. rw (c .match .keys4) refl)
     (λ c. rw (c .match .keys5) refl)
-    (λ c. sym (ap there (uncoded wrapCode _ allWraps (c .match .rest)))))
+    (λ c. sym (ap there (uncoded wrap-code _ all-wraps (c .match .rest)))))

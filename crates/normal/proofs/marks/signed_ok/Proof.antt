@@ -3,21 +3,21 @@ use mathlib.Core.Path.{refl, sym, ap, _∙_}
 use mathlib.Core.Bool.{not}
 use borrow.Author.Tests.{not-true, not-false}
 use Rattle.grammar.specs.Text.{b}
-use Rattle.catalogue.specs.Class.{litOk}
+use Rattle.catalogue.specs.Class.{lit-ok}
 use borrow.Author.Needs.{needs}
 use Rattle.normal.proofs.marks.signed_ok.Statement.{statement}
 use Rattle.normal.proofs.marks.signed_ok.Tie as tie
 
 returns : tie.Need-returns
-unfolding litOk
+unfolding lit-ok
 returns c = rw (sym (c .before .numeral .ensures) ∙ not-true _ (c .if1 .taken)) refl
 
 returns-2 : tie.Need-returns-2
-unfolding litOk
+unfolding lit-ok
 returns-2 c = rw (sym (c .before .before .numeral .ensures) ∙ not-false _ (c .before .if1 .left), not-true (c .before .before .before .before .args .minus) (c .if2 .taken)) refl
 
 returns-3 : tie.Need-returns-3
-unfolding litOk b
+unfolding lit-ok b
 returns-3 c =
     rw (
       sym (c .before .before .before .before .numeral .ensures) ∙ not-false _ (c .before .before .before .if1 .left),

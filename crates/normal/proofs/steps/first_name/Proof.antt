@@ -1,7 +1,7 @@
 -- `normal::steps::first_name` reads a source name, writes it, notes it as a first part, and enters it. Assumes nothing.
 use mathlib.Core.Path.{refl, ap, _∙_}
 use lib.ListN.{drop}
-use Rattle.catalogue.specs.Spelling.{nameBytes}
+use Rattle.catalogue.specs.Spelling.{name-bytes}
 use Rattle.normal.specs.Holds.{tells, refuses}
 use Rattle.normal.specs.Parts.{part}
 use native.Mathlib.Omega.{arith}
@@ -69,7 +69,7 @@ returns-3 c σ h =
     let v = c .before .before .before .before .enter .ensures _ _ (t .0) in
     let l = took-more (a .p .out) (t .1 .0) (v .limits) (omega arith) in
     let n = part (a .s .now) (c .before .before .before .before .before .before .before .before .before .before .before .before .before .before .before .before .before .before .before .before .from .given .0 .0) (c .before .before .before .before .before .before .before .before .before .before .before .before .before .before .before .before .before .before .before .before .from .given .0 .1 .0) in
-    by (with-some _ (ap name (h .rest) ∙ x .is) ∙ entered-is (root-node n) (a .p .out) (put (nameBytes n) (go-to (drop (c .before .before .before .before .before .before .before .before .before .before .before .before .before .before .before .before .before .before .before .before .from .given .0 .1 .0) (a .s .now)) σ)) (t .1 .1 .0))
+    by (with-some _ (ap name (h .rest) ∙ x .is) ∙ entered-is (root-node n) (a .p .out) (put (name-bytes n) (go-to (drop (c .before .before .before .before .before .before .before .before .before .before .before .before .before .before .before .before .before .before .before .before .from .given .0 .1 .0) (a .s .now)) σ)) (t .1 .1 .0))
     (tells (v .holds) (omega arith, spent w l (omega arith) (omega arith) (omega arith) (omega arith)) (t .1 .1 .1))
 
 pub first-name-spec : {M : Type 1} → statement M

@@ -3,7 +3,7 @@ use mathlib.Core.Path.{_≡_, refl, sym, ap, _∙_}
 use Prim.Native.Nat.{_-_}
 use borrow.Author.Tests.{not-true, not-false}
 use Rattle.catalogue.specs.Bytes.{all}
-use Rattle.catalogue.specs.Class.{wordByte}
+use Rattle.catalogue.specs.Class.{word-byte}
 use Rattle.normal.specs.Parts.{part, part-none, all-more, all-stop}
 use borrow.Author.Needs.{needs}
 use native.Mathlib.Omega.{arith}
@@ -11,7 +11,7 @@ use Rattle.normal.proofs.words.word_bytes.Statement.{statement}
 use Rattle.normal.proofs.words.word_bytes.Tie as tie
 
 abbrev Inv-loop : tie.InvT-loop
-Inv-loop s from to i₀ i = all wordByte (part s from to) ≡ all wordByte (part s i to)
+Inv-loop s from to i₀ i = all word-byte (part s from to) ≡ all word-byte (part s i to)
 
 abbrev μ-loop : tie.MeasureT-loop
 μ-loop s from to i₀ i = to - i
@@ -26,7 +26,7 @@ returns : tie.Need-returns Inv-loop μ-loop
 returns c =
     let l = c .before .before .before .before .loop in
     let a = c .before .before .before .before .before .before .args in
-    sym (l .inv ∙ all-stop wordByte (a .s .now) (l .i) (a .to) (omega arith) (omega arith) (sym (c .before .word-byte .ensures) ∙ not-true _ (c .if1 .taken)))
+    sym (l .inv ∙ all-stop word-byte (a .s .now) (l .i) (a .to) (omega arith) (omega arith) (sym (c .before .word-byte .ensures) ∙ not-true _ (c .if1 .taken)))
 
 add-i : tie.Need-add-i Inv-loop μ-loop
 add-i c = omega arith
@@ -38,13 +38,13 @@ loop-again : tie.Need-loop-again Inv-loop μ-loop
 loop-again c =
     let l = c .before .before .before .before .loop in
     let a = c .before .before .before .before .before .before .args in
-    l .inv ∙ all-more wordByte (a .s .now) (l .i) (a .to) (omega arith) (omega arith) (sym (c .before .word-byte .ensures) ∙ not-false _ (c .if1 .left))
+    l .inv ∙ all-more word-byte (a .s .now) (l .i) (a .to) (omega arith) (omega arith) (sym (c .before .word-byte .ensures) ∙ not-false _ (c .if1 .left))
 
 returns-2 : tie.Need-returns-2 Inv-loop μ-loop
 returns-2 c =
     let l = c .before .loop in
     let a = c .before .before .before .args in
-    sym (l .inv ∙ ap (all wordByte) (part-none (a .s .now) (l .i) (a .to) (omega arith)))
+    sym (l .inv ∙ ap (all word-byte) (part-none (a .s .now) (l .i) (a .to) (omega arith)))
 
 pub word-bytes-spec : {M : Type 1} → statement M
 word-bytes-spec =

@@ -4,7 +4,7 @@ use mathlib.Core.Bool.{not}
 use lib.ListN.{getD}
 use borrow.Author.Tests.{lt-ltb, le-ltb, not-true, not-false}
 use Rattle.grammar.specs.Text.{digit, digit-value}
-use Rattle.catalogue.specs.Class.{nameOk}
+use Rattle.catalogue.specs.Class.{name-ok}
 use Rattle.normal.specs.Parts.{part-none}
 use Rattle.normal.specs.Leaves.{name-rules}
 use borrow.Author.Needs.{needs}
@@ -13,7 +13,7 @@ use Rattle.normal.proofs.words.word_ok.Statement.{statement}
 use Rattle.normal.proofs.words.word_ok.Tie as tie
 
 returns : tie.Need-returns
-unfolding nameOk
+unfolding name-ok
 returns c = let a = c .before .before .args in rw (part-none (a .s .now) (a .from) (a .to) (omega arith)) refl
 
 returns-2 : tie.Need-returns-2

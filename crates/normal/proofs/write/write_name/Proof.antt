@@ -4,7 +4,7 @@ use mathlib.Core.List.{_++_}
 use Prim.Native.Nat.{ℕ, suc, _-_}
 use lib.ListN.{length, length-append}
 use Rattle.grammar.specs.Text.{Text, decimal}
-use Rattle.catalogue.specs.Spelling.{lengthDigits}
+use Rattle.catalogue.specs.Spelling.{length-digits}
 use Rattle.normal.specs.Parts.{part, part-length}
 use Rattle.normal.specs.Written.{wrote-as, wrote-both}
 use borrow.Author.Needs.{needs}
@@ -17,8 +17,8 @@ write-decimal-requires c κs =
     let a = c .before .before .before .args in
     let p = part (a .s .now) (a .from) (a .to) in
     let l = part-length (a .s .now) (a .from) (a .to) (omega arith) in
-    let d : lengthDigits p ≡ decimal (suc (a .to - a .from)) (a .to - a .from) = ap (λ (k : ℕ). decimal (suc k) k) l in
-    let n = length-append (lengthDigits p) p in
+    let d : length-digits p ≡ decimal (suc (a .to - a .from)) (a .to - a .from) = ap (λ (k : ℕ). decimal (suc k) k) l in
+    let n = length-append (length-digits p) p in
     (omega arith, omega (arith, ap length d))
 
 copy-requires : tie.Need-copy-requires
@@ -26,8 +26,8 @@ copy-requires c κs =
     let a = c .before .before .before .before .before .before .before .before .args in
     let p = part (a .s .now) (a .from) (a .to) in
     let l = part-length (a .s .now) (a .from) (a .to) (omega arith) in
-    let d : lengthDigits p ≡ decimal (suc (a .to - a .from)) (a .to - a .from) = ap (λ (k : ℕ). decimal (suc k) k) l in
-    let n = length-append (lengthDigits p) p in
+    let d : length-digits p ≡ decimal (suc (a .to - a .from)) (a .to - a .from) = ap (λ (k : ℕ). decimal (suc k) k) l in
+    let n = length-append (length-digits p) p in
     omega (arith, ap length d, c .before .before .before .before .write-decimal .ensures .end)
 
 add-result : tie.Need-add-result
@@ -35,8 +35,8 @@ add-result c =
     let a = c .before .before .before .before .before .before .before .before .before .before .before .args in
     let p = part (a .s .now) (a .from) (a .to) in
     let l = part-length (a .s .now) (a .from) (a .to) (omega arith) in
-    let d : lengthDigits p ≡ decimal (suc (a .to - a .from)) (a .to - a .from) = ap (λ (k : ℕ). decimal (suc k) k) l in
-    let n = length-append (lengthDigits p) p in
+    let d : length-digits p ≡ decimal (suc (a .to - a .from)) (a .to - a .from) = ap (λ (k : ℕ). decimal (suc k) k) l in
+    let n = length-append (length-digits p) p in
     omega (arith, ap length d, c .before .before .before .before .before .before .before .write-decimal .ensures .end)
 
 returns : tie.Need-returns
@@ -44,8 +44,8 @@ returns c =
     let a = c .before .before .before .before .before .before .before .before .before .before .before .args in
     let p = part (a .s .now) (a .from) (a .to) in
     let l = part-length (a .s .now) (a .from) (a .to) (omega arith) in
-    let d : lengthDigits p ≡ decimal (suc (a .to - a .from)) (a .to - a .from) = ap (λ (k : ℕ). decimal (suc k) k) l in
-    let n = length-append (lengthDigits p) p in
+    let d : length-digits p ≡ decimal (suc (a .to - a .from)) (a .to - a .from) = ap (λ (k : ℕ). decimal (suc k) k) l in
+    let n = length-append (length-digits p) p in
     wrote-as (ap (λ (t : Text). t ++ p) (sym d)) (wrote-both (omega (arith, ap length d)) (c .before .before .before .before .before .before .before .write-decimal .ensures) (record { is = c .before .before .copy .ensures; end = omega arith }))
 
 pub write-name-spec : {M : Type 1} → statement M
