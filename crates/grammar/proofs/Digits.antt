@@ -10,7 +10,7 @@ use borrow.Author.Tests.{lt-ltb, le-ltb, le-leb, lt-leb}
 use lib.ListN.{length, drop, getD}
 use Rattle.grammar.specs.Text.{Text, if_then_else_, between, run, digit, digit-value, number}
 use Rattle.grammar.specs.Numbers.{most}
-use Rattle.grammar.specs.Places.{rest-some, rest-none}
+use Rattle.grammar.specs.laws.Places.{rest-some, rest-none}
 
 -- a byte within a range, under it and over it
 module _ (lo hi c : ℕ) where

@@ -8,7 +8,7 @@ use borrow.Author.Tests.{eq-eqb, ne-eqb}
 use lib.ListN.{length, take, drop, getD, length-append, length-drop, drop-of-length-le, take-append-drop}
 use lib.Seq.{length-take-le, take-at, take-take, take-add, drop-drop, take-append-add, take-append-le, drop-append-le}
 use Rattle.grammar.specs.Text.{Text, starts}
-use Rattle.grammar.specs.Places.{rest-some, rest-none}
+use Rattle.grammar.specs.laws.Places.{rest-some, rest-none}
 
 module _ (s word : Text) (n i : ℕ) (h : i < length word) where
   pub starts-short : length s ≤ n → starts (drop n s) (drop i word) ≡ false

@@ -3,14 +3,7 @@ pub mod Tables
 pub mod Reader
 pub mod Grammar
 pub mod Names
-pub mod Laws
-pub mod Places
-pub mod Agree
-pub mod Fuel
 pub mod Loops
 pub mod Numbers
 pub mod Words
-pub mod Finds
-pub mod Steps
-pub mod NameSteps
-pub mod Examples
+pub mod laws

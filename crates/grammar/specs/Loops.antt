@@ -26,8 +26,8 @@ use Rattle.grammar.specs.Reader.{
   one-more,
 }
 use Rattle.grammar.specs.Grammar.{Production, ⟨template-arg⟩, Parts, prefix, reading}
-use Rattle.grammar.specs.Agree.{unread, moved, Agree, reads, refuses, bind, push-arg-keeps, while-is}
-use Rattle.grammar.specs.Fuel.{reading-ends, prefix-shrinks}
+use Rattle.grammar.specs.laws.Agree.{unread, moved, Agree, reads, refuses, bind, push-arg-keeps, while-is}
+use Rattle.grammar.specs.laws.Fuel.{reading-ends, prefix-shrinks}
 
 -- a step of a loop, and the loop from there
 abbrev pub Stepped : {A : Type 0} → (Text → Bool) → (A → Reader A) → A → State → Result A

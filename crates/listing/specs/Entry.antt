@@ -9,7 +9,7 @@ use lib.ListN.{length}
 use Rattle.grammar.specs.Text.{Text, if_then_else_}
 use Rattle.store.specs.Stack.{zeros}
 use Rattle.names.specs.Outcome.{Slices}
-use Rattle.names.specs.Fronts.{both-true}
+use Rattle.names.specs.laws.Fronts.{both-true}
 use Rattle.listing.specs.Listing.{lines, fitting, bytes-taken, listing, least-ends-of, sized, work-sized, lists, listed, Lists}
 use Rattle.listing.specs.Kinds.{Sized}
 use Rattle.listing.specs.Lines.{Goes}

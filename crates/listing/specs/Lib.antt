@@ -1,9 +1,7 @@
-pub mod Answers
 pub mod Cut
 pub mod Entry
-pub mod Examples
-pub mod Inside
 pub mod Kinds
 pub mod Lines
 pub mod Listing
 pub mod Printed
+pub mod laws

@@ -1,8 +1,4 @@
 pub mod Outcome
 pub mod Symbols
-pub mod Fronts
-pub mod Slotless
 pub mod Printed
-pub mod Tells
-pub mod Told
-pub mod Lengths
+pub mod laws

@@ -1,7 +1,2 @@
 pub mod Nodes
-pub mod Examples
-pub mod Laws
-pub mod Numbers
-pub mod Related
-pub mod Productions
-pub mod Equal
+pub mod laws

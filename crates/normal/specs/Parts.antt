@@ -7,9 +7,9 @@ use native.Mathlib.Omega.{arith}
 use lib.ListN.{length, take, drop, getD, length-take, length-drop}
 use lib.Seq.{drop-drop, take-at}
 use Rattle.grammar.specs.Text.{Text, run, past}
-use Rattle.grammar.specs.Places.{rest-some, past-run}
+use Rattle.grammar.specs.laws.Places.{rest-some, past-run}
 use Rattle.catalogue.specs.Bytes.{all}
-use Rattle.walk.specs.Digits.{run-past}
+use Rattle.walk.specs.laws.Digits.{run-past}
 
 -- the bytes from a place up to another
 abbrev pub part : Text → ℕ → ℕ → Text

@@ -18,7 +18,7 @@ use lib.Seq.{
   drop-set-add,
 }
 use Rattle.store.specs.Table.{Front}
-use Rattle.store.specs.Fronts.{front-none, front-as, front-most, front-at, front-paste, front-set}
+use Rattle.store.specs.laws.Fronts.{front-none, front-as, front-most, front-at, front-paste, front-set}
 use Rattle.normal.specs.Written.{Wrote}
 
 -- a text is written behind what is used

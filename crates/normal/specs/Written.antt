@@ -7,9 +7,9 @@ use borrow.Author.Tests.{le-ltb}
 use lib.ListN.{length, take, drop, set, length-append}
 use lib.Seq.{sets-eq, take-at, drop-at, drop-drop, length-take-le}
 use Rattle.grammar.specs.Text.{Text, if_then_else_, decimal}
-use Rattle.grammar.specs.Laws.{decimal-last, decimal-more}
+use Rattle.grammar.specs.laws.Laws.{decimal-last, decimal-more}
 use Rattle.catalogue.specs.Spelling.{digit-of, base36, ref-digits, ref-bytes}
-use Rattle.walk.specs.Digits.{base36-one}
+use Rattle.walk.specs.laws.Digits.{base36-one}
 
 pub record Wrote (out out' : Text) (at r : ℕ) (w : Text) : Type 0 where
   pub is : out' ≡ take at out ++ w ++ drop (at + length w) out

@@ -6,14 +6,14 @@ use native.Mathlib.Omega.{arith}
 use lib.ListN.{length, take, drop}
 use Rattle.grammar.specs.Text.{Text}
 use Rattle.grammar.specs.Reader.{State, Reader}
-use Rattle.grammar.specs.Agree.{moved}
+use Rattle.grammar.specs.laws.Agree.{moved}
 use Rattle.store.specs.Stack.{Stack, Tail}
-use Rattle.store.specs.Tails.{put-tail, chain, whole, weaken}
+use Rattle.store.specs.laws.Tails.{put-tail, chain, whole, weaken}
 use Rattle.parser.specs.declared.state.Parser.{Parser}
 use Rattle.parser.specs.declared.state.Read.{Read}
 use Rattle.parser.specs.States.{raised-to, moved-to}
 use Rattle.parser.specs.Holds.{Memory, mem, window, Holds, Ready, Reads, Refines, Stands, Puts}
-use Rattle.parser.specs.Laws.{by-state, holds-text, holds-moved, sooner}
+use Rattle.parser.specs.laws.Laws.{by-state, holds-text, holds-moved, sooner}
 
 -- the text t was put on the stack in parts, and the state has the new top; the newest 34,816 bytes, at least, are there
 pub record Adds (text text' : Text) (p p' : Parser) (t : Text) : Type 0 where

@@ -13,15 +13,15 @@ use Rattle.grammar.specs.Text.{Text, if_then_else_, choose, same}
 use Rattle.grammar.specs.Reader.{State, Result, ok, refused, Reader, onto, refuse, set-subs, set-args, bytes-of, fits, push-sub, push-arg, give, recorded}
 use Rattle.grammar.specs.Grammar.{last}
 use Rattle.store.specs.Table.{Entries}
-use Rattle.store.specs.Lists.{drop-take, part-of, first-back, first-other, second-lent, second-back, second-other}
-use Rattle.store.specs.Tails.{newest-is, top-size, put-tail, whole}
-use Rattle.store.specs.Entries.{entries-as, entries-sized, no-entries, entry-in, entry-within, next-start, some-entry, no-entry, bytes-append, bytes-one}
+use Rattle.store.specs.laws.Lists.{drop-take, part-of, first-back, first-other, second-lent, second-back, second-other}
+use Rattle.store.specs.laws.Tails.{newest-is, top-size, put-tail, whole}
+use Rattle.store.specs.laws.Entries.{entries-as, entries-sized, no-entries, entry-in, entry-within, next-start, some-entry, no-entry, bytes-append, bytes-one}
 use Rattle.parser.specs.declared.state.Parser.{Parser}
 use Rattle.parser.specs.declared.state.Read.{Read}
 use Rattle.parser.specs.declared.state.Read.the-variants.{Text as read, Refused}
 use Rattle.parser.specs.States.{subs-to, args-to}
 use Rattle.parser.specs.Holds.{Memory, mem, window, part, Holds, Stands, Refines, refuses, Puts, Pushes, pushed, full, given-of, low-bytes, high-bytes, low-ends, high-ends}
-use Rattle.parser.specs.Laws.{answers, given-refines, holds-puts}
+use Rattle.parser.specs.laws.Laws.{answers, given-refines, holds-puts}
 
 -- the grammar's state with another table
 abbrev pub with-subs : List Text → State → State

@@ -12,12 +12,12 @@ use lib.ListN.{length, take, drop, getD, length-drop}
 use lib.Seq.{drop-drop, take-suc, getD-drop, append-snoc}
 use Rattle.grammar.specs.Text.{Text, b, if_then_else_, choose, starts, holds, run, after-last, digit}
 use Rattle.grammar.specs.Grammar.{last, class-of, skipped, open-after, structor-ahead, std-ahead}
-use Rattle.grammar.specs.Laws.{starts-nothing}
+use Rattle.grammar.specs.laws.Laws.{starts-nothing}
 use Rattle.parser.specs.declared.leaf.Skipped.{Skipped}
 use Rattle.parser.specs.declared.leaf.Skipped.the-variants as skipped-as
 use Rattle.parser.specs.declared.leaf.Class.{Class}
-use Rattle.grammar.specs.Places.{rest-some, rest-none}
-use Rattle.parser.specs.Runs.{run-more}
+use Rattle.grammar.specs.laws.Places.{rest-some, rest-none}
+use Rattle.parser.specs.laws.Runs.{run-more}
 
 -- the byte is a qualifier of a nested name
 abbrev pub qualifies : ℕ → Bool

@@ -1,14 +1,10 @@
 pub mod States
 pub mod Holds
-pub mod Laws
 pub mod Halves
 pub mod Wraps
-pub mod Runs
 pub mod Adds
 pub mod Source
-pub mod Tags
-pub mod Unnamed
 pub mod References
-pub mod Decimals
 pub mod Leaves
 pub mod Literals
+pub mod laws

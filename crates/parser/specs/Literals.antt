@@ -13,17 +13,17 @@ use Rattle.grammar.specs.Text.{Text, b, if_then_else_, choose, same, starts}
 use Rattle.grammar.specs.Tables.{suffixes}
 use Rattle.grammar.specs.Reader.{State, give, word-for}
 use Rattle.grammar.specs.Grammar.{literal}
-use Rattle.grammar.specs.Laws.{same→eq}
+use Rattle.grammar.specs.laws.Laws.{same→eq}
 use Rattle.store.specs.Stack.{Stack, Tail, Cut, newest}
-use Rattle.store.specs.Tails.{newest-is, top-size, dropped, replaced}
-use Rattle.store.specs.Lists.{drop-take}
+use Rattle.store.specs.laws.Tails.{newest-is, top-size, dropped, replaced}
+use Rattle.store.specs.laws.Lists.{drop-take}
 use Rattle.parser.specs.declared.state.Parser.{Parser}
 use Rattle.parser.specs.declared.state.Read.{Read}
 use Rattle.parser.specs.declared.literal.Kind.{Kind}
 use Rattle.parser.specs.declared.literal.Kind.the-variants.{Truth, Suffix, Cast}
 use Rattle.parser.specs.Holds.{mem, part, Stands, Refines, Puts, Cuts}
-use Rattle.parser.specs.Laws.{by-state, holds-text, holds-puts}
-use Rattle.grammar.specs.Places.{rest-some}
+use Rattle.parser.specs.laws.Laws.{by-state, holds-text, holds-puts}
+use Rattle.grammar.specs.laws.Places.{rest-some}
 use Rattle.parser.specs.Wraps.{stands-puts}
 
 -- how a literal is printed, by its type's text: a suffix is a part of ull

@@ -12,11 +12,11 @@ use Rattle.grammar.specs.Text.{Text, b, if_then_else_, choose, starts, run, pas
 use Rattle.grammar.specs.Tables.{abbreviations}
 use Rattle.grammar.specs.Reader.{State, Result, ok, refused, Reader, onto, refuse, unfit, give, go-to, find, word-for, by-code, every, need, eat}
 use Rattle.grammar.specs.Grammar.{⟨template-param⟩, ⟨substitution⟩, index, template-param, substitution, production, reading}
-use Rattle.grammar.specs.Agree.{moved}
-use Rattle.grammar.specs.Fuel.{reading-is}
-use Rattle.grammar.specs.Finds.{all-of, by-word}
-use Rattle.grammar.specs.Places.{rest-some, rest-none}
-use Rattle.parser.specs.Runs.{every-at, need-here, need-not}
+use Rattle.grammar.specs.laws.Agree.{moved}
+use Rattle.grammar.specs.laws.Fuel.{reading-is}
+use Rattle.grammar.specs.laws.Finds.{all-of, by-word}
+use Rattle.grammar.specs.laws.Places.{rest-some, rest-none}
+use Rattle.parser.specs.laws.Runs.{every-at, need-here, need-not}
 
 pub index-none : (base : ℕ) (t : Text) → length t ≡ 0 → index base t ≡ 0
 unfolding index

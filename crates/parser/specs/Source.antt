@@ -13,12 +13,12 @@ use Rattle.grammar.specs.Text.{Text, b, if_then_else_, starts, run, digit, numb
 use Rattle.grammar.specs.Tables.{_⇒_}
 use Rattle.grammar.specs.Reader.{State, Result, ok, refused, Reader, onto, unfit, go-to, give, cases}
 use Rattle.grammar.specs.Grammar.{⟨source-name⟩, source-name, production, reading}
-use Rattle.grammar.specs.Agree.{moved}
-use Rattle.grammar.specs.Fuel.{reading-is}
+use Rattle.grammar.specs.laws.Agree.{moved}
+use Rattle.grammar.specs.laws.Fuel.{reading-is}
 use Rattle.parser.specs.declared.names.Found.{Found}
 use Rattle.parser.specs.declared.names.Found.the-variants.{Part, Nothing}
 use Rattle.parser.specs.Holds.{part}
-use Rattle.parser.specs.Runs.{every-at, case-here, case-not, run-within}
+use Rattle.parser.specs.laws.Runs.{every-at, case-here, case-not, run-within}
 
 -- the place behind digits and an underscore, if there are any
 unfoldable pub behind-number : Text → ℕ → ℕ

@@ -14,19 +14,19 @@ use Rattle.grammar.specs.Text.{Text, b, if_then_else_, choose, same, holds}
 use Rattle.grammar.specs.Tables.{_⇒_, Table}
 use Rattle.grammar.specs.Reader.{State, Reader, word-for}
 use Rattle.grammar.specs.Grammar.{at-slots}
-use Rattle.grammar.specs.Laws.{both}
+use Rattle.grammar.specs.laws.Laws.{both}
 use Rattle.grammar.specs.Words.{spelled, word-of, Picks, Picked-inside, Inside}
 use Rattle.grammar.specs.declared.codes.Word.{Word}
 use Rattle.grammar.specs.declared.codes.Picked.{Picked}
 use Rattle.grammar.specs.declared.codes.Picked.the-variants.{At, Nothing}
 use Rattle.store.specs.Stack.{Stack, Tail, Put, Cut, slots-in, newest, below-newest}
-use Rattle.store.specs.Lists.{part-of}
-use Rattle.store.specs.Slots.{length-at-slots}
-use Rattle.store.specs.Tails.{size, top-size, newest-is, replaced, weaken}
+use Rattle.store.specs.laws.Lists.{part-of}
+use Rattle.store.specs.laws.Slots.{length-at-slots}
+use Rattle.store.specs.laws.Tails.{size, top-size, newest-is, replaced, weaken}
 use Rattle.parser.specs.declared.state.Parser.{Parser}
 use Rattle.parser.specs.declared.state.Read.{Read}
 use Rattle.parser.specs.Holds.{Memory, mem, Holds, Stands, Reads, Puts, Cuts}
-use Rattle.parser.specs.Laws.{by-state, holds-text, holds-puts, tail-puts}
+use Rattle.parser.specs.laws.Laws.{by-state, holds-text, holds-puts, tail-puts}
 use Rattle.parser.specs.Halves.{newest-part}
 
 -- what a wrapper puts behind a type, and at a slot

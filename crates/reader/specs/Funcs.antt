@@ -10,19 +10,19 @@ use Rattle.grammar.specs.Text.{Text, b, if_then_else_, same, join}
 use Rattle.grammar.specs.Reader.{State, ok, Reader, onto, recorded, up-to-E, one-more}
 use Rattle.grammar.specs.Grammar.{reading, ⟨type⟩, slot, only-void}
 use Rattle.grammar.specs.Grammar as g
-use Rattle.grammar.specs.Laws.{same→eq}
+use Rattle.grammar.specs.laws.Laws.{same→eq}
 use Rattle.grammar.specs.Loops.{closed}
 use Rattle.store.specs.Stack.{Tail, Cut, newest}
-use Rattle.store.specs.Tails.{size, dropped}
+use Rattle.store.specs.laws.Tails.{size, dropped}
 use Rattle.parser.specs.Holds.{Memory, mem, window, Wrote, Stands, Refines, Puts, Cuts, keep}
-use Rattle.parser.specs.Laws.{stands}
+use Rattle.parser.specs.laws.Laws.{stands}
 use Rattle.parser.specs.Wraps.{holds-cuts, end-text}
 use Rattle.parser.specs.declared.state.Parser.{Parser}
 use Rattle.parser.specs.declared.state.Read.{Read}
 use Rattle.reader.specs.declared.lists.Kind.the-variants.{Types}
-use Rattle.reader.specs.Standing.{stands-behind}
-use Rattle.reader.specs.Items.{looped}
-use Rattle.reader.specs.Closes.{up-types}
+use Rattle.reader.specs.laws.Standing.{stands-behind}
+use Rattle.reader.specs.laws.Items.{looped}
+use Rattle.reader.specs.laws.Closes.{up-types}
 
 -- the text of a function type that returns r and takes ts
 abbrev pub function-text : Text → List Text → Text

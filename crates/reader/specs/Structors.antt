@@ -12,24 +12,24 @@ use Rattle.grammar.specs.Text.{Text, b, choose, join, if_then_else_, run, after
 use Rattle.grammar.specs.Reader.{State, ok, onto, go-to}
 use Rattle.grammar.specs.Grammar.{reading, last, class-of}
 use Rattle.grammar.specs.Grammar as g
-use Rattle.grammar.specs.Agree.{moved}
+use Rattle.grammar.specs.laws.Agree.{moved}
 use Rattle.store.specs.Stack.{Stack, Tail, newest}
-use Rattle.store.specs.Lists as lists
-use Rattle.store.specs.Tails.{newest-is, top-size}
+use Rattle.store.specs.laws.Lists as lists
+use Rattle.store.specs.laws.Tails.{newest-is, top-size}
 use Rattle.parser.specs.declared.state.Parser.{Parser}
 use Rattle.parser.specs.declared.leaf.Class.{Class}
 use Rattle.parser.specs.Holds.{Memory, mem, Holds, Stands, Puts, keep}
 use Rattle.parser.specs.States.{moved-to}
-use Rattle.parser.specs.Laws.{holds-moved}
+use Rattle.parser.specs.laws.Laws.{holds-moved}
 use Rattle.parser.specs.Leaves.{Classed, class-in, class-of-is}
 use Rattle.parser.specs.Wraps.{stands-puts, end-text}
 use Rattle.reader.specs.declared.lists.Parts.{Parts}
 use Rattle.reader.specs.declared.lists.Prefix.the-variants as prefix-as
 use Rattle.reader.specs.Lists.{Alike, same-text, both-long, Parted, Parting, parted, before-part}
-use Rattle.reader.specs.Items.{one-byte}
+use Rattle.reader.specs.laws.Items.{one-byte}
 use Rattle.reader.specs.Separators.{join-more, puts-nothing}
-use Rattle.reader.specs.Standing.{stands-kept, stands-sized}
-use Rattle.reader.specs.Joined.{last-more, shown-is, colons-size, parts-by}
+use Rattle.reader.specs.laws.Standing.{stands-kept, stands-sized}
+use Rattle.reader.specs.laws.Joined.{last-more, shown-is, colons-size, parts-by}
 
 -- a destructor's class stands behind this
 unfoldable pub tilde-of : ℕ → Text

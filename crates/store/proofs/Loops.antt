@@ -13,8 +13,8 @@ use lib.ListN.{length, take, drop, getD, set, length-drop, List·getD-append, dr
 use lib.Seq.{paste, paste-suc, length-paste-head, length-take-le, getD-append-add, getD-drop, getD-take, take-suc, take-length, take-take, take-add, drop-cons, drop-drop, drop-length}
 use Rattle.grammar.specs.Text.{Text, if_then_else_, same}
 use Rattle.store.specs.Stack.{zeros, slots-in, newest}
-use Rattle.store.specs.Lists.{drop-take}
-use Rattle.store.specs.Slots.{slots-append}
+use Rattle.store.specs.laws.Lists.{drop-take}
+use Rattle.store.specs.laws.Slots.{slots-append}
 
 -- ---- clear: the first i are zero
 

@@ -8,9 +8,9 @@ use lib.Seq.{paste, take-paste, length-paste, length-take-le, take-at, take-all,
 use Rattle.grammar.specs.Text.{Text}
 use Rattle.grammar.specs.Grammar.{at-slots}
 use Rattle.store.specs.Stack.{kept-bytes, Stack, Put, Cut, Room, Grown, slots-in, at-slot, newest, below-newest}
-use Rattle.store.specs.Lists.{drop-take, part-of}
-use Rattle.store.specs.Tails.{top-size}
-use Rattle.store.specs.Slots.{at-slot-yes, at-slot-no, at-slots-none, at-slots-more, at-slots-part, length-at-slots}
+use Rattle.store.specs.laws.Lists.{drop-take, part-of}
+use Rattle.store.specs.laws.Tails.{top-size}
+use Rattle.store.specs.laws.Slots.{at-slot-yes, at-slot-no, at-slots-none, at-slots-more, at-slots-part, length-at-slots}
 
 grown-at : {T T' : Text} {top : ℕ} (t : Text) (r : ℕ) → length T' ≡ 51200 → take r T' ≡ take top T ++ t → r ≡ top + length t → r ≤ 51200 → Grown T T' top r t
 grown-at t r s e f g = record { top-is = f; is = e; stack = record { size = s; most = g } }

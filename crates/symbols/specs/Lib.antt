@@ -1,6 +1,3 @@
 pub mod Outcome
 pub mod Parts
-pub mod Written
-pub mod Answers
-pub mod Runs
-pub mod Demand
+pub mod laws

@@ -1,16 +1,2 @@
 pub mod Walk
-pub mod Examples
-pub mod Table
-pub mod Digits
-pub mod Holds
-pub mod Leaves
-pub mod Fewer
-pub mod Fuel
-pub mod Steps
-pub mod Written
-pub mod Complete
-pub mod SymbolComplete
-pub mod Sound
-pub mod SymbolSound
-pub mod Equal
-pub mod Sizes
+pub mod laws

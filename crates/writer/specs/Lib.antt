@@ -1,7 +1,3 @@
 pub mod Cycle
-pub mod FirstBytes
-pub mod Loops
-pub mod Types
-pub mod Parts
 pub mod Writes
-pub mod Symbols
+pub mod laws

@@ -1,5 +1,5 @@
 -- `walk::most_reference` is no less than any reference's length. Assumes nothing.
-use Rattle.walk.specs.Sizes.{ref-length}
+use Rattle.walk.specs.laws.Sizes.{ref-length}
 use Rattle.walk.proofs.most_reference.Statement.{statement}
 use Rattle.walk.proofs.most_reference.Tie as tie
 

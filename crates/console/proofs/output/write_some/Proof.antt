@@ -3,7 +3,7 @@ use mathlib.Core.Path.{sym}
 use native.Mathlib.Omega.{arith}
 use borrow.Author.Needs.{needs}
 use lib.Seq.{length-take-le}
-use Rattle.listing.specs.Inside.{lists-inside}
+use Rattle.listing.specs.laws.Inside.{lists-inside}
 use Rattle.console.proofs.output.write_some.Statement.{statement}
 use Rattle.console.proofs.output.write_some.Tie as tie
 

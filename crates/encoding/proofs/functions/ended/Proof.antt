@@ -1,6 +1,6 @@
 -- `encoding::functions::ended` looks at the next byte. Assumes nothing.
 use mathlib.Core.Path.{sym, _∙_}
-use Rattle.encoding.specs.Ends.{ended-end, ended-byte}
+use Rattle.encoding.specs.laws.Ends.{ended-end, ended-byte}
 use borrow.Author.Needs.{needs}
 use Rattle.encoding.proofs.functions.ended.Statement.{statement}
 use Rattle.encoding.proofs.functions.ended.Tie as tie

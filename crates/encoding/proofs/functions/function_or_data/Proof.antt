@@ -1,7 +1,7 @@
 -- `encoding::functions::function_or_data` reads a name, and goes on by what stands behind it. Assumes nothing.
 use mathlib.Core.Path.{sym, _∙_}
 use native.Mathlib.Omega.{arith}
-use Rattle.encoding.specs.Named.{name-refused, name-got, name-holds, name-fits, name-over, name-templated, name-plain}
+use Rattle.encoding.specs.laws.Named.{name-refused, name-got, name-holds, name-fits, name-over, name-templated, name-plain}
 use borrow.Author.Needs.{needs}
 use Rattle.encoding.proofs.functions.function_or_data.Statement.{statement}
 use Rattle.encoding.proofs.functions.function_or_data.Tie as tie

@@ -1,6 +1,6 @@
 -- `encoding::functions::lone_void`: each test is one that the definition makes. Assumes nothing.
 use Rattle.grammar.specs.Text.{b}
-use Rattle.encoding.specs.Ends.{void-many, void-other, void-before, void-alone}
+use Rattle.encoding.specs.laws.Ends.{void-many, void-other, void-before, void-alone}
 use borrow.Author.Needs.{needs}
 use Rattle.encoding.proofs.functions.lone_void.Statement.{statement}
 use Rattle.encoding.proofs.functions.lone_void.Tie as tie

@@ -5,7 +5,7 @@ use native.Mathlib.Omega.{arith}
 use borrow.Author.Needs.{needs}
 use Rattle.grammar.proofs.Lookups.{length-spelled}
 use Rattle.parser.specs.Wraps.{picked-at}
-use Rattle.encoding.specs.Ends.{Qualifying, qualifying-start, qualifying-word, qualifying-nothing, qualifying-done}
+use Rattle.encoding.specs.laws.Ends.{Qualifying, qualifying-start, qualifying-word, qualifying-nothing, qualifying-done}
 use Rattle.encoding.proofs.functions.qualified.Statement.{statement}
 use Rattle.encoding.proofs.functions.qualified.Tie as tie
 

@@ -1,6 +1,6 @@
 -- `encoding::functions::template_function` reads the type returned, which goes before the name. Assumes nothing.
 use native.Mathlib.Omega.{arith}
-use Rattle.encoding.specs.Functions.{returned, returned-short, returned-room, type-refused, type-returned}
+use Rattle.encoding.specs.laws.Functions.{returned, returned-short, returned-room, type-refused, type-returned}
 use borrow.Author.Needs.{needs}
 use Rattle.encoding.proofs.functions.template_function.Statement.{statement}
 use Rattle.encoding.proofs.functions.template_function.Tie as tie

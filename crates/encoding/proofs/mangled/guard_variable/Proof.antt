@@ -4,9 +4,9 @@ use mathlib.Core.Path.{ap}
 use native.Mathlib.Omega.{arith}
 use lib.ListN.{length}
 use Rattle.grammar.specs.Text.{b}
-use Rattle.store.specs.Lists.{second-lent}
-use Rattle.encoding.specs.Labels.{starts-is}
-use Rattle.encoding.specs.Specials.{guard-holds, guard-refused, guard-got, guard-given}
+use Rattle.store.specs.laws.Lists.{second-lent}
+use Rattle.encoding.specs.laws.Labels.{starts-is}
+use Rattle.encoding.specs.laws.Specials.{guard-holds, guard-refused, guard-got, guard-given}
 use borrow.Author.Needs.{needs}
 use Rattle.encoding.proofs.mangled.guard_variable.Statement.{statement}
 use Rattle.encoding.proofs.mangled.guard_variable.Tie as tie

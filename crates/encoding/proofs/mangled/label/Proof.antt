@@ -1,6 +1,6 @@
 -- `encoding::mangled::label` looks at the first two bytes. Assumes nothing.
 use native.Mathlib.Omega.{arith}
-use Rattle.encoding.specs.Labels.{labels-short, labels-other, labels-picked}
+use Rattle.encoding.specs.laws.Labels.{labels-short, labels-other, labels-picked}
 use borrow.Author.Needs.{needs}
 use Rattle.encoding.proofs.mangled.label.Statement.{statement}
 use Rattle.encoding.proofs.mangled.label.Tie as tie

@@ -3,7 +3,7 @@ use mathlib.Core.Path.{ap, _∙_}
 use native.Mathlib.Omega.{arith}
 use Rattle.store.specs.Stack.{zeros}
 use Rattle.names.specs.Outcome.{slices}
-use Rattle.names.specs.Told.{told-demangles}
+use Rattle.names.specs.laws.Told.{told-demangles}
 use borrow.Author.Needs.{needs}
 use Rattle.names.proofs.entry.demangle.Statement.{statement}
 use Rattle.names.proofs.entry.demangle.Tie as tie

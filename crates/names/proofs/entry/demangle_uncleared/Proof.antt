@@ -2,7 +2,7 @@
 use mathlib.Core.Path.{sym, _∙_}
 use borrow.Author.Tests.{not-true, not-false}
 use Rattle.names.specs.Outcome.{slices}
-use Rattle.names.specs.Told.{front-refuses, front-inside, front-short, front-reads, fit-long}
+use Rattle.names.specs.laws.Told.{front-refuses, front-inside, front-short, front-reads, fit-long}
 use borrow.Author.Needs.{needs}
 use Rattle.names.proofs.entry.demangle_uncleared.Statement.{statement}
 use Rattle.names.proofs.entry.demangle_uncleared.Tie as tie

@@ -8,7 +8,7 @@ use lib.ListN.{length, drop}
 use Rattle.grammar.specs.Text.{Text}
 use Rattle.grammar.specs.Grammar.{ended}
 use Rattle.grammar.specs.Names.{without-slots}
-use Rattle.names.specs.Tells.{tells-refusal, tells-name, within-5, within-12, within-name, newest-length, printed-text, printed-length}
+use Rattle.names.specs.laws.Tells.{tells-refusal, tells-name, within-5, within-12, within-name, newest-length, printed-text, printed-length}
 use Rattle.names.proofs.entry.print.Statement.{statement}
 use Rattle.names.proofs.entry.print.Tie as tie
 

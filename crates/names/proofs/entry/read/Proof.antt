@@ -4,7 +4,7 @@ use lib.ListN.{length}
 use Rattle.grammar.specs.Text.{Text}
 use Rattle.grammar.specs.Reader.{Result}
 use Rattle.grammar.specs.Names.{finished, within, mangled-name}
-use Rattle.names.specs.Tells.{tells-as, tells-unread, was-read, printed-fits, printed-top}
+use Rattle.names.specs.laws.Tells.{tells-as, tells-unread, was-read, printed-fits, printed-top}
 use borrow.Author.Needs.{needs}
 use Rattle.names.proofs.entry.read.Statement.{statement}
 use Rattle.names.proofs.entry.read.Tie as tie

@@ -5,8 +5,8 @@ use lib.ListN.{length, length-drop}
 use lib.Seq.{length-take-le}
 use Rattle.grammar.specs.Text.{Text}
 use Rattle.grammar.specs.Names.{within, mangled-name}
-use Rattle.store.specs.Lists.{second-lent}
-use Rattle.names.specs.Tells.{tells-as}
+use Rattle.store.specs.laws.Lists.{second-lent}
+use Rattle.names.specs.laws.Tells.{tells-as}
 use borrow.Author.Needs.{needs}
 use Rattle.names.proofs.entry.read_behind.Statement.{statement}
 use Rattle.names.proofs.entry.read_behind.Tie as tie

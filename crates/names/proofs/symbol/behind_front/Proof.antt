@@ -2,7 +2,7 @@
 use mathlib.Core.Path.{sym, _∙_}
 use borrow.Author.Needs.{needs}
 use Rattle.grammar.specs.Text.{b}
-use Rattle.names.specs.Fronts.{front-1, front-2, front-z, front-zz, front-3}
+use Rattle.names.specs.laws.Fronts.{front-1, front-2, front-z, front-zz, front-3}
 use Rattle.names.proofs.symbol.behind_front.Statement.{statement}
 use Rattle.names.proofs.symbol.behind_front.Tie as tie
 

@@ -8,7 +8,7 @@ use native.Mathlib.Omega.{arith}
 use borrow.Author.Needs.{needs}
 use lib.ListN.{length, drop}
 use Rattle.grammar.specs.Names.{high}
-use Rattle.names.specs.Fronts.{high-there, high-not, high-end}
+use Rattle.names.specs.laws.Fronts.{high-there, high-not, high-end}
 use Rattle.names.proofs.symbol.has_high.Statement.{statement}
 use Rattle.names.proofs.symbol.has_high.Tie as tie
 

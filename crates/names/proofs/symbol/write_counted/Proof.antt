@@ -4,7 +4,7 @@ use Prim.Native.Nat.{_-_}
 use native.Mathlib.Omega.{arith}
 use borrow.Author.Needs.{needs}
 use lib.ListN.{take, drop}
-use Rattle.names.specs.Slotless.{slotless-length, slotless-copied}
+use Rattle.names.specs.laws.Slotless.{slotless-length, slotless-copied}
 use Rattle.names.proofs.symbol.write_counted.Statement.{statement}
 use Rattle.names.proofs.symbol.write_counted.Tie as tie
 

@@ -9,7 +9,7 @@ use borrow.Author.Needs.{needs}
 use lib.ListN.{length, take, drop, getD, set, length-set, length-append}
 use Rattle.grammar.specs.Text.{Text, each}
 use Rattle.grammar.specs.Names.{without-slots}
-use Rattle.names.specs.Slotless.{slotless-skip, slotless-more, slotless-room, byte-behind}
+use Rattle.names.specs.laws.Slotless.{slotless-skip, slotless-more, slotless-room, byte-behind}
 use Rattle.names.proofs.symbol.write_name.Statement.{statement}
 use Rattle.names.proofs.symbol.write_name.Tie as tie
 

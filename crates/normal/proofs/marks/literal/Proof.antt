@@ -3,7 +3,7 @@ use mathlib.Core.Path.{sym, _∙_}
 use mathlib.Core.Bool.{true, false}
 use Prim.Native.Nat.{_+_}
 use lib.ListN.{getD}
-use Rattle.normal.specs.Leaves.{literal-end, literal-minus, literal-plain, from-value}
+use Rattle.normal.specs.laws.Leaves.{literal-end, literal-minus, literal-plain, from-value}
 use borrow.Author.Needs.{needs}
 use native.Mathlib.Omega.{arith}
 use Rattle.normal.proofs.marks.literal.Statement.{statement}

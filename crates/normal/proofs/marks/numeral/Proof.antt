@@ -3,7 +3,7 @@ use mathlib.Core.Path.{refl, sym, ap, _∙_}
 use mathlib.Core.Bool.{not}
 use Rattle.catalogue.specs.Class.{numeral}
 use Rattle.normal.specs.Parts.{part, part-none, part-length}
-use Rattle.normal.specs.Tests.{numeral-is}
+use Rattle.normal.specs.laws.Tests.{numeral-is}
 use borrow.Author.Needs.{needs}
 use native.Mathlib.Omega.{arith}
 use Rattle.normal.proofs.marks.numeral.Statement.{statement}

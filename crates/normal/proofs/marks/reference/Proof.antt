@@ -3,8 +3,8 @@ use mathlib.Core.Path.{sym, _∙_}
 use lib.ListN.{drop}
 use borrow.Author.Tests.{not-true, not-false}
 use Rattle.grammar.specs.Text.{run, digit}
-use Rattle.grammar.specs.Places.{starts-inside}
-use Rattle.normal.specs.Leaves.{index-none, index-some, ref-open, ref-small, ref-zero, ref-right}
+use Rattle.grammar.specs.laws.Places.{starts-inside}
+use Rattle.normal.specs.laws.Leaves.{index-none, index-some, ref-open, ref-small, ref-zero, ref-right}
 use borrow.Author.Needs.{needs}
 use native.Mathlib.Omega.{arith}
 use Rattle.normal.proofs.marks.reference.Statement.{statement}

@@ -4,10 +4,10 @@ use Rattle.grammar.specs.Text.{digit}
 use lib.ListN.{drop}
 use borrow.Author.Tests.{not-true, not-false}
 use Rattle.normal.specs.Parts.{run-is}
-use Rattle.walk.specs.Digits.{run-all}
-use Rattle.grammar.specs.Places.{starts-inside}
+use Rattle.walk.specs.laws.Digits.{run-all}
+use Rattle.grammar.specs.laws.Places.{starts-inside}
 use Rattle.catalogue.specs.Bytes.{all}
-use Rattle.normal.specs.Leaves.{value-open, value-wrong, value-right}
+use Rattle.normal.specs.laws.Leaves.{value-open, value-wrong, value-right}
 use borrow.Author.Needs.{needs}
 use native.Mathlib.Omega.{arith}
 use Rattle.normal.proofs.marks.value.Statement.{statement}

@@ -1,6 +1,6 @@
 -- `normal::memory::entry` reads an entry of the table. Assumes nothing.
 use Prim.Native.Nat.{_+_}
-use Rattle.normal.specs.Slices.{notes-size, entry-is}
+use Rattle.normal.specs.laws.Slices.{notes-size, entry-is}
 use borrow.Author.Needs.{needs}
 use native.Mathlib.Omega.{arith}
 use Rattle.normal.proofs.memory.entry.Statement.{statement}

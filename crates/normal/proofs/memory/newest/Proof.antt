@@ -1,6 +1,6 @@
 -- `normal::memory::newest` compares the newest entry of the table. Assumes nothing.
 use Prim.Native.Nat.{_+_, _-_}
-use Rattle.normal.specs.Slices.{notes-size, newest-none, newest-is}
+use Rattle.normal.specs.laws.Slices.{notes-size, newest-none, newest-is}
 use borrow.Author.Needs.{needs}
 use native.Mathlib.Omega.{arith}
 use Rattle.normal.proofs.memory.newest.Statement.{statement}

@@ -3,8 +3,8 @@ use lib.ListN.{length-set}
 use Rattle.nodes.specs.Nodes.{node}
 use Rattle.normal.specs.Parts.{part}
 use Rattle.normal.specs.Holds.{row}
-use Rattle.normal.specs.Slices.{notes-size}
-use Rattle.normal.specs.Memory.{sought-nodes, inside-here, note-known, note-new}
+use Rattle.normal.specs.laws.Slices.{notes-size}
+use Rattle.normal.specs.laws.Memory.{sought-nodes, inside-here, note-known, note-new}
 use borrow.Author.Needs.{needs}
 use native.Mathlib.Omega.{arith}
 use Rattle.normal.proofs.memory.note.Statement.{statement}

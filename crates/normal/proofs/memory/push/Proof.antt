@@ -1,7 +1,7 @@
 -- `normal::memory::push` writes an entry, and where it is no double, in the last region too. Assumes nothing.
 use lib.ListN.{length-take, length-drop, length-set}
-use Rattle.normal.specs.Slices.{notes-size, firsts-most}
-use Rattle.normal.specs.Memory.{sought-firsts, push-known, push-new, firsts-room}
+use Rattle.normal.specs.laws.Slices.{notes-size, firsts-most}
+use Rattle.normal.specs.laws.Memory.{sought-firsts, push-known, push-new, firsts-room}
 use borrow.Author.Needs.{needs}
 use native.Mathlib.Omega.{arith}
 use Rattle.normal.proofs.memory.push.Statement.{statement}

@@ -1,6 +1,6 @@
 -- `normal::memory::put_byte` writes a byte behind the others. Assumes nothing.
 use Rattle.normal.specs.Written.{wrote-one}
-use Rattle.normal.specs.Slices.{puts-by}
+use Rattle.normal.specs.laws.Slices.{puts-by}
 use borrow.Author.Needs.{needs}
 use native.Mathlib.Omega.{arith}
 use Rattle.normal.proofs.memory.put_byte.Statement.{statement}

@@ -1,5 +1,5 @@
 -- `normal::memory::put_name` writes a part of the symbol as a source name behind the others. Assumes nothing.
-use Rattle.normal.specs.Slices.{puts-by}
+use Rattle.normal.specs.laws.Slices.{puts-by}
 use borrow.Author.Needs.{needs}
 use Rattle.normal.proofs.memory.put_name.Statement.{statement}
 use Rattle.normal.proofs.memory.put_name.Tie as tie

@@ -1,7 +1,7 @@
 -- `normal::memory::put_part` writes a part of the symbol behind the others. Assumes nothing.
 use mathlib.Core.Path.{_∙_}
 use Rattle.normal.specs.Parts.{part, part-length}
-use Rattle.normal.specs.Slices.{puts-by, wrote-paste}
+use Rattle.normal.specs.laws.Slices.{puts-by, wrote-paste}
 use borrow.Author.Needs.{needs}
 use native.Mathlib.Omega.{arith}
 use Rattle.normal.proofs.memory.put_part.Statement.{statement}

@@ -1,7 +1,7 @@
 -- `normal::memory::settle` writes the reference of what is in the table. Assumes nothing.
 use lib.ListN.{length-take, length-drop}
-use Rattle.normal.specs.Slices.{out-size, notes-size, firsts-most}
-use Rattle.normal.specs.Memory.{sought-firsts, settle-not, index-most, reference-room, settle-here}
+use Rattle.normal.specs.laws.Slices.{out-size, notes-size, firsts-most}
+use Rattle.normal.specs.laws.Memory.{sought-firsts, settle-not, index-most, reference-room, settle-here}
 use borrow.Author.Needs.{needs}
 use native.Mathlib.Omega.{arith}
 use Rattle.normal.proofs.memory.settle.Statement.{statement}

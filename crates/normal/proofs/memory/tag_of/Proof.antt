@@ -1,6 +1,6 @@
 -- `normal::memory::tag_of` reads the tag of a node. Assumes nothing.
 use Prim.Native.Nat.{_-_, _*_}
-use Rattle.normal.specs.Slices.{notes-size, tag-low, tag-none, tag-here}
+use Rattle.normal.specs.laws.Slices.{notes-size, tag-low, tag-none, tag-here}
 use borrow.Author.Needs.{needs}
 use native.Mathlib.Omega.{arith}
 use Rattle.normal.proofs.memory.tag_of.Statement.{statement}

@@ -2,10 +2,10 @@
 use native.Mathlib.Omega.{arith}
 use borrow.Author.Needs.{needs}
 use Rattle.normal.specs.Holds.{tells}
-use Rattle.normal.specs.Told.{told, never, by}
-use Rattle.normal.specs.Steps.{counted-is}
-use Rattle.normal.specs.Moves.{by-state, holds-counted}
-use Rattle.normal.specs.Limits.{took-counted}
+use Rattle.normal.specs.laws.Told.{told, never, by}
+use Rattle.normal.specs.laws.Steps.{counted-is}
+use Rattle.normal.specs.laws.Moves.{by-state, holds-counted}
+use Rattle.normal.specs.laws.Limits.{took-counted}
 use Rattle.normal.proofs.steps.arg.Statement.{statement}
 use Rattle.normal.proofs.steps.arg.Tie as tie
 

@@ -1,8 +1,8 @@
 -- `normal::steps::close` writes E, for which there is room. Assumes nothing.
 use native.Mathlib.Omega.{arith}
 use borrow.Author.Needs.{needs}
-use Rattle.normal.specs.Slices.{out-size}
-use Rattle.normal.specs.Limits.{took-put}
+use Rattle.normal.specs.laws.Slices.{out-size}
+use Rattle.normal.specs.laws.Limits.{took-put}
 use Rattle.normal.proofs.steps.close.Statement.{statement}
 use Rattle.normal.proofs.steps.close.Tie as tie
 

@@ -3,9 +3,9 @@ use native.Mathlib.Omega.{arith}
 use borrow.Author.Needs.{needs}
 use mathlib.Core.List.{[], _∷_}
 use lib.ListN.{getD}
-use Rattle.normal.specs.Slices.{out-size}
-use Rattle.normal.specs.Limits.{passed-none, passed-more}
-use Rattle.normal.specs.Moves.{next-byte, put-moved}
+use Rattle.normal.specs.laws.Slices.{out-size}
+use Rattle.normal.specs.laws.Limits.{passed-none, passed-more}
+use Rattle.normal.specs.laws.Moves.{next-byte, put-moved}
 use Rattle.normal.proofs.steps.copy_byte.Statement.{statement}
 use Rattle.normal.proofs.steps.copy_byte.Tie as tie
 

@@ -1,7 +1,7 @@
 -- `normal::steps::enter` settles what was written, and then puts the number into the table. Assumes nothing.
 use native.Mathlib.Omega.{arith}
 use borrow.Author.Needs.{needs}
-use Rattle.normal.specs.Limits.{took-more, room-after}
+use Rattle.normal.specs.laws.Limits.{took-more, room-after}
 use Rattle.normal.proofs.steps.enter.Statement.{statement}
 use Rattle.normal.proofs.steps.enter.Tie as tie
 

@@ -3,9 +3,9 @@ use mathlib.Core.Logic.{⊎-elim}
 use mathlib.Core.Path.{sym, _∙_}
 use native.Mathlib.Omega.{arith}
 use borrow.Author.Needs.{needs}
-use Rattle.normal.specs.Limits.{took-less}
-use Rattle.normal.specs.Told.{went-as}
-use Rattle.normal.specs.Steps.{nested-newest, nested-old, nested-other}
+use Rattle.normal.specs.laws.Limits.{took-less}
+use Rattle.normal.specs.laws.Told.{went-as}
+use Rattle.normal.specs.laws.Steps.{nested-newest, nested-old, nested-other}
 use Rattle.normal.proofs.steps.enter_nested.Statement.{statement}
 use Rattle.normal.proofs.steps.enter_nested.Tie as tie
 

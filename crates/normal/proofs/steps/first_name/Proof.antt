@@ -8,10 +8,10 @@ use native.Mathlib.Omega.{arith}
 use borrow.Author.Needs.{needs}
 use Rattle.walk.specs.Walk.{name}
 use Rattle.nodes.specs.Nodes.{root-node, put, go-to}
-use Rattle.normal.specs.Limits.{room-less, room-after, took-more, spent}
-use Rattle.normal.specs.Told.{told, never, by}
-use Rattle.normal.specs.Steps.{entered-is, with-none, with-some}
-use Rattle.normal.specs.LeafSteps.{no-name-at, name-at, name-size, name-fits, name-wrote, name-held, name-room}
+use Rattle.normal.specs.laws.Limits.{room-less, room-after, took-more, spent}
+use Rattle.normal.specs.laws.Told.{told, never, by}
+use Rattle.normal.specs.laws.Steps.{entered-is, with-none, with-some}
+use Rattle.normal.specs.laws.LeafSteps.{no-name-at, name-at, name-size, name-fits, name-wrote, name-held, name-room}
 use Rattle.normal.proofs.steps.first_name.Statement.{statement}
 use Rattle.normal.proofs.steps.first_name.Tie as tie
 

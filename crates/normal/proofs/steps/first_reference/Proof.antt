@@ -4,11 +4,11 @@ use native.Mathlib.Omega.{arith}
 use borrow.Author.Needs.{needs}
 use Rattle.walk.specs.Walk.{reference}
 use Rattle.normal.specs.Holds.{tells, refuses}
-use Rattle.normal.specs.Moves.{by-state, holds-moved}
-use Rattle.normal.specs.Limits.{passed-none, spent}
-use Rattle.normal.specs.Told.{by}
-use Rattle.normal.specs.Steps.{with-none}
-use Rattle.normal.specs.LeafSteps.{no-reference-at, reference-at, reference-none, reference-is}
+use Rattle.normal.specs.laws.Moves.{by-state, holds-moved}
+use Rattle.normal.specs.laws.Limits.{passed-none, spent}
+use Rattle.normal.specs.laws.Told.{by}
+use Rattle.normal.specs.laws.Steps.{with-none}
+use Rattle.normal.specs.laws.LeafSteps.{no-reference-at, reference-at, reference-none, reference-is}
 use Rattle.normal.proofs.steps.first_reference.Statement.{statement}
 use Rattle.normal.proofs.steps.first_reference.Tie as tie
 

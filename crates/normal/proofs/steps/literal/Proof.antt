@@ -4,11 +4,11 @@ use native.Mathlib.Omega.{arith}
 use borrow.Author.Needs.{needs}
 use Rattle.walk.specs.Walk.{literal}
 use Rattle.normal.specs.Holds.{refuses}
-use Rattle.normal.specs.Slices.{out-size}
-use Rattle.normal.specs.Limits.{passed-none, passed-more, room-less, spent}
-use Rattle.normal.specs.Told.{by, within}
-use Rattle.normal.specs.Steps.{with-none}
-use Rattle.normal.specs.LeafSteps.{no-literal-at, literal-at, literal-is, literal-kind, literal-marked, literal-wrote, literal-held, literal-room, signed-below}
+use Rattle.normal.specs.laws.Slices.{out-size}
+use Rattle.normal.specs.laws.Limits.{passed-none, passed-more, room-less, spent}
+use Rattle.normal.specs.laws.Told.{by, within}
+use Rattle.normal.specs.laws.Steps.{with-none}
+use Rattle.normal.specs.laws.LeafSteps.{no-literal-at, literal-at, literal-is, literal-kind, literal-marked, literal-wrote, literal-held, literal-room, signed-below}
 use Rattle.normal.proofs.steps.literal.Statement.{statement}
 use Rattle.normal.proofs.steps.literal.Tie as tie
 

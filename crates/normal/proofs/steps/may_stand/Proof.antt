@@ -1,7 +1,7 @@
 -- `normal::steps::may_stand` tests a wrapper and a tag. Assumes nothing.
 use mathlib.Core.Bool.{not}
 use mathlib.Core.Path.{sym, ap, _∙_}
-use Rattle.normal.specs.MayStand.{stand-lit, stand-ref, stand-qual, stand-other}
+use Rattle.normal.specs.laws.MayStand.{stand-lit, stand-ref, stand-qual, stand-other}
 use borrow.Author.Needs.{needs}
 use Rattle.normal.proofs.steps.may_stand.Statement.{statement}
 use Rattle.normal.proofs.steps.may_stand.Tie as tie

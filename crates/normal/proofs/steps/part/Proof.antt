@@ -4,10 +4,10 @@ use native.Mathlib.Omega.{arith}
 use Rattle.walk.specs.Walk.{name}
 use borrow.Author.Needs.{needs}
 use Rattle.normal.specs.Holds.{refuses}
-use Rattle.normal.specs.Limits.{room-less, spent}
-use Rattle.normal.specs.Told.{by, within}
-use Rattle.normal.specs.Steps.{with-none, with-some}
-use Rattle.normal.specs.LeafSteps.{no-name-at, name-at, name-size, name-fits, name-wrote, name-held, name-room}
+use Rattle.normal.specs.laws.Limits.{room-less, spent}
+use Rattle.normal.specs.laws.Told.{by, within}
+use Rattle.normal.specs.laws.Steps.{with-none, with-some}
+use Rattle.normal.specs.laws.LeafSteps.{no-name-at, name-at, name-size, name-fits, name-wrote, name-held, name-room}
 use Rattle.normal.proofs.steps.part.Statement.{statement}
 use Rattle.normal.proofs.steps.part.Tie as tie
 

@@ -5,9 +5,9 @@ use borrow.Author.Needs.{needs}
 use borrow.Author.Tests.{not-true, not-false}
 use Rattle.nodes.specs.Nodes.{wrap-node, may-stand}
 use Rattle.normal.specs.Holds.{tells, refuses}
-use Rattle.normal.specs.Limits.{room-less, room-after, took-more}
-use Rattle.normal.specs.Told.{told, never, by}
-use Rattle.normal.specs.Steps.{entered-is, when-true, when-false}
+use Rattle.normal.specs.laws.Limits.{room-less, room-after, took-more}
+use Rattle.normal.specs.laws.Told.{told, never, by}
+use Rattle.normal.specs.laws.Steps.{entered-is, when-true, when-false}
 use Rattle.normal.proofs.steps.wrap.Statement.{statement}
 use Rattle.normal.proofs.steps.wrap.Tie as tie
 

@@ -4,7 +4,7 @@ use Prim.Native.Nat.{ℕ}
 use lib.ListN.{take, drop, length-drop}
 use Rattle.grammar.specs.Text.{same}
 use Rattle.normal.specs.Parts.{part-length}
-use Rattle.normal.specs.Tests.{same-no, starts-same}
+use Rattle.normal.specs.laws.Tests.{same-no, starts-same}
 use borrow.Author.Needs.{needs}
 use native.Mathlib.Omega.{arith}
 use Rattle.normal.proofs.words.is_word.Statement.{statement}

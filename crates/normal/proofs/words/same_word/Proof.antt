@@ -4,7 +4,7 @@ use Prim.Native.Nat.{ℕ, _-_}
 use lib.ListN.{take, drop}
 use Rattle.grammar.specs.Text.{same}
 use Rattle.normal.specs.Parts.{part, part-length}
-use Rattle.normal.specs.Tests.{same-no}
+use Rattle.normal.specs.laws.Tests.{same-no}
 use borrow.Author.Needs.{needs}
 use native.Mathlib.Omega.{arith}
 use Rattle.normal.proofs.words.same_word.Statement.{statement}

@@ -3,7 +3,7 @@ use mathlib.Core.Path.{refl, sym, _∙_}
 use Prim.Native.Nat.{_+_}
 use borrow.Author.Tests.{not-true, not-false}
 use Rattle.normal.specs.Parts.{part-length}
-use Rattle.normal.specs.Leaves.{name-zero, name-end, name-long, name-by, name-some}
+use Rattle.normal.specs.laws.Leaves.{name-zero, name-end, name-long, name-by, name-some}
 use borrow.Author.Needs.{needs}
 use native.Mathlib.Omega.{arith}
 use Rattle.normal.proofs.words.source_name.Statement.{statement}

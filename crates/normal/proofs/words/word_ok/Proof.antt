@@ -6,7 +6,7 @@ use borrow.Author.Tests.{lt-ltb, le-ltb, not-true, not-false}
 use Rattle.grammar.specs.Text.{digit, digit-value}
 use Rattle.catalogue.specs.Class.{name-ok}
 use Rattle.normal.specs.Parts.{part-none}
-use Rattle.normal.specs.Leaves.{name-rules}
+use Rattle.normal.specs.laws.Leaves.{name-rules}
 use borrow.Author.Needs.{needs}
 use native.Mathlib.Omega.{arith}
 use Rattle.normal.proofs.words.word_ok.Statement.{statement}

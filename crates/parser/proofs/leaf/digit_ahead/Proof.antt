@@ -6,7 +6,7 @@ use borrow.Author.Needs.{needs}
 use lib.Dec.{ltb}
 use Rattle.grammar.specs.Text.{digit}
 use Rattle.grammar.specs.Grammar.{digit-ahead}
-use Rattle.grammar.specs.Places.{rest-some, rest-none}
+use Rattle.grammar.specs.laws.Places.{rest-some, rest-none}
 use Rattle.parser.proofs.leaf.digit_ahead.Statement.{statement}
 use Rattle.parser.proofs.leaf.digit_ahead.Tie as tie
 

@@ -6,7 +6,7 @@ use Prim.Native.Nat.{_-_}
 use Rattle.grammar.specs.Text.{b}
 use lib.ListN.{length, length-append}
 use Rattle.parser.specs.Holds.{part}
-use Rattle.parser.specs.Laws.{less, given-refines}
+use Rattle.parser.specs.laws.Laws.{less, given-refines}
 use Rattle.parser.specs.Adds.{stands-more}
 use Rattle.parser.specs.Literals.{signed, length-signed, length-part, stands-size}
 use borrow.Author.Needs.{needs}

@@ -4,7 +4,7 @@ use native.Mathlib.Omega.{arith}
 use lib.ListN.{length-append}
 use Rattle.grammar.specs.Text.{b}
 use Rattle.parser.specs.Holds.{part}
-use Rattle.parser.specs.Laws.{given-refines}
+use Rattle.parser.specs.laws.Laws.{given-refines}
 use Rattle.parser.specs.Wraps.{stands-puts}
 use Rattle.parser.specs.Adds.{stands-more}
 use Rattle.parser.specs.Literals.{length-signed, length-part, stands-bare, stands-size}

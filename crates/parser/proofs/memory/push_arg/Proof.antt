@@ -1,8 +1,8 @@
 -- `parser::memory::push_arg` makes the newest n bytes a template argument, and refuses with 10 where the table has no room. Assumes nothing.
 use native.Mathlib.Omega.{arith}
 use borrow.Author.Needs.{needs}
-use Rattle.store.specs.Entries.{entries-sized, entries-as}
-use Rattle.store.specs.Lists.{second-lent}
+use Rattle.store.specs.laws.Entries.{entries-sized, entries-as}
+use Rattle.store.specs.laws.Lists.{second-lent}
 use Rattle.parser.specs.Holds.{full, high-bytes, high-ends}
 use Rattle.parser.specs.Halves.{store-size, ends-size, fits-not, push-arg-no, pushes-by, pushes-arg}
 use Rattle.parser.proofs.memory.push_arg.Statement.{statement}

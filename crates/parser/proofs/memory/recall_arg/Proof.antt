@@ -1,10 +1,10 @@
 -- `parser::memory::recall_arg` puts template argument k on the stack, from the second halves. Assumes nothing.
 use native.Mathlib.Omega.{arith}
 use borrow.Author.Needs.{needs}
-use Rattle.store.specs.Fronts.{front-as}
-use Rattle.store.specs.Lists.{second-lent}
+use Rattle.store.specs.laws.Fronts.{front-as}
+use Rattle.store.specs.laws.Lists.{second-lent}
 use Rattle.parser.specs.Holds.{high-ends}
-use Rattle.parser.specs.Laws.{by}
+use Rattle.parser.specs.laws.Laws.{by}
 use Rattle.parser.specs.Halves.{store-size, ends-size, high-ends-size, arg-given, entry-size, entry-room}
 use Rattle.parser.proofs.memory.recall_arg.Statement.{statement}
 use Rattle.parser.proofs.memory.recall_arg.Tie as tie

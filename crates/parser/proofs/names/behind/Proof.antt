@@ -8,7 +8,7 @@ use borrow.Author.Tests.{eq-eqb, ne-eqb}
 use lib.Dec.{eqb}
 use lib.ListN.{length, drop}
 use Rattle.grammar.specs.Text.{run}
-use Rattle.parser.specs.Runs.{run-more, run-stop, run-end}
+use Rattle.parser.specs.laws.Runs.{run-more, run-stop, run-end}
 use Rattle.parser.proofs.names.behind.Statement.{statement}
 use Rattle.parser.proofs.names.behind.Tie as tie
 

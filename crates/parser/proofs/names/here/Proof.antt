@@ -1,7 +1,7 @@
 -- `parser::names::here` tells whether the byte at a place is c; past the end there is none. Assumes nothing.
 use mathlib.Core.Path.{sym}
 use borrow.Author.Needs.{needs}
-use Rattle.parser.specs.Runs.{starts-one, starts-none}
+use Rattle.parser.specs.laws.Runs.{starts-one, starts-none}
 use Rattle.parser.proofs.names.here.Statement.{statement}
 use Rattle.parser.proofs.names.here.Tie as tie
 

@@ -3,7 +3,7 @@ use mathlib.Core.Path.{sym, _∙_}
 use native.Mathlib.Omega.{arith}
 use borrow.Author.Needs.{needs}
 use Rattle.grammar.specs.Text.{if_then_else_}
-use Rattle.grammar.specs.Places.{starts-inside}
+use Rattle.grammar.specs.laws.Places.{starts-inside}
 use Rattle.parser.specs.Source.{behind-number}
 use Rattle.parser.proofs.names.numbered.Statement.{statement}
 use Rattle.parser.proofs.names.numbered.Tie as tie

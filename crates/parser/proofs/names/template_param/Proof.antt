@@ -3,8 +3,8 @@ use mathlib.Core.Path.{sym, _∙_}
 use native.Mathlib.Omega.{arith}
 use borrow.Author.Tests.{not-true, not-false}
 use Rattle.parser.specs.Holds.{refuses}
-use Rattle.parser.specs.Laws.{by}
-use Rattle.grammar.specs.Places.{starts-inside}
+use Rattle.parser.specs.laws.Laws.{by}
+use Rattle.grammar.specs.laws.Places.{starts-inside}
 use Rattle.parser.specs.Adds.{reads-moved, ready-moved}
 use Rattle.parser.specs.References.{index-none, index-some, param-none, param-open, param-past, param-given}
 use borrow.Author.Needs.{needs}

@@ -4,13 +4,13 @@ use mathlib.Core.Path.{refl, sym, ap, _∙_}
 use Prim.Native.Nat.{ℕ, _+_}
 use lib.ListN.{drop}
 use Rattle.grammar.specs.Reader.{give}
-use Rattle.grammar.specs.Agree.{moved}
+use Rattle.grammar.specs.laws.Agree.{moved}
 use Rattle.parser.specs.Holds.{refuses}
-use Rattle.parser.specs.Laws.{by, holds-moved}
+use Rattle.parser.specs.laws.Laws.{by, holds-moved}
 use Rattle.parser.specs.Halves.{wrote-one}
 use Rattle.parser.specs.Adds.{stack-by, puts-from}
 use Rattle.parser.specs.Source.{behind-number, number-more}
-use Rattle.parser.specs.Unnamed.{lambda, no-name, unnamed-end, unnamed-open, unnamed-lambda, unnamed-other}
+use Rattle.parser.specs.laws.Unnamed.{lambda, no-name, unnamed-end, unnamed-open, unnamed-lambda, unnamed-other}
 use borrow.Author.Needs.{needs}
 use Rattle.parser.proofs.names.unnamed_type_name.Statement.{statement}
 use Rattle.parser.proofs.names.unnamed_type_name.Tie as tie

@@ -10,11 +10,11 @@ use lib.Seq.{drop-drop}
 use Rattle.grammar.specs.Text.{Text, b, if_then_else_, choose, starts}
 use Rattle.grammar.specs.Tables.{d-letters}
 use Rattle.grammar.specs.Reader.{State, Reader, refused, refuse, by-code, find, word-for, onto, go-to, give}
-use Rattle.grammar.specs.Agree.{moved}
-use Rattle.grammar.specs.Finds.{by-word, all-of}
+use Rattle.grammar.specs.laws.Agree.{moved}
+use Rattle.grammar.specs.laws.Finds.{by-word, all-of}
 use Rattle.parser.specs.Holds.{refuses}
-use Rattle.grammar.specs.Places.{rest-some, rest-none}
-use Rattle.parser.specs.Laws.{by, sooner, holds-moved}
+use Rattle.grammar.specs.laws.Places.{rest-some, rest-none}
+use Rattle.parser.specs.laws.Laws.{by, sooner, holds-moved}
 use Rattle.parser.specs.Wraps.{picked-at, picked-none, reads-at}
 use Rattle.parser.proofs.types.builtin_d.Statement.{statement}
 use Rattle.parser.proofs.types.builtin_d.Tie as tie

@@ -11,11 +11,11 @@ use Rattle.grammar.specs.Tables.{wrappers}
 use Rattle.grammar.specs.Reader.{find, word-for, recorded}
 use Rattle.grammar.specs.Grammar.{at-slots}
 use Rattle.grammar.specs.Words.{spelled, behind-type, at-slot}
-use Rattle.grammar.specs.Finds.{by-pair, all-of}
+use Rattle.grammar.specs.laws.Finds.{by-pair, all-of}
 use Rattle.grammar.proofs.Lookups.{length-spelled}
 use Rattle.store.specs.Stack.{slots-in}
-use Rattle.store.specs.Lists.{drop-take}
-use Rattle.parser.specs.Laws.{by, holds-puts}
+use Rattle.store.specs.laws.Lists.{drop-take}
+use Rattle.parser.specs.laws.Laws.{by, holds-puts}
 use Rattle.parser.specs.Halves.{newest-part}
 use Rattle.parser.specs.Wraps.{Wrapper, picked-at, picked-none, some-is, some-not, puts-top, stands-puts, behind, inside}
 use Rattle.parser.proofs.types.wrap.Statement.{statement}

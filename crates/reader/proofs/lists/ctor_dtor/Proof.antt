@@ -9,7 +9,7 @@ use lib.ListN.{length}
 use Rattle.parser.specs.Wraps.{puts-top}
 use Rattle.reader.specs.declared.lists.Parts.{Parts}
 use Rattle.reader.specs.Lists.{before-part}
-use Rattle.reader.specs.Joined.{colons-size}
+use Rattle.reader.specs.laws.Joined.{colons-size}
 use Rattle.reader.specs.Structors.{tilde-size, structor-long, structor-named, exact, between, again-room}
 
 returns : tie.Need-returns

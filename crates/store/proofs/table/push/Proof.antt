@@ -5,7 +5,7 @@ use Prim.Native.Nat.{_-_}
 use native.Mathlib.Omega.{arith}
 use lib.ListN.{drop, length-drop}
 use lib.Seq.{length-take-le}
-use Rattle.store.specs.Entries.{pushed}
+use Rattle.store.specs.laws.Entries.{pushed}
 use borrow.Author.Needs.{needs}
 use Rattle.store.proofs.table.push.Statement.{statement}
 use Rattle.store.proofs.table.push.Tie as tie

@@ -1,6 +1,6 @@
 -- `symbols::entry::accepted` meets its contract: the name fits. Assumes nothing.
 use native.Mathlib.Omega.{arith}
-use Rattle.symbols.specs.Answers.{number-is}
+use Rattle.symbols.specs.laws.Answers.{number-is}
 use borrow.Author.Needs.{needs}
 use Rattle.symbols.proofs.entry.accepted.Statement.{statement}
 use Rattle.symbols.proofs.entry.accepted.Tie as tie

@@ -3,7 +3,7 @@ use mathlib.Core.Path.{ap, _∙_}
 use native.Mathlib.Omega.{arith}
 use Rattle.store.specs.Stack.{zeros}
 use Rattle.names.specs.Outcome.{slices}
-use Rattle.symbols.specs.Answers.{told-normalizes}
+use Rattle.symbols.specs.laws.Answers.{told-normalizes}
 use borrow.Author.Needs.{needs}
 use Rattle.symbols.proofs.entry.normalize.Statement.{statement}
 use Rattle.symbols.proofs.entry.normalize.Tie as tie

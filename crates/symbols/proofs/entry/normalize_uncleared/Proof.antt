@@ -3,8 +3,8 @@ use mathlib.Core.Path.{sym, _∙_}
 use native.Mathlib.Omega.{arith}
 use borrow.Author.Tests.{not-true, not-false}
 use Rattle.names.specs.Outcome.{slices}
-use Rattle.names.specs.Told.{front-inside}
-use Rattle.symbols.specs.Answers.{fit-long, front-refuses, front-short, reading-refuses, reading-accepts}
+use Rattle.names.specs.laws.Told.{front-inside}
+use Rattle.symbols.specs.laws.Answers.{fit-long, front-refuses, front-short, reading-refuses, reading-accepts}
 use borrow.Author.Needs.{needs}
 use Rattle.symbols.proofs.entry.normalize_uncleared.Statement.{statement}
 use Rattle.symbols.proofs.entry.normalize_uncleared.Tie as tie

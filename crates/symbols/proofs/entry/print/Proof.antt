@@ -3,7 +3,7 @@ use mathlib.Core.Path.{sym}
 use native.Mathlib.Omega.{arith}
 use lib.ListN.{take}
 use lib.Seq.{length-take-le}
-use Rattle.symbols.specs.Answers.{told-13, told-12, told-name}
+use Rattle.symbols.specs.laws.Answers.{told-13, told-12, told-name}
 use borrow.Author.Needs.{needs}
 use Rattle.symbols.proofs.entry.print.Statement.{statement}
 use Rattle.symbols.proofs.entry.print.Tie as tie

@@ -1,6 +1,6 @@
 -- `symbols::entry::write` meets its contract: outside the class, or written and printed. Assumes nothing.
-use Rattle.symbols.specs.Written.{not-written, was-written, written-fits, written-is}
-use Rattle.symbols.specs.Answers.{told-6, told-normal}
+use Rattle.symbols.specs.laws.Written.{not-written, was-written, written-fits, written-is}
+use Rattle.symbols.specs.laws.Answers.{told-6, told-normal}
 use borrow.Author.Needs.{needs}
 use Rattle.symbols.proofs.entry.write.Statement.{statement}
 use Rattle.symbols.proofs.entry.write.Tie as tie

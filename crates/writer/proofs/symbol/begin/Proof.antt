@@ -1,5 +1,5 @@
 -- `writer::symbol::begin` writes the first bytes of a symbol. Assumes nothing.
-use Rattle.store.specs.Fronts.{front-none, front-paste}
+use Rattle.store.specs.laws.Fronts.{front-none, front-paste}
 use borrow.Author.Needs.{needs}
 use native.Mathlib.Omega.{arith}
 use Rattle.writer.proofs.symbol.begin.Statement.{statement}

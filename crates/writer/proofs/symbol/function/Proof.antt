@@ -1,8 +1,8 @@
 -- `writer::symbol::function` writes the name of a function. Assumes nothing.
 use mathlib.Core.Path.{sym, _∙_}
 use borrow.Author.Tests.{not-true, not-false}
-use Rattle.grammar.specs.Places.{starts-inside}
-use Rattle.writer.specs.Symbols.{function-plain, function-scoped, function-constant}
+use Rattle.grammar.specs.laws.Places.{starts-inside}
+use Rattle.writer.specs.laws.Symbols.{function-plain, function-scoped, function-constant}
 use borrow.Author.Needs.{needs}
 use native.Mathlib.Omega.{arith}
 use Rattle.writer.proofs.symbol.function.Statement.{statement}

@@ -3,7 +3,7 @@ use mathlib.Core.Path.{ap, subst, _∙_}
 use Rattle.normal.specs.States.{moved-to}
 use Rattle.normal.specs.Answers.{NameIs}
 use Rattle.normal.specs.declared.state.Writer.{Writer}
-use Rattle.writer.specs.Symbols.{plain-none, plain-size, plain-heads}
+use Rattle.writer.specs.laws.Symbols.{plain-none, plain-size, plain-heads}
 use borrow.Author.Needs.{needs}
 use native.Mathlib.Omega.{arith}
 use Rattle.writer.proofs.symbol.plain.Statement.{statement}

@@ -1,6 +1,6 @@
 -- `writer::symbol::scoped` writes a nested name behind _ZN or _ZNK. Assumes nothing.
 use borrow.Author.Tests.{not-true, not-false}
-use Rattle.writer.specs.Symbols.{begun-by, scoped-holds, scoped-none, scoped-ready, scoped-room, scoped-full, scoped-heads}
+use Rattle.writer.specs.laws.Symbols.{begun-by, scoped-holds, scoped-none, scoped-ready, scoped-room, scoped-full, scoped-heads}
 use borrow.Author.Needs.{needs}
 use Rattle.writer.proofs.symbol.scoped.Statement.{statement}
 use Rattle.writer.proofs.symbol.scoped.Tie as tie

@@ -2,7 +2,7 @@
 -- is the bytes left. Assumes nothing.
 use Prim.Native.Nat.{_-_}
 use lib.ListN.{length}
-use Rattle.writer.specs.Symbols.{Turned, turned-none, turned-from, turn-none, turn-told, turn-lit, turn-more, goes-ended, ends-broken}
+use Rattle.writer.specs.laws.Symbols.{Turned, turned-none, turned-from, turn-none, turn-told, turn-lit, turn-more, goes-ended, ends-broken}
 use borrow.Author.Needs.{needs}
 use native.Mathlib.Omega.{arith}
 use Rattle.writer.proofs.symbol.types.Statement.{statement}

@@ -5,7 +5,7 @@ use mathlib.Core.Path.{_≡_, sym, _∙_}
 use Prim.Native.Nat.{_<_}
 use lib.ListN.{length}
 use borrow.Author.Tests.{not-true, not-false}
-use Rattle.writer.specs.Symbols.{
+use Rattle.writer.specs.laws.Symbols.{
   outside-by,
   symbol-not,
   symbol-nameless,

@@ -1,6 +1,6 @@
 -- `parser::state::Parser::peek` tells the byte at the state's place, or that there is none. Assumes nothing.
 use borrow.Author.Needs.{needs}
-use Rattle.grammar.specs.Places.{rest-some, rest-none}
+use Rattle.grammar.specs.laws.Places.{rest-some, rest-none}
 use Rattle.parser.proofs.state.Parser.peek.Statement.{statement}
 use Rattle.parser.proofs.state.Parser.peek.Tie as tie
 

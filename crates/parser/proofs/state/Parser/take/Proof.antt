@@ -1,6 +1,6 @@
 -- `parser::state::Parser::take` tells the byte at the state's place with the state behind it, or that there is none. Assumes nothing.
 use borrow.Author.Needs.{needs}
-use Rattle.grammar.specs.Places.{rest-some, rest-none}
+use Rattle.grammar.specs.laws.Places.{rest-some, rest-none}
 use Rattle.parser.proofs.state.Parser.take.Statement.{statement}
 use Rattle.parser.proofs.state.Parser.take.Tie as tie
 

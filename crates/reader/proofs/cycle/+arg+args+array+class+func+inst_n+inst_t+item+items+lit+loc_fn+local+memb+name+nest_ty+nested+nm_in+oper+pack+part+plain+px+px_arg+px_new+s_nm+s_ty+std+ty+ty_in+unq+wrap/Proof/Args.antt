@@ -4,16 +4,16 @@ use Prim.Native.Nat.{ℕ}
 use borrow.Author.Tests.{not-true, not-false}
 use Rattle.parser.specs.declared.state.Parser.{Parser}
 use Rattle.parser.specs.Holds.{refuses}
-use Rattle.parser.specs.Laws.{by, holds-puts}
+use Rattle.parser.specs.laws.Laws.{by, holds-puts}
 use Rattle.parser.specs.Adds.{stack-by}
 use Rattle.parser.specs.Wraps.{stands-puts}
 use mathlib.Core.List.{[], _∷_}
 use lib.ListN.{length-append}
 use Rattle.grammar.specs.Text.{b, join}
-use Rattle.grammar.specs.Places.{starts-inside}
-use Rattle.reader.specs.Brackets.{bracket-stands, stands-top, stands-last, angled-more, angled-plain, args-given}
-use Rattle.reader.specs.Closes.{got-list, list-refused, refuses-list, closed-no, ahead-is, then-refused, args-no, args-8, args-is, args-open}
-use Rattle.reader.specs.Standing.{given-as}
+use Rattle.grammar.specs.laws.Places.{starts-inside}
+use Rattle.reader.specs.laws.Brackets.{bracket-stands, stands-top, stands-last, angled-more, angled-plain, args-given}
+use Rattle.reader.specs.laws.Closes.{got-list, list-refused, refuses-list, closed-no, ahead-is, then-refused, args-no, args-8, args-is, args-open}
+use Rattle.reader.specs.laws.Standing.{given-as}
 use borrow.Author.Needs.{needs}
 use native.Mathlib.Omega.{arith}
 use Rattle.reader.proofs.cycle.args.Reads as args

@@ -2,11 +2,11 @@
 use Prim.Native.Nat.{ℕ, _+_}
 use mathlib.Core.Path.{_∙_}
 use Rattle.parser.specs.Holds.{refuses, keep}
-use Rattle.parser.specs.Laws.{by, got, refused-on}
+use Rattle.parser.specs.laws.Laws.{by, got, refused-on}
 use Rattle.parser.specs.Adds.{ready-moved}
-use Rattle.reader.specs.Opens.{at-of, on-got, call-moved}
-use Rattle.reader.specs.Standing.{stands-at}
-use Rattle.reader.specs.Arrays.{array-4, array-in, array-given, part-size}
+use Rattle.reader.specs.laws.Opens.{at-of, on-got, call-moved}
+use Rattle.reader.specs.laws.Standing.{stands-at}
+use Rattle.reader.specs.laws.Arrays.{array-4, array-in, array-given, part-size}
 use borrow.Author.Needs.{needs}
 use native.Mathlib.Omega.{arith}
 use Rattle.reader.proofs.cycle.array.Reads as array

@@ -1,14 +1,14 @@
 -- The answers of `reader::cycle::inst_n`.
 -- Assumes nothing.
 use mathlib.Core.Bool.{true}
-use Rattle.reader.specs.Standing.{stands-templated, joined, wrote-least}
+use Rattle.reader.specs.laws.Standing.{stands-templated, joined, wrote-least}
 use mathlib.Core.List.{[], _++_}
 use mathlib.Core.Path.{_≡_, refl, ap, _∙_}
 use Rattle.grammar.specs.Text.{Text}
 use Rattle.grammar.specs.Reader.{State, onto, set-args, set-templated, recorded}
 use Rattle.grammar.specs.Grammar.{reading, ⟨template-args⟩, name-args, name-instance}
 use Rattle.parser.specs.declared.state.Parser.{Parser}
-use Rattle.parser.specs.Laws.{by, by-state, got, refused-on, sooner, with-templated, holds-templated}
+use Rattle.parser.specs.laws.Laws.{by, by-state, got, refused-on, sooner, with-templated, holds-templated}
 use Rattle.parser.specs.Halves.{with-args}
 use Rattle.reader.proofs.cycle.+arg+args+array+class+func+inst_n+inst_t+item+items+lit+loc_fn+local+memb+name+nest_ty+nested+nm_in+oper+pack+part+plain+px+px_arg+px_new+s_nm+s_ty+std+ty+ty_in+unq+wrap.Proof.LawsJoin.{stands-args}
 use Prim.Native.Nat.{ℕ}

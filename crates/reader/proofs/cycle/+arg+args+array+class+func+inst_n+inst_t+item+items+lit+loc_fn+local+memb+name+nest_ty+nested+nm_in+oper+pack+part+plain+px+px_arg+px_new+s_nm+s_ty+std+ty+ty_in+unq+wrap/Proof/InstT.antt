@@ -1,11 +1,11 @@
 -- The answers of `reader::cycle::inst_t`.
 -- Assumes nothing.
 use mathlib.Core.List.{_++_}
-use Rattle.reader.specs.Standing.{joined, wrote-least}
+use Rattle.reader.specs.laws.Standing.{joined, wrote-least}
 use mathlib.Core.Path.{ap}
 use Rattle.grammar.specs.Reader.{onto, recorded}
 use Rattle.grammar.specs.Grammar.{type-instance}
-use Rattle.parser.specs.Laws.{by, got, refused-on}
+use Rattle.parser.specs.laws.Laws.{by, got, refused-on}
 use Prim.Native.Nat.{ℕ}
 use borrow.Author.Needs.{needs}
 use native.Mathlib.Omega.{arith}

@@ -7,10 +7,10 @@ use denote.Enum.Declared
 use types.Run
 use Rattle.reader.proofs.lists.Kind as kind-type
 use Rattle.parser.specs.Halves.{newest-part}
-use Rattle.parser.specs.Laws.{got, stands}
+use Rattle.parser.specs.laws.Laws.{got, stands}
 use Rattle.reader.specs.declared.lists.Kind.{Kind}
 use Rattle.reader.specs.declared.lists.Kind.the-variants.{Parameters, Types, Arguments}
-use Rattle.reader.specs.Items.{by-kind, argument-refused, argument-pushed}
+use Rattle.reader.specs.laws.Items.{by-kind, argument-refused, argument-pushed}
 use borrow.Author.Needs.{needs}
 use native.Mathlib.Omega.{arith}
 use Rattle.reader.proofs.cycle.item.Reads as item

@@ -11,10 +11,10 @@ use Rattle.parser.specs.declared.state.Read.{Read}
 use Rattle.parser.specs.declared.state.Read.the-variants.{Text as read, Refused}
 use Rattle.parser.specs.States.{subs-to, args-to}
 use Rattle.parser.specs.Holds.{Memory, mem, Holds, Wrote, Stands, Refines, refuses, Pushes, pushed, full, keep}
-use Rattle.parser.specs.Laws.{sooner, less, stands}
+use Rattle.parser.specs.laws.Laws.{sooner, less, stands}
 use Rattle.parser.specs.Halves.{with-args, newest-part}
 use Rattle.reader.specs.Cycle.{Instance}
-use Rattle.reader.specs.Standing.{stands-kept}
+use Rattle.reader.specs.laws.Standing.{stands-kept}
 
 -- a text of n bytes was pushed, and it stands in the state that the push hands back
 pub record Kept (k d : ℕ) (s base : Text) (from : ℕ) (m : Memory) (q : Parser) (j n : ℕ) (t : Text) (f : Result (Unit {0})) : Type 0 where

@@ -5,8 +5,8 @@ use borrow.Author.Tests.{not-true, not-false}
 use Rattle.grammar.specs.Text.{b}
 use Rattle.parser.specs.declared.state.Parser.{Parser}
 use Rattle.parser.specs.Adds.{stack-by}
-use Rattle.grammar.specs.Places.{starts-inside}
-use Rattle.reader.specs.LocFns.{fn-refused, fn-got, fn-bare, fn-items-ready, fn-items-refused, fn-listing, fn-long, fn-open, fn-given}
+use Rattle.grammar.specs.laws.Places.{starts-inside}
+use Rattle.reader.specs.laws.LocFns.{fn-refused, fn-got, fn-bare, fn-items-ready, fn-items-refused, fn-listing, fn-long, fn-open, fn-given}
 use Prim.Native.Nat.{ℕ}
 use borrow.Author.Needs.{needs}
 use native.Mathlib.Omega.{arith}

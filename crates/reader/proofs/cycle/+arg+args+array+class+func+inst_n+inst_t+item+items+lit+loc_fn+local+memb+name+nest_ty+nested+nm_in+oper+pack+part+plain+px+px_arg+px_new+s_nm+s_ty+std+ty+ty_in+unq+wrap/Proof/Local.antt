@@ -5,10 +5,10 @@ use borrow.Author.Tests.{not-true, not-false}
 use Rattle.grammar.specs.Text.{b}
 use Rattle.parser.specs.declared.state.Parser.{Parser}
 use Rattle.parser.specs.Holds.{refuses}
-use Rattle.parser.specs.Laws.{by}
+use Rattle.parser.specs.laws.Laws.{by}
 use Rattle.parser.specs.Adds.{stack-by}
-use Rattle.grammar.specs.Places.{starts-inside}
-use Rattle.reader.specs.Lits.{local-none, local-ready, local-refused, local-got, local-string, local-name-ready, local-name-refused, local-name-got, local-given}
+use Rattle.grammar.specs.laws.Places.{starts-inside}
+use Rattle.reader.specs.laws.Lits.{local-none, local-ready, local-refused, local-got, local-string, local-name-ready, local-name-refused, local-name-got, local-given}
 use Prim.Native.Nat.{ℕ}
 use borrow.Author.Needs.{needs}
 use native.Mathlib.Omega.{arith}

@@ -2,9 +2,9 @@
 use Prim.Native.Nat.{ℕ}
 use mathlib.Core.Path.{sym, _∙_}
 use Rattle.parser.specs.Holds.{keep}
-use Rattle.parser.specs.Laws.{by, got, refused-on}
-use Rattle.reader.specs.Opens.{on-got, member-is}
-use Rattle.reader.specs.Standing.{stands-both}
+use Rattle.parser.specs.laws.Laws.{by, got, refused-on}
+use Rattle.reader.specs.laws.Opens.{on-got, member-is}
+use Rattle.reader.specs.laws.Standing.{stands-both}
 use Rattle.parser.specs.Halves.{newest-part}
 use lib.ListN.{length-append}
 use borrow.Author.Needs.{needs}

@@ -6,7 +6,7 @@ use Rattle.grammar.specs.Text.{Text, same, choose, if_then_else_}
 use Rattle.grammar.specs.Reader.{State, ok, onto, recorded}
 use Rattle.grammar.specs.Grammar.{reading, ⟨nested-name⟩, nested-type, last}
 use Rattle.parser.specs.Holds.{reads}
-use Rattle.parser.specs.Laws.{by, got, refused-on}
+use Rattle.parser.specs.laws.Laws.{by, got, refused-on}
 use Rattle.reader.proofs.cycle.+arg+args+array+class+func+inst_n+inst_t+item+items+lit+loc_fn+local+memb+name+nest_ty+nested+nm_in+oper+pack+part+plain+px+px_arg+px_new+s_nm+s_ty+std+ty+ty_in+unq+wrap.Proof.LawsJoin.{stood, stands-top}
 use Prim.Native.Nat.{ℕ}
 use borrow.Author.Needs.{needs}

@@ -8,14 +8,14 @@ use lib.ListN.{length, drop}
 use Rattle.grammar.specs.Text.{starts}
 use Rattle.grammar.specs.Reader.{State, onto}
 use Rattle.grammar.specs.Grammar.{reading, ⟨nested-name⟩}
-use Rattle.grammar.specs.Agree.{moved}
+use Rattle.grammar.specs.laws.Agree.{moved}
 use Rattle.grammar.specs.Loops.{closed}
 use Rattle.parser.specs.declared.state.Parser.{Parser}
 use Rattle.parser.specs.Holds.{mem, part, Holds, refuses, given-of}
 use Rattle.parser.specs.States.{cv-to, templated-to}
-use Rattle.grammar.specs.Places.{starts-inside}
-use Rattle.parser.specs.Laws.{by-state, holds-moved, by}
-use Rattle.reader.specs.Nested.{no-parts, prefixes, named, nested-4, nested-open, from-start, Prefixing, prefixing-start, prefixing-more, prefixed-more, ready-for, prefixed-4, prefixed-E, prefixed-refuses, further}
+use Rattle.grammar.specs.laws.Places.{starts-inside}
+use Rattle.parser.specs.laws.Laws.{by-state, holds-moved, by}
+use Rattle.reader.specs.laws.Nested.{no-parts, prefixes, named, nested-4, nested-open, from-start, Prefixing, prefixing-start, prefixing-more, prefixed-more, ready-for, prefixed-4, prefixed-E, prefixed-refuses, further}
 use borrow.Author.Needs.{needs}
 use native.Mathlib.Omega.{arith}
 use Rattle.reader.proofs.cycle.nested.Reads as nested

@@ -1,13 +1,13 @@
 -- The answers of `nm_in`. Assumes nothing.
 use Prim.Native.Nat.{ℕ, _+_}
 use Rattle.grammar.specs.Grammar.{reading, ⟨nested-name⟩, name-inner, s-name, local-name, unscoped-name}
-use Rattle.grammar.specs.Steps.{from-text, same-from}
-use Rattle.grammar.specs.NameSteps.{name-N, name-S, name-L, name-Z, name-other, name-end}
+use Rattle.grammar.specs.laws.Steps.{from-text, same-from}
+use Rattle.grammar.specs.laws.NameSteps.{name-N, name-S, name-L, name-Z, name-other, name-end}
 use Rattle.parser.specs.Holds.{refuses, keep}
-use Rattle.parser.specs.Laws.{by, less, sooner}
+use Rattle.parser.specs.laws.Laws.{by, less, sooner}
 use Rattle.parser.specs.Adds.{ready-moved}
-use Rattle.reader.specs.Opens.{at-of, call-moved}
-use Rattle.reader.specs.Arrays.{byte-at, byte-is, byte-inside, no-byte, no-name-code}
+use Rattle.reader.specs.laws.Opens.{at-of, call-moved}
+use Rattle.reader.specs.laws.Arrays.{byte-at, byte-is, byte-inside, no-byte, no-name-code}
 use mathlib.Core.List.{[]}
 use borrow.Author.Needs.{needs}
 use native.Mathlib.Omega.{arith}

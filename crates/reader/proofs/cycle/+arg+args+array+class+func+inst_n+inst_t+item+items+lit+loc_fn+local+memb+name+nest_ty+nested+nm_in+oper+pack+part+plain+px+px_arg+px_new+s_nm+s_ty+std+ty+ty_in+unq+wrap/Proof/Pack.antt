@@ -5,9 +5,9 @@ use lib.ListN.{length, drop, getD, length-set}
 use Rattle.parser.specs.declared.state.Parser.{Parser}
 use Rattle.parser.specs.declared.state.Peeked.the-variants as peeked-as
 use Rattle.parser.specs.Holds.{mem, refuses}
-use Rattle.parser.specs.Laws.{by, holds-puts}
+use Rattle.parser.specs.laws.Laws.{by, holds-puts}
 use Rattle.parser.specs.States.{peeked}
-use Rattle.reader.specs.Packs.{
+use Rattle.reader.specs.laws.Packs.{
   Packing,
   packing,
   packing-start,

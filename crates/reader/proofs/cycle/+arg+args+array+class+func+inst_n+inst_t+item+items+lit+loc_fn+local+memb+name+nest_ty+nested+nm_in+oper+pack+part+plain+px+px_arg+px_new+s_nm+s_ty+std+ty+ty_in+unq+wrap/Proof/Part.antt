@@ -4,8 +4,8 @@ use Prim.Native.Nat.{ℕ}
 use borrow.Author.Needs.{needs}
 use native.Mathlib.Omega.{arith}
 use Rattle.grammar.specs.Grammar.{Production, reading}
-use Rattle.parser.specs.Laws.{by, less}
-use Rattle.reader.specs.Joined.{part-T, part-other, part-digit}
+use Rattle.parser.specs.laws.Laws.{by, less}
+use Rattle.reader.specs.laws.Joined.{part-T, part-other, part-digit}
 use Rattle.reader.proofs.cycle.part.Reads as part
 use Rattle.reader.proofs.cycle.+arg+args+array+class+func+inst_n+inst_t+item+items+lit+loc_fn+local+memb+name+nest_ty+nested+nm_in+oper+pack+part+plain+px+px_arg+px_new+s_nm+s_ty+std+ty+ty_in+unq+wrap.Lts-part as lts
 use Rattle.reader.proofs.cycle.+arg+args+array+class+func+inst_n+inst_t+item+items+lit+loc_fn+local+memb+name+nest_ty+nested+nm_in+oper+pack+part+plain+px+px_arg+px_new+s_nm+s_ty+std+ty+ty_in+unq+wrap.Proof.Cycle.{part-at, part-calls}

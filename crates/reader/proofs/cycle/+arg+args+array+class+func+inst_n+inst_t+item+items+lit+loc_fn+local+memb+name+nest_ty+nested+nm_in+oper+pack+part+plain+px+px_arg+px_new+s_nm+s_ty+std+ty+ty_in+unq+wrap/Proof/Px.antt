@@ -6,12 +6,12 @@ use borrow.Author.Needs.{needs}
 use native.Mathlib.Omega.{arith}
 use Rattle.grammar.specs.Text.{Text}
 use Rattle.grammar.specs.Grammar.{structor-ahead}
-use Rattle.parser.specs.Laws.{holds-puts, got}
+use Rattle.parser.specs.laws.Laws.{holds-puts, got}
 use Rattle.parser.specs.declared.state.Parser.{Parser}
 use Rattle.reader.specs.Lists.{parted}
-use Rattle.reader.specs.Closes.{then-ok}
-use Rattle.reader.specs.Joined.{parted-more, parted-as, parts-by, unread-on, old-is, prefix-structor, prefix-S, prefix-I, prefix-new, two-bytes}
-use Rattle.reader.specs.Standing.{fewer}
+use Rattle.reader.specs.laws.Closes.{then-ok}
+use Rattle.reader.specs.laws.Joined.{parted-more, parted-as, parts-by, unread-on, old-is, prefix-structor, prefix-S, prefix-I, prefix-new, two-bytes}
+use Rattle.reader.specs.laws.Standing.{fewer}
 use Rattle.reader.proofs.cycle.px.Reads as px
 use Rattle.reader.proofs.cycle.+arg+args+array+class+func+inst_n+inst_t+item+items+lit+loc_fn+local+memb+name+nest_ty+nested+nm_in+oper+pack+part+plain+px+px_arg+px_new+s_nm+s_ty+std+ty+ty_in+unq+wrap.Lts-px as lts
 use Rattle.reader.proofs.cycle.+arg+args+array+class+func+inst_n+inst_t+item+items+lit+loc_fn+local+memb+name+nest_ty+nested+nm_in+oper+pack+part+plain+px+px_arg+px_new+s_nm+s_ty+std+ty+ty_in+unq+wrap.Proof.Cycle.{px-at, px-calls}

@@ -5,14 +5,14 @@ use Prim.Native.Nat.{ℕ, _<_}
 use borrow.Author.Needs.{needs}
 use native.Mathlib.Omega.{arith}
 use lib.ListN.{length}
-use Rattle.parser.specs.Laws.{got}
+use Rattle.parser.specs.laws.Laws.{got}
 use Rattle.parser.specs.Halves.{with-args}
 use Rattle.parser.specs.declared.state.Parser.{Parser}
 use Rattle.reader.specs.Lists.{unparted}
-use Rattle.reader.specs.Closes.{then-ok}
-use Rattle.reader.specs.Joined.{parts-by, pushes-alike, unread-on, unpushed-on}
-use Rattle.reader.specs.Argued.{Ended, After, args-is, after-none, after-some, argued-parts, args-pushed}
-use Rattle.reader.specs.Standing.{wrote-least}
+use Rattle.reader.specs.laws.Closes.{then-ok}
+use Rattle.reader.specs.laws.Joined.{parts-by, pushes-alike, unread-on, unpushed-on}
+use Rattle.reader.specs.laws.Argued.{Ended, After, args-is, after-none, after-some, argued-parts, args-pushed}
+use Rattle.reader.specs.laws.Standing.{wrote-least}
 use Rattle.reader.proofs.cycle.px_arg.Reads as px-arg
 use Rattle.reader.proofs.cycle.+arg+args+array+class+func+inst_n+inst_t+item+items+lit+loc_fn+local+memb+name+nest_ty+nested+nm_in+oper+pack+part+plain+px+px_arg+px_new+s_nm+s_ty+std+ty+ty_in+unq+wrap.Lts-px_arg as lts
 use Rattle.reader.proofs.cycle.+arg+args+array+class+func+inst_n+inst_t+item+items+lit+loc_fn+local+memb+name+nest_ty+nested+nm_in+oper+pack+part+plain+px+px_arg+px_new+s_nm+s_ty+std+ty+ty_in+unq+wrap.Proof.Cycle.{px-arg-at, px-arg-calls}

@@ -4,12 +4,12 @@ use Prim.Native.Nat.{ℕ}
 use borrow.Author.Needs.{needs}
 use native.Mathlib.Omega.{arith}
 use Rattle.grammar.specs.Text.{b}
-use Rattle.parser.specs.Laws.{holds-puts, got}
+use Rattle.parser.specs.laws.Laws.{holds-puts, got}
 use Rattle.parser.specs.declared.state.Parser.{Parser}
 use Rattle.reader.specs.declared.lists.Parts.{Parts}
 use Rattle.reader.specs.Lists.{parted}
-use Rattle.reader.specs.Closes.{ahead-is, then-ok}
-use Rattle.reader.specs.Joined.{parted-more, parted-as, pushes-alike, parts-by, unread-on, unpushed-on, pushed-on, Behind, new-is, behind-last, behind-more, more-top}
+use Rattle.reader.specs.laws.Closes.{ahead-is, then-ok}
+use Rattle.reader.specs.laws.Joined.{parted-more, parted-as, pushes-alike, parts-by, unread-on, unpushed-on, pushed-on, Behind, new-is, behind-last, behind-more, more-top}
 use Rattle.reader.proofs.cycle.px_new.Reads as px-new
 use Rattle.reader.proofs.cycle.+arg+args+array+class+func+inst_n+inst_t+item+items+lit+loc_fn+local+memb+name+nest_ty+nested+nm_in+oper+pack+part+plain+px+px_arg+px_new+s_nm+s_ty+std+ty+ty_in+unq+wrap.Lts-px_new as lts
 use Rattle.reader.proofs.cycle.+arg+args+array+class+func+inst_n+inst_t+item+items+lit+loc_fn+local+memb+name+nest_ty+nested+nm_in+oper+pack+part+plain+px+px_arg+px_new+s_nm+s_ty+std+ty+ty_in+unq+wrap.Proof.Cycle.{px-new-at, px-new-calls}

@@ -3,10 +3,10 @@
 use mathlib.Core.Path.{ap, sym, _∙_}
 use Rattle.grammar.specs.Text.{b, starts}
 use Rattle.grammar.specs.Grammar.{reading, std-ahead, s-type, type-instance}
-use Rattle.grammar.specs.Steps.{at-code-yes, at-code-no}
-use Rattle.reader.specs.Opens.{s-type-is, s-std, s-sub, s-sub-read}
+use Rattle.grammar.specs.laws.Steps.{at-code-yes, at-code-no}
+use Rattle.reader.specs.laws.Opens.{s-type-is, s-std, s-sub, s-sub-read}
 use Rattle.parser.specs.Holds.{reads}
-use Rattle.parser.specs.Laws.{by, got, refused-on}
+use Rattle.parser.specs.laws.Laws.{by, got, refused-on}
 use Rattle.reader.proofs.cycle.+arg+args+array+class+func+inst_n+inst_t+item+items+lit+loc_fn+local+memb+name+nest_ty+nested+nm_in+oper+pack+part+plain+px+px_arg+px_new+s_nm+s_ty+std+ty+ty_in+unq+wrap.Proof.LawsJoin.{narrow, stood, stands-top, instance-at}
 use Prim.Native.Nat.{ℕ}
 use borrow.Author.Needs.{needs}

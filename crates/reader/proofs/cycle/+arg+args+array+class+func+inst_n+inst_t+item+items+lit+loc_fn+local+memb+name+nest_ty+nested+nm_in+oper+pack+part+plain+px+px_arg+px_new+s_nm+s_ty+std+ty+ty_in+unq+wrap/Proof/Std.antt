@@ -9,13 +9,13 @@ use Rattle.grammar.specs.Text.{Text, b, starts}
 use Rattle.grammar.specs.Tables.{_⇒_}
 use Rattle.grammar.specs.Reader.{State, Reader, onto, push-sub, give, at-code}
 use Rattle.grammar.specs.Grammar.{reading, ⟨unqualified-name⟩, std-ahead, std-name, name-instance}
-use Rattle.grammar.specs.Agree.{moved}
-use Rattle.grammar.specs.Steps.{at-code-yes, at-code-no}
-use Rattle.parser.specs.Laws.{by, got, refused-on}
+use Rattle.grammar.specs.laws.Agree.{moved}
+use Rattle.grammar.specs.laws.Steps.{at-code-yes, at-code-no}
+use Rattle.parser.specs.laws.Laws.{by, got, refused-on}
 use Rattle.parser.specs.Adds.{stack-by, puts-at}
-use Rattle.parser.specs.Runs.{need-here}
+use Rattle.parser.specs.laws.Runs.{need-here}
 use Rattle.reader.proofs.cycle.+arg+args+array+class+func+inst_n+inst_t+item+items+lit+loc_fn+local+memb+name+nest_ty+nested+nm_in+oper+pack+part+plain+px+px_arg+px_new+s_nm+s_ty+std+ty+ty_in+unq+wrap.Proof.LawsJoin.{kept, push-refused, stands-top, instance-at}
-use Rattle.reader.specs.Standing.{given-as, word-holds, word-joined}
+use Rattle.reader.specs.laws.Standing.{given-as, word-holds, word-joined}
 use Prim.Native.Nat.{ℕ}
 use borrow.Author.Needs.{needs}
 use native.Mathlib.Omega.{arith}

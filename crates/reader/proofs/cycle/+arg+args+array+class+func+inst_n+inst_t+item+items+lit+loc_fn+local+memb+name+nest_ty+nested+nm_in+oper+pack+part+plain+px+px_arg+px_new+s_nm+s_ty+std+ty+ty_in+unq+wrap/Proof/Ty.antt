@@ -1,7 +1,7 @@
 -- The answers of `ty`. Assumes nothing.
 use Prim.Native.Nat.{ℕ}
 use Rattle.grammar.specs.Grammar.{reading, ⟨type⟩, type-inner}
-use Rattle.reader.specs.Opens.{at-of, ready-entered, too-deep, still-refused, left-again, type-opens}
+use Rattle.reader.specs.laws.Opens.{at-of, ready-entered, too-deep, still-refused, left-again, type-opens}
 use borrow.Author.Needs.{needs}
 use native.Mathlib.Omega.{arith}
 use Rattle.reader.proofs.cycle.ty.Reads as ty

@@ -5,14 +5,14 @@ use Rattle.grammar.specs.Text.{b}
 use Rattle.grammar.specs.Tables.{d-letters}
 use Rattle.grammar.specs.Reader.{by-code, give, refused}
 use Rattle.grammar.specs.Grammar.{reading, ⟨template-param⟩, type-inner, nested-type, s-type, class-type}
-use Rattle.grammar.specs.Steps.{from-text, same-from, inner-end, inner-letter, inner-A, inner-F, inner-M, inner-D, inner-u, inner-N, inner-T, inner-S, inner-class, inner-wrapper, inner-4}
+use Rattle.grammar.specs.laws.Steps.{from-text, same-from, inner-end, inner-letter, inner-A, inner-F, inner-M, inner-D, inner-u, inner-N, inner-T, inner-S, inner-class, inner-wrapper, inner-4}
 use Rattle.parser.specs.Holds.{refuses, keep}
-use Rattle.parser.specs.Laws.{by, less, sooner}
+use Rattle.parser.specs.laws.Laws.{by, less, sooner}
 use Rattle.parser.specs.Adds.{ready-moved, reads-moved, stack-by}
 use Rattle.parser.specs.Wraps.{picked-at}
-use Rattle.reader.specs.Opens.{at-of, call-moved}
-use Rattle.reader.specs.Arrays.{byte-at, byte-is, byte-inside, no-byte}
-use Rattle.reader.specs.Heads.{no-letter, either, lettered-row, between-row, no-head, digit-not}
+use Rattle.reader.specs.laws.Opens.{at-of, call-moved}
+use Rattle.reader.specs.laws.Arrays.{byte-at, byte-is, byte-inside, no-byte}
+use Rattle.reader.specs.laws.Heads.{no-letter, either, lettered-row, between-row, no-head, digit-not}
 use borrow.Author.Needs.{needs}
 use native.Mathlib.Omega.{arith}
 use Rattle.reader.proofs.cycle.ty_in.Reads as ty-in

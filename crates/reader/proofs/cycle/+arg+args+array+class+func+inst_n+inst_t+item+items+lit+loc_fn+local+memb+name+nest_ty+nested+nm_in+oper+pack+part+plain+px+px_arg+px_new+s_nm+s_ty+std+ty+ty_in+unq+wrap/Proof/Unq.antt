@@ -2,11 +2,11 @@
 -- Assumes nothing.
 use mathlib.Core.Path.{refl, ap}
 use Rattle.grammar.specs.Text.{b}
-use Rattle.grammar.specs.NameSteps.{unqualified-C, unqualified-D, unqualified-C-4, unqualified-D-4}
+use Rattle.grammar.specs.laws.NameSteps.{unqualified-C, unqualified-D, unqualified-C-4, unqualified-D-4}
 use Rattle.parser.specs.declared.state.Parser.{Parser}
 use Rattle.parser.specs.Adds.{stack-by}
-use Rattle.reader.specs.Heads.{either, digit-not, digit-in}
-use Rattle.reader.specs.Opers.{unq-ready, unq-end, unq-short, unq-structor, unq-U, unq-digit, unq-operator}
+use Rattle.reader.specs.laws.Heads.{either, digit-not, digit-in}
+use Rattle.reader.specs.laws.Opers.{unq-ready, unq-end, unq-short, unq-structor, unq-U, unq-digit, unq-operator}
 use Prim.Native.Nat.{ℕ}
 use borrow.Author.Needs.{needs}
 use native.Mathlib.Omega.{arith}

@@ -1,9 +1,9 @@
 -- The answers of `wrap`. Assumes nothing.
 use Prim.Native.Nat.{ℕ}
-use Rattle.parser.specs.Laws.{by, got, refused-on}
+use Rattle.parser.specs.laws.Laws.{by, got, refused-on}
 use mathlib.Core.Path.{_∙_}
-use Rattle.reader.specs.Opens.{on-got, wrote-fits, wrapped-is}
-use Rattle.reader.specs.Standing.{stands-at}
+use Rattle.reader.specs.laws.Opens.{on-got, wrote-fits, wrapped-is}
+use Rattle.reader.specs.laws.Standing.{stands-at}
 use borrow.Author.Needs.{needs}
 use native.Mathlib.Omega.{arith}
 use Rattle.reader.proofs.cycle.wrap.Reads as wrap

@@ -3,8 +3,8 @@ use mathlib.Core.Path.{sym, _∙_}
 use Prim.Native.Nat.{ℕ, _-_}
 use lib.ListN.{length}
 use native.Mathlib.Omega.{arith}
-use Rattle.writer.specs.Loops.{nothing-yet}
-use Rattle.writer.specs.Types.{ArgsSoFar, arg-refused, arg-next, count-refused, counted-next, args-end, args-again}
+use Rattle.writer.specs.laws.Loops.{nothing-yet}
+use Rattle.writer.specs.laws.Types.{ArgsSoFar, arg-refused, arg-next, count-refused, counted-next, args-end, args-again}
 use Rattle.writer.proofs.cycle.args.Reads as args
 use Rattle.writer.proofs.cycle.+args+more+named+nested+parts+referred+ty+with_args+wrap.Lts-args as lts
 use Rattle.writer.proofs.cycle.+args+more+named+nested+parts+referred+ty+with_args+wrap.Proof.Cycle.{args-at, args-calls}

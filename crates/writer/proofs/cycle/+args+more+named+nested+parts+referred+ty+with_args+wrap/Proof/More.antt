@@ -5,10 +5,10 @@ use Prim.Native.Nat.{ℕ, _-_}
 use lib.ListN.{length}
 use borrow.Author.Tests.{not-true, not-false}
 use native.Mathlib.Omega.{arith}
-use Rattle.grammar.specs.Places.{starts-inside}
-use Rattle.normal.specs.Moves.{copied-ready}
-use Rattle.writer.specs.Types.{args-told, close-next, closed-next}
-use Rattle.writer.specs.Parts.{
+use Rattle.grammar.specs.laws.Places.{starts-inside}
+use Rattle.normal.specs.laws.Moves.{copied-ready}
+use Rattle.writer.specs.laws.Types.{args-told, close-next, closed-next}
+use Rattle.writer.specs.laws.Parts.{
   MoreSoFar,
   part-refused,
   part-next,

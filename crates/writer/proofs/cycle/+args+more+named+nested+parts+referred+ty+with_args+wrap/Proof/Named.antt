@@ -1,7 +1,7 @@
 -- The answers of `named`. Assumes nothing.
 use Prim.Native.Nat.{ℕ}
 use native.Mathlib.Omega.{arith}
-use Rattle.writer.specs.Types.{by-name, first-named, first-next, class-refused, class-answer}
+use Rattle.writer.specs.laws.Types.{by-name, first-named, first-next, class-refused, class-answer}
 use Rattle.writer.proofs.cycle.named.Reads as named
 use Rattle.writer.proofs.cycle.+args+more+named+nested+parts+referred+ty+with_args+wrap.Lts-named as lts
 use Rattle.writer.proofs.cycle.+args+more+named+nested+parts+referred+ty+with_args+wrap.Proof.Cycle.{named-at, named-calls}

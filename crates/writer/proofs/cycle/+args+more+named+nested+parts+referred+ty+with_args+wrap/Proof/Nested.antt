@@ -1,9 +1,9 @@
 -- The answers of `nested`. Assumes nothing.
 use Prim.Native.Nat.{ℕ}
 use native.Mathlib.Omega.{arith}
-use Rattle.normal.specs.Moves.{copied-ready}
-use Rattle.writer.specs.Types.{close-next, closed-next}
-use Rattle.writer.specs.Parts.{nested-refused, nested-told, nested-answer}
+use Rattle.normal.specs.laws.Moves.{copied-ready}
+use Rattle.writer.specs.laws.Types.{close-next, closed-next}
+use Rattle.writer.specs.laws.Parts.{nested-refused, nested-told, nested-answer}
 use Rattle.writer.proofs.cycle.nested.Reads as nested
 use Rattle.writer.proofs.cycle.+args+more+named+nested+parts+referred+ty+with_args+wrap.Lts-nested as lts
 use Rattle.writer.proofs.cycle.+args+more+named+nested+parts+referred+ty+with_args+wrap.Proof.Cycle.{nested-at, nested-calls}

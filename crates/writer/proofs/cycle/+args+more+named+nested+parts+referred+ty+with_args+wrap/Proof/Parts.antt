@@ -9,9 +9,9 @@ use lib.ListN.{getD}
 use Rattle.catalogue.specs.Recogniser.{lead}
 use types.Run
 use Rattle.normal.specs.Leads.{lead-is}
-use Rattle.normal.specs.Moves.{moved-ready}
-use Rattle.writer.specs.Types.{by-name, by-reference, first-named, first-referred, first-next}
-use Rattle.writer.specs.Parts.{parts-end, parts-by, parts-other, parts-unnamed, parts-named, parts-unreferred, parts-barred, parts-referred}
+use Rattle.normal.specs.laws.Moves.{moved-ready}
+use Rattle.writer.specs.laws.Types.{by-name, by-reference, first-named, first-referred, first-next}
+use Rattle.writer.specs.laws.Parts.{parts-end, parts-by, parts-other, parts-unnamed, parts-named, parts-unreferred, parts-barred, parts-referred}
 use Rattle.normal.specs.declared.lead.Lead.{Lead}
 use Rattle.normal.specs.declared.lead.Lead.the-variants.{Digit, S}
 use Rattle.normal.proofs.lead.Lead as lead-type

@@ -1,8 +1,8 @@
 -- The answers of `referred`. Assumes nothing.
 use Prim.Native.Nat.{ℕ}
 use native.Mathlib.Omega.{arith}
-use Rattle.normal.specs.Moves.{moved-ready}
-use Rattle.writer.specs.Types.{by-reference, first-referred, first-next, class-refused, class-answer}
+use Rattle.normal.specs.laws.Moves.{moved-ready}
+use Rattle.writer.specs.laws.Types.{by-reference, first-referred, first-next, class-refused, class-answer}
 use Rattle.writer.proofs.cycle.referred.Reads as referred
 use Rattle.writer.proofs.cycle.+args+more+named+nested+parts+referred+ty+with_args+wrap.Lts-referred as lts
 use Rattle.writer.proofs.cycle.+args+more+named+nested+parts+referred+ty+with_args+wrap.Proof.Cycle.{referred-at, referred-calls}

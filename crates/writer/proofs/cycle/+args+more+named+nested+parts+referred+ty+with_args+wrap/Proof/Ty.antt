@@ -2,10 +2,10 @@
 use Prim.Native.Nat.{ℕ}
 use native.Mathlib.Omega.{arith}
 use mathlib.Core.Path.{sym, _∙_}
-use Rattle.nodes.specs.Laws.{letter-below}
+use Rattle.nodes.specs.laws.Laws.{letter-below}
 use Rattle.normal.specs.Leads.{lead-is}
-use Rattle.normal.specs.Moves.{moved-ready}
-use Rattle.writer.specs.Types.{type-end, type-by, letter-answer, literal-answer, none-answer}
+use Rattle.normal.specs.laws.Moves.{moved-ready}
+use Rattle.writer.specs.laws.Types.{type-end, type-by, letter-answer, literal-answer, none-answer}
 use Rattle.normal.specs.declared.lead.Lead.the-variants.{Letter, Wrap, Digit, S, N, L, None}
 use Rattle.writer.proofs.cycle.ty.Reads as ty
 use Rattle.writer.proofs.cycle.+args+more+named+nested+parts+referred+ty+with_args+wrap.Lts-ty as lts

@@ -3,9 +3,9 @@ use Prim.Native.Nat.{ℕ}
 use native.Mathlib.Omega.{arith}
 use mathlib.Core.Path.{sym, _∙_}
 use borrow.Author.Tests.{not-true, not-false, eq-eqb, ne-eqb}
-use Rattle.grammar.specs.Places.{starts-inside}
-use Rattle.normal.specs.Moves.{copied-ready}
-use Rattle.writer.specs.Types.{args-told, close-next, closed-next, without-args, args-barred, args-refused, args-answer}
+use Rattle.grammar.specs.laws.Places.{starts-inside}
+use Rattle.normal.specs.laws.Moves.{copied-ready}
+use Rattle.writer.specs.laws.Types.{args-told, close-next, closed-next, without-args, args-barred, args-refused, args-answer}
 use Rattle.writer.proofs.cycle.with_args.Reads as with-args
 use Rattle.writer.proofs.cycle.+args+more+named+nested+parts+referred+ty+with_args+wrap.Lts-with_args as lts
 use Rattle.writer.proofs.cycle.+args+more+named+nested+parts+referred+ty+with_args+wrap.Proof.Cycle.{with-args-at, with-args-calls}

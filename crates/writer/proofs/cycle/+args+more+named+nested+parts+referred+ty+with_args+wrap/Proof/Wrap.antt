@@ -1,8 +1,8 @@
 -- The answers of `wrap`. Assumes nothing.
 use Prim.Native.Nat.{ℕ}
 use native.Mathlib.Omega.{arith}
-use Rattle.normal.specs.Moves.{copied-ready}
-use Rattle.writer.specs.Types.{wrap-refused, wrap-next, wrap-answer}
+use Rattle.normal.specs.laws.Moves.{copied-ready}
+use Rattle.writer.specs.laws.Types.{wrap-refused, wrap-next, wrap-answer}
 use Rattle.writer.proofs.cycle.wrap.Reads as wrap
 use Rattle.writer.proofs.cycle.+args+more+named+nested+parts+referred+ty+with_args+wrap.Lts-wrap as lts
 use Rattle.writer.proofs.cycle.+args+more+named+nested+parts+referred+ty+with_args+wrap.Proof.Cycle.{wrap-at, wrap-calls}

@@ -1,0 +1,22 @@
+-- Laws: propositions between definitions and code, and their proofs. Nothing here has to be believed.
+pub mod Verdict
+pub mod Letters
+pub mod Leaves
+pub mod Rooms
+pub mod Heads
+pub mod Printed
+pub mod Steps
+pub mod Pushes
+pub mod After
+pub mod TypeNodes
+pub mod Lists
+pub mod Nested
+pub mod NestedTypes
+pub mod Spellings
+pub mod Names
+pub mod Parameters
+pub mod Symbols
+pub mod Ascii
+pub mod Accepted
+pub mod NormalNames
+pub mod Examples

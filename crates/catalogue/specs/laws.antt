@@ -1,0 +1,19 @@
+-- Laws: propositions between definitions and code, and their proofs. Nothing here has to be believed.
+pub mod WellFormed
+pub mod Numbers
+pub mod Words
+pub mod NameReader
+pub mod Back
+pub mod NormalTree
+pub mod ReadsBack
+pub mod SymbolReadsBack
+pub mod Entries
+pub mod NoDoubles
+pub mod Limits
+pub mod AnySpelling
+pub mod Count
+pub mod Decision
+pub mod LowBytes
+pub mod NormalForm
+pub mod Examples
+pub mod ManyArguments

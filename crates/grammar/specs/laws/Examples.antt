@@ -1,0 +1,226 @@
+-- Symbols and their answers, proved from the definition by computation.
+use mathlib.Core.Bool.{Bool, true, false, _&&_}
+use mathlib.Core.List.{List, [], _∷_}
+use mathlib.Core.Path.{_≡_, ap}
+use lib.Dec.{T, eqb, eqb→eq}
+use Rattle.grammar.specs.Text as t
+use Rattle.grammar.specs.Tables as w
+use Rattle.grammar.specs.Reader as r
+use Rattle.grammar.specs.Grammar as g
+use Rattle.grammar.specs.Names as n
+use Rattle.grammar.specs.laws.Laws.{both, same→eq}
+use Rattle.grammar.specs.Text.{b, same}
+use Rattle.grammar.specs.Tables.{Row, _⇒_}
+use Rattle.grammar.specs.Names.{Answer, named, refusal, demangle, most-symbol-bytes}
+
+-- the proposition: each symbol of a table has the answer that stands beside it
+abbrev pub Answered : List (Row Answer) → Type 0
+Answered [] = Unit {0}
+Answered ((w ⇒ a) ∷ rows) = (demangle most-symbol-bytes (b w) ≡ a) × Answered rows
+
+-- ---------------------------------------------------------------- the tables
+
+-- document 01's starred names
+unfoldable pub starred : List (Row Answer)
+starred =
+    "_Z1fv" ⇒ named (b "f()")
+    ∷ "_Z1fv.isra.0" ⇒ named (b "f(void)")
+    ∷ "_ZNK1a1bEi" ⇒ named (b "a::b(int) const")
+    ∷ "_ZplRK1aS1_" ⇒ named (b "operator+(a const&, a const&)")
+    ∷ "_Z1fI1aIiEEvT_" ⇒ named (b "void f<a<int> >(int)")
+    ∷ "_Z1aB1bB1cv" ⇒ named (b "a[abi:b[abi:c]]()")
+    ∷ "_Z1fPFvPFicEE" ⇒ named (b "f(void (*)(int (**)(char)))")
+    ∷ "_Z1fS_" ⇒ refusal 7
+    ∷ "_Z0v" ⇒ refusal 4
+    ∷ []
+
+-- the departures that document 01 lists, by their numbers, and both sides of 96 open readings
+unfoldable pub departures : List (Row Answer)
+departures =
+    -- D-1
+    "_Z1fI1aIiEEvT0_" ⇒ named (b "void f<a<int> >(a<int>)")
+    -- D-2
+    ∷ "_Z1fIcN1aIiE1bEdEvT_T0_T1_" ⇒ named (b "void f<char, a<int>::b, double>(int, a<int>::b, double)")
+    ∷ "_Z1fIcSt1aIiEEvT_T0_" ⇒ named (b "void f<char, std::a<int> >(int, std::a<int>)")
+    -- D-3
+    ∷ "_Z1fINK1a1bEEvv" ⇒ named (b "void f<a::b>() const")
+    -- D-4
+    ∷ "_Z1fIXX!E!EEvv" ⇒ named (b "void f<...>()")
+    -- D-5
+    ∷ "_ZNUl!!E_clEv" ⇒ named (b "{lambda}::operator()()")
+    -- D-6
+    ∷ "_Z1fIL_1giEvv" ⇒ named (b "void f<g, int>()")
+    -- D-7
+    ∷ "_Z1fIiEvS0_" ⇒ named (b "void f<int>(f<int>)")
+    -- D-8
+    ∷ "_ZN1aIiE1bET_S1_" ⇒ refusal 7
+    -- D-9
+    ∷ "_Z1fA3_iS_" ⇒ refusal 7
+    -- D-10
+    ∷ "_Z1fVKiS_S0_" ⇒ named (b "f(int const volatile, int const, int const volatile)")
+    -- D-11
+    ∷ "_Z1fB1aB1bv" ⇒ named (b "f[abi:a[abi:b]]()")
+    -- D-12
+    ∷ "_Z1fPFPFvvEPFiiEE" ⇒ named (b "f(void (**)() (*)(int (**)(int)))")
+    -- D-13
+    ∷ "_ZGTtTV1a!!" ⇒ named (b "transaction clone for vtable for a")
+    ∷ "_ZGV1f!!" ⇒ named (b "guard variable for f")
+    -- D-14
+    ∷ "_Z1fDfDd" ⇒ named (b "f(_Float32, _Float64)")
+    -- 95 and 96 times P
+    ∷ "_Z1fPPPPPPPPPPPPPPPPPPPPPPPPPPPPPPPPPPPPPPPPPPPPPPPPPPPPPPPPPPPPPPPPPPPPPPPPPPPPPPPPPPPPPPPPPPPPPPPi" ⇒ named (b "f(int***********************************************************************************************)")
+    ∷ "_Z1fPPPPPPPPPPPPPPPPPPPPPPPPPPPPPPPPPPPPPPPPPPPPPPPPPPPPPPPPPPPPPPPPPPPPPPPPPPPPPPPPPPPPPPPPPPPPPPPPi" ⇒ refusal 8
+    ∷ []
+
+-- ---------------------------------------------------------------- the tables computed
+
+unfoldable pub same-answer : Answer → Answer → Bool
+same-answer (named s) (named t) = same s t
+same-answer (named s) (refusal k) = false
+same-answer (refusal k) (named t) = false
+same-answer (refusal j) (refusal k) = eqb j k
+
+-- the proposition as a test; whoever unfolds it can compute `demangle`
+unfoldable pub answered : List (Row Answer) → Bool
+unfolding
+    same-answer
+    t.b
+    t.if_then_else_
+    t.choose
+    t.same
+    t.starts
+    t.holds
+    t.ends
+    t.run
+    t.past
+    t.join
+    t.each
+    t.after-last
+    t.digit-value
+    t.digit
+    t.number
+    t.decimal
+    w.letters
+    w.d-letters
+    w.operators
+    w.labels
+    w.abbreviations
+    w.qualifiers
+    w.wrappers
+    w.suffixes
+    r.onto
+    r.start
+    r.go-to
+    r.set-subs
+    r.set-args
+    r.set-depth
+    r.set-cv
+    r.set-templated
+    r.bytes-of
+    r.fits
+    r.push-sub
+    r.push-arg
+    r.give
+    r.recorded
+    r.entered
+    r.find
+    r.word-for
+    r.by-code
+    r.at-code
+    r.see
+    r.eat
+    r.need
+    r.first
+    r.any
+    r.every
+    r.steps
+    r.while
+    r.up-to-E
+    g.at-slots
+    g.only-void
+    g.angled
+    g.last
+    g.onto-last
+    g.qualifier
+    g.class-of
+    g.literal
+    g.ended
+    g.digit-ahead
+    g.std-ahead
+    g.structor-ahead
+    g.open-after
+    g.skipped
+    g.index
+    g.unnamed-type-name
+    g.template-param
+    g.substitution
+    g.bare-function-type
+    g.function-or-data
+    g.anew
+    g.encoding
+    g.name-args
+    g.name-instance
+    g.std-name
+    g.s-name
+    g.unscoped-name
+    g.local-encoding
+    g.local-name
+    g.name-inner
+    g.name
+    g.ctor-dtor-name
+    g.old-prefix
+    g.prefix-args
+    g.new-prefix
+    g.prefix
+    g.nested-name
+    g.unqualified-name
+    g.source-name
+    g.operator-name
+    g.wrapped
+    g.function-type
+    g.array-type
+    g.pointer-to-member-type
+    g.type-instance
+    g.nested-type
+    g.class-type
+    g.s-type
+    g.type-inner
+    g.type
+    g.template-args
+    g.expression
+    g.pack
+    g.template-arg
+    g.expr-primary
+    g.production
+    g.parse
+    g.reading
+    n.without-slots
+    n.finished
+    n.high
+    n.mangled-name
+    n.front
+    n.demangle
+answered [] = true
+answered ((w ⇒ a) ∷ rows) = same-answer (demangle most-symbol-bytes (b w)) a && answered rows
+
+same-answer→eq : (a c : Answer) → T (same-answer a c) → a ≡ c
+unfolding same-answer
+same-answer→eq (named s) (named t) h = ap named (same→eq s t h)
+same-answer→eq (named s) (refusal k) h = absurd h
+same-answer→eq (refusal j) (named t) h = absurd h
+same-answer→eq (refusal j) (refusal k) h = ap refusal (eqb→eq j k h)
+
+pub by-test : (rows : List (Row Answer)) → T (answered rows) → Answered rows
+unfolding answered
+by-test [] h = tt
+by-test ((w ⇒ a) ∷ rows) h =
+    let (p, q) = both (same-answer (demangle most-symbol-bytes (b w)) a) (answered rows) h in
+    (same-answer→eq (demangle most-symbol-bytes (b w)) a p, by-test rows q)
+
+pub starred-answered : Answered starred
+unfolding answered starred
+starred-answered = by-test starred tt
+
+pub departures-answered : Answered departures
+unfolding answered departures
+departures-answered = by-test departures tt

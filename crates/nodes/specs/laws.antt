@@ -1,0 +1,7 @@
+-- Laws: propositions between definitions and code, and their proofs. Nothing here has to be believed.
+pub mod Examples
+pub mod Laws
+pub mod Numbers
+pub mod Related
+pub mod Productions
+pub mod Equal
