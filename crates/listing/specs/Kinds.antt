@@ -12,12 +12,12 @@ use Rattle.grammar.specs.Text.{Text, if_then_else_}
 use Rattle.grammar.specs.Names.{Answer, named, refusal, mangled-name, front, demangle, most-symbol-bytes, least-text, least-store, work-fits, within, answer, length-of}
 use Rattle.catalogue.specs.Recogniser.{classify}
 use Rattle.catalogue.specs.Answer.{normal-in, normal-told, normal-after, normal-symbol, normal-work-fits, normal-answer}
-use Rattle.names.specs.laws.Lengths.{short-answer, within-is, answer-is}
-use Rattle.names.specs.Outcome.{Slices, lent}
-use Rattle.names.specs.Printed.{Tells}
-use Rattle.names.specs.laws.Tells.{tells-as}
-use Rattle.names.specs.declared.entry.Answer.{Answer as Code}
-use Rattle.symbols.specs.laws.Runs.{normal-behind}
+use Rattle.demangle.specs.laws.Lengths.{short-answer, within-is, answer-is}
+use Rattle.demangle.specs.Outcome.{Slices, lent}
+use Rattle.demangle.specs.Printed.{Tells}
+use Rattle.demangle.specs.laws.Tells.{tells-as}
+use Rattle.demangle.specs.declared.entry.Answer.{Answer as Code}
+use Rattle.normalize.specs.laws.Runs.{normal-behind}
 use Rattle.listing.specs.Listing.{answer-of, least-name, least-ends-of}
 use Rattle.listing.specs.declared.listing.Kind.{Kind}
 use Rattle.listing.specs.declared.listing.Kind.the-variants.{Names, Symbols}

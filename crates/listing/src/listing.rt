@@ -1,16 +1,16 @@
 // The listing of lines: for each the number, the length and the name or the normal symbol that the symbol gets.
 use crate::feeds::line_end;
-use names::entry::Answer;
-use names::entry::clear;
-use names::entry::demangle_uncleared;
-use names::symbol;
+use demangle::entry::Answer;
+use demangle::entry::clear;
+use demangle::entry::demangle_uncleared;
+use demangle::symbol;
+use normalize::entry::normalize_uncleared;
 use store::stack;
-use symbols::entry::normalize_uncleared;
 ghost use mathlib.Core.Path.{_≡_};
 ghost use Prim.Native.Nat.{_≤_, _<_};
 ghost use lib.ListN.{length};
-ghost use Rattle.names.specs.Outcome.{slices, number-in, bytes-in};
-ghost use Rattle.names.specs.Printed.{Tells};
+ghost use Rattle.demangle.specs.Outcome.{slices, number-in, bytes-in};
+ghost use Rattle.demangle.specs.Printed.{Tells};
 ghost use Rattle.listing.specs.Listing.{line, answer-of, listing-line, fitting, lines, least-ends-of, sized, Lists};
 ghost use Rattle.listing.specs.Printed.{Digits, Heads, Printed};
 ghost use Rattle.listing.specs.Lines.{Goes};
@@ -179,7 +179,7 @@ fn least_ends(kind: Kind) -> usize
 {
     match kind {
         Kind::Names => symbol::ENDS,
-        Kind::Symbols => symbols::entry::ENDS,
+        Kind::Symbols => normalize::entry::ENDS,
     }
 }
 

@@ -2,8 +2,8 @@
 use mathlib.Core.Path.{_≡_, ap₂, _∙_}
 use Prim.Native.Nat.{ℕ}
 use Rattle.grammar.specs.Text.{Text}
-use Rattle.names.specs.declared.entry.Answer.{Answer}
-use Rattle.names.specs.Outcome.{Slices, Outcome, number-in, bytes-in}
+use Rattle.demangle.specs.declared.entry.Answer.{Answer}
+use Rattle.demangle.specs.Outcome.{Slices, Outcome, number-in, bytes-in}
 use Rattle.listing.specs.Listing.{Outcome as Listing}
 use Rattle.listing.specs.declared.listing.Listed.{Listed}
 

@@ -1,13 +1,13 @@
 // The entries and the listing as C functions. A slice is a pointer and a length.
+use demangle::entry;
+use demangle::entry::Answer;
 use listing::listing::Kind;
 use listing::listing::Listed;
 use listing::listing::list_lines;
-use names::entry;
-use names::entry::Answer;
-use symbols::entry as symbol;
+use normalize::entry as symbol;
 ghost use mathlib.Core.Path.{_≡_};
-ghost use Rattle.names.specs.Outcome.{slices, demangled, number-in, bytes-in};
-ghost use Rattle.symbols.specs.Outcome.{normalized};
+ghost use Rattle.demangle.specs.Outcome.{slices, demangled, number-in, bytes-in};
+ghost use Rattle.normalize.specs.Outcome.{normalized};
 ghost use Rattle.listing.specs.Listing.{listed};
 ghost use Rattle.listing.specs.declared.listing.Kind.the-variants.{Names, Symbols};
 ghost use Rattle.patchname.specs.Exports.{Tells, Tells-listing};

@@ -5,9 +5,9 @@ use lib.ListN.{length, take, drop}
 use lib.Seq.{take-at}
 use Rattle.grammar.specs.Text.{Text}
 use Rattle.grammar.specs.Names.{Answer, named, refusal, number-of, length-of, written}
-use Rattle.names.specs.Outcome.{number-in, bytes-in}
-use Rattle.names.specs.Printed.{Tells}
-use Rattle.names.specs.declared.entry.Answer.{Answer as Code}
+use Rattle.demangle.specs.Outcome.{number-in, bytes-in}
+use Rattle.demangle.specs.Printed.{Tells}
+use Rattle.demangle.specs.declared.entry.Answer.{Answer as Code}
 use Rattle.listing.specs.Listing.{name-of, line, line-for}
 
 pub name-length : (a : Answer) → length (name-of a) ≡ length-of a

@@ -9,7 +9,7 @@ use lib.Dec.{eqb, leb, ltb}
 use lib.ListN.{length, length-append}
 use Rattle.grammar.specs.Text.{Text, if_then_else_, decimal}
 use Rattle.grammar.specs.Names.{Answer, number-of, length-of}
-use Rattle.names.specs.Outcome.{Slices}
+use Rattle.demangle.specs.Outcome.{Slices}
 use Rattle.listing.specs.Listing.{
   Outcome,
   answer-of,

@@ -1,0 +1,45 @@
+-- `demangle::entry::demangle_uncleared` meets its contract, test by test. Assumes nothing.
+use mathlib.Core.Path.{sym, _∙_}
+use borrow.Author.Tests.{not-true, not-false}
+use Rattle.demangle.specs.Outcome.{slices}
+use Rattle.demangle.specs.laws.Told.{front-refuses, front-inside, front-short, front-reads, fit-long}
+use borrow.Author.Needs.{needs}
+use Rattle.demangle.proofs.entry.demangle_uncleared.Statement.{statement}
+use Rattle.demangle.proofs.entry.demangle_uncleared.Tie as tie
+
+returns : tie.Need-returns
+returns c =
+    let a = c .before .before .before .before .before .before .before .before .before .args in
+    front-refuses (c .before .before .before .behind-front .ensures) (slices (a .out .now) (a .text .now) (a .store .now) (a .ends .now)) (c .before .enum-told .given .1) (c .refused .ensures)
+
+returns-2 : tie.Need-returns-2
+returns-2 c =
+    let a = c .before .before .before .before .before .before .before .before .before .before .before .args in
+    front-short (c .before .before .before .before .before .behind-front .ensures) (c .before .before .before .front .given .1) (slices (a .out .now) (a .text .now) (a .store .now) (a .ends .now)) (sym (c .before .work-fits .ensures) ∙ not-true _ (c .if1 .taken))
+
+read-behind-requires : tie.Need-read-behind-requires
+read-behind-requires c κs = (front-inside (c .before .before .before .before .before .before .before .before .before .behind-front .ensures) (c .before .before .before .before .before .before .before .front .given .1), fit-long _ (sym (c .before .before .before .before .before .work-fits .ensures) ∙ not-false _ (c .before .before .before .before .if1 .left)))
+
+returns-3 : tie.Need-returns-3
+returns-3 c =
+    let a = c .before .before .before .before .before .before .before .before .before .before .before .before .before .before .before .before .before .before .before .before .before .before .before .before .args in
+    front-reads (c .before .before .before .before .before .before .before .before .before .before .before .before .before .before .before .before .before .before .behind-front .ensures) (c .before .before .before .before .before .before .before .before .before .before .before .before .before .before .before .before .front .given .1) (slices (a .out .now) (a .text .now) (a .store .now) (a .ends .now)) _
+    (c .before .before .before .before .before .before .before .before .read-behind .result) (sym (c .before .before .before .before .before .before .before .before .before .before .before .before .before .before .work-fits .ensures) ∙ not-false _ (c .before .before .before .before .before .before .before .before .before .before .before .before .before .if1 .left)) (c .before .before .before .before .before .before .before .before .read-behind .ensures)
+
+pub demangle-uncleared-spec : {M : Type 1} → statement M
+demangle-uncleared-spec =
+    tie.close
+    (tie.spec
+    (λ c κs. search needs)
+    (λ c. search needs)
+    (λ c. search needs)
+    (λ c κs. search needs)
+    returns
+    (λ c κs. search needs)
+    returns-2
+    read-behind-requires
+    (λ c. search needs)
+    (λ c. search needs)
+    (λ c. search needs)
+    (λ c. search needs)
+    returns-3)

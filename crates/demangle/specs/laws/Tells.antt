@@ -1,0 +1,103 @@
+-- Laws of the answer for a text that was read. Assumes nothing.
+use mathlib.Core.Bool.{true, false}
+use mathlib.Core.List.{[], _++_}
+use mathlib.Core.Path.{_≡_, refl, sym, ap, ap₂, _∙_, subst}
+use Prim.Native.Nat.{ℕ, _-_, _≤_, _<_}
+use native.Mathlib.Omega.{arith}
+use borrow.Author.Tests.{le-leb, lt-leb}
+use lib.ListN.{length, take, drop, length-drop}
+use lib.Seq.{length-take-le}
+use Rattle.grammar.specs.Text.{Text, if_then_else_}
+use Rattle.grammar.specs.Reader.{State, Result, ok, refused, start}
+use Rattle.grammar.specs.Grammar.{reading, ended, ⟨encoding⟩}
+use Rattle.grammar.specs.Names.{Answer, named, refusal, without-slots, finished, within, mangled-name, number-of, length-of, written}
+use Rattle.store.specs.Stack.{slots-in}
+use Rattle.store.specs.laws.Lists.{drop-take}
+use Rattle.store.specs.laws.Tails.{newest-is, top-size}
+use Rattle.parser.specs.declared.state.Parser.{Parser}
+use Rattle.parser.specs.declared.state.Read.{Read}
+use Rattle.parser.specs.declared.state.Read.the-variants.{Text as read, Refused as unread}
+use Rattle.parser.specs.Holds.{Memory, mem}
+use Rattle.demangle.specs.declared.entry.Answer as told
+use Rattle.demangle.specs.declared.entry.Answer.the-variants.{Name, Refused}
+use Rattle.encoding.specs.Encodings.{Prints, Encodes, encodes, refuses}
+use Rattle.demangle.specs.Printed.{Tells, unread-of}
+use Rattle.demangle.specs.laws.Slotless.{slotless-length}
+
+module _ {a : Answer} {out : Text} where
+  pub tells-refusal : {r : ℕ} → a ≡ refusal r → Tells a out out (Refused r)
+  unfolding number-of length-of written
+  tells-refusal e = record { number = sym (ap number-of e); bytes = sym (ap length-of e); out = sym (ap (λ (x : Answer). written x out) e) }
+
+  pub tells-name : {t out' : Text} {n : ℕ} → a ≡ named t → n ≡ length t → out' ≡ t ++ drop (length t) out → Tells a out out' (Name n)
+  unfolding number-of length-of written
+  tells-name e f g = record { number = sym (ap number-of e); bytes = f ∙ sym (ap length-of e); out = g ∙ sym (ap (λ (x : Answer). written x out) e) }
+
+pub tells-as : {a c : Answer} {before after : Text} {r : told.Answer} → a ≡ c → Tells a before after r → Tells c before after r
+tells-as {before = before} {after = after} {r = r} e h = subst (λ (x : Answer). Tells x before after r) e h
+
+-- ---- the definition's answer, by its tests
+
+module _ (n : ℕ) (t : Text) (σ : State) where
+  pub within-5 : ended (σ .rest) ≡ false → within n (finished (ok t σ)) ≡ refusal 5
+  unfolding within finished if_then_else_
+  within-5 h = rw h
+
+  module _ (h : ended (σ .rest) ≡ true) where
+    pub within-12 : n < length (without-slots t) → within n (finished (ok t σ)) ≡ refusal 12
+    unfolding within finished if_then_else_
+    within-12 l = rw (h, lt-leb (length (without-slots t)) n l)
+
+    pub within-name : length (without-slots t) ≤ n → within n (finished (ok t σ)) ≡ named (without-slots t)
+    unfolding within finished if_then_else_
+    within-name l = rw (h, le-leb (length (without-slots t)) n l)
+
+-- ---- the text on the stack
+
+-- the newest n bytes
+abbrev pub newest-part : Text → ℕ → ℕ → Text
+newest-part text top n = take (top - (top - n)) (drop (top - n) text)
+
+pub newest-length : (text : Text) (top n : ℕ) {k : ℕ} → n ≤ top → top ≤ length text → k ≡ slots-in (newest-part text top n) → n - k ≡ length (without-slots (newest-part text top n))
+newest-length text top n a b e = omega (arith, e, slotless-length (newest-part text top n), length-take-le (top - (top - n)) (drop (top - n) text) (simp length-drop (omega arith)))
+
+module _ {s text store ends : Text} {p : Parser} {n : ℕ} {t : Text} {σ : State} (h : Prints 33064 s [] (mem text store ends) p n t σ) where
+  newest : (length t ≤ length (take (p .top) text)) × (drop (length (take (p .top) text) - length t) (take (p .top) text) ≡ t)
+  newest = newest-is [] t (h .tail) (omega (arith, h .short))
+
+  pub printed-fits : n ≤ p .top
+  printed-fits = omega (arith, newest .0, top-size (h .text), h .size)
+
+  pub printed-top : p .top ≤ length text
+  printed-top = omega (arith, h .text .size, h .text .most)
+
+  pub printed-text : newest-part text (p .top) n ≡ t
+  printed-text =
+      sym (drop-take (p .top - n) (p .top) text)
+      ∙ ap₂ (λ (i j : ℕ). drop (i - j) (take (p .top) text)) {x = p .top} {y = length (take (p .top) text)} (sym (top-size (h .text))) (h .size)
+      ∙ newest .1
+
+  pub printed-length : {k : ℕ} → k ≡ slots-in (newest-part text (p .top) n) → n - k ≡ length (without-slots t)
+  printed-length e = newest-length text (p .top) n printed-fits printed-top e ∙ ap (λ (z : Text). length (without-slots z)) printed-text
+
+-- ---- what the reading told
+
+module _ {k : ℕ} {s base : Text} {m : Memory} where
+  not-read : {g : Read} {x : Result Text} {r : ℕ} → Encodes k s base m g x → g ≡ unread r → x ≡ refused r
+  not-read (encodes h) e = absurd (let z : _≡_ {A = ℕ} 0 1 = cc in omega arith)
+  not-read refuses e = cc
+
+  pub was-read : {g : Read} {x : Result Text} {p : Parser} {n : ℕ} → Encodes k s base m g x → g ≡ read p n
+      → (t : Text) × ((σ : State) × ((x ≡ ok t σ) × Prints k s base m p n t σ))
+  was-read {p = p} {n = n} (encodes {p = p'} {n = n'} {t = t} {σ = σ} h) e =
+      let a : p' ≡ p = cc in
+      let b : n' ≡ n = cc in
+      (t, (σ, (refl, rw (a, b) at h)))
+  was-read refuses e = absurd (let z : _≡_ {A = ℕ} 0 1 = cc in omega arith)
+
+-- a reading that was refused
+pub tells-unread : {k : ℕ} {s base : Text} (out : Text) {m : Memory} {g : Read} {r : ℕ} {x : told.Answer} → Encodes k s base m g (reading ⟨encoding⟩ (start s)) → g ≡ unread r
+    → x ≡ unread-of g → Tells (within (length out) (mangled-name s)) out out x
+unfolding mangled-name finished within
+tells-unread {s = s} out h e f =
+    subst (Tells (within (length out) (mangled-name s)) out out) (sym (f ∙ ap unread-of e)) (tells-refusal (ap (λ (y : Result Text). within (length out) (finished y)) (not-read h e)))

@@ -1,0 +1,107 @@
+-- What the state of the writing holds at another place, and the byte there. Assumes nothing.
+use mathlib.Core.Bool.{true, false}
+use mathlib.Core.List.{[], _∷_}
+use mathlib.Core.Path.{_≡_, refl, sym, ap, subst, _∙_}
+use Prim.Native.Nat.{ℕ, _+_, _*_, _≤_, _<_}
+use native.Mathlib.Omega.{arith}
+use lib.ListN.{length, drop, getD, length-drop}
+use lib.Seq.{drop-drop}
+use Rattle.grammar.specs.Text.{Text, starts}
+use Rattle.grammar.specs.laws.Places.{rest-some, rest-none}
+use Rattle.grammar.specs.laws.NameSteps.{starts-one}
+use Rattle.catalogue.specs.Recogniser.{if-next}
+use Rattle.normal_nodes.specs.Nodes.{Notes, put, go-to, counted}
+use Rattle.normal_steps.specs.laws.Tests.{next-not}
+use Rattle.normal_steps.specs.States.{moved-to, counted-to}
+use Rattle.normal_steps.specs.Holds.{Holds, Ready, Copies, Puts}
+use Rattle.normal_steps.specs.declared.state.Writer.{Writer}
+
+-- what a method hands back holds what its equation says
+pub by-state : {s o n : Text} {p q : Writer} {σ : Notes} → q ≡ p → Holds s o n p σ → Holds s o n q σ
+by-state {s} {o} {n} {p} {q} {σ} e h = subst (λ (x : Writer). Holds s o n x σ) (sym e) h
+
+module _ {s o n : Text} {p : Writer} {σ : Notes} (h : Holds s o n p σ) where
+  pub holds-moved : (to : ℕ) → p .at ≤ to → to ≤ length s → Holds s o n (moved-to p to) (go-to (drop to s) σ)
+  holds-moved to l k = record {
+    source = h .source;
+    place = k;
+    rest = refl;
+    rows = h .rows;
+    inside = h .inside;
+    nodes-are = h .nodes-are;
+    notes-are = h .notes-are;
+    nodes-count = h .nodes-count;
+    table-count = h .table-count;
+    firsts-count = h .firsts-count;
+    numbers = h .numbers;
+    out-is = h .out-is;
+    out-count = h .out-count;
+    args-count = h .args-count;
+    few-nodes = omega arith;
+    few-entries = omega arith;
+    few-args = omega arith;
+    short = omega arith;
+  }
+
+  pub holds-counted : p .args + 1 ≤ p .at → Holds s o n (counted-to p (p .args + 1)) (counted σ)
+  holds-counted l = record {
+    source = h .source;
+    place = h .place;
+    rest = h .rest;
+    rows = h .rows;
+    inside = h .inside;
+    nodes-are = h .nodes-are;
+    notes-are = h .notes-are;
+    nodes-count = h .nodes-count;
+    table-count = h .table-count;
+    firsts-count = h .firsts-count;
+    numbers = h .numbers;
+    out-is = h .out-is;
+    out-count = h .out-count;
+    args-count = omega arith;
+    few-nodes = h .few-nodes;
+    few-entries = h .few-entries;
+    few-args = l;
+    short = h .short;
+  }
+
+  -- the byte at the place
+  pub first-byte : p .at < length s → σ .rest ≡ getD s (p .at) 0 ∷ drop (p .at + 1) s
+  first-byte l = h .rest ∙ rest-some s (p .at) l
+
+  pub no-byte : length s ≤ p .at → σ .rest ≡ []
+  no-byte l = h .rest ∙ rest-none s (p .at) l
+
+  pub byte-is : (c : ℕ) → starts (drop (p .at) s) (c ∷ []) ≡ true → σ .rest ≡ c ∷ drop (p .at + 1) s
+  byte-is c e = h .rest ∙ starts-one (drop (p .at) s) c e ∙ ap (λ (t : Text). c ∷ t) (drop-drop 1 (p .at) s)
+
+  pub byte-not : {A : Type 0} (c : ℕ) (f : Text → A) (x : A) → starts (drop (p .at) s) (c ∷ []) ≡ false → if-next c (σ .rest) f x ≡ x
+  byte-not c f x e = ap (λ (t : Text). if-next c t f x) (h .rest) ∙ next-not c f x (drop (p .at) s) e
+
+  module _ {c : ℕ} {t : Text} (e : σ .rest ≡ c ∷ t) where
+    some-left : p .at < length s
+    some-left = omega (arith, ap length (sym (h .rest) ∙ e), length-drop (p .at) s)
+
+    pub next-byte : (c ≡ getD s (p .at) 0) × (t ≡ drop (p .at + 1) s)
+    next-byte =
+        let q : c ∷ t ≡ getD s (p .at) 0 ∷ drop (p .at + 1) s = sym e ∙ first-byte some-left in
+        (cc, cc)
+
+    -- the state one byte on
+    pub holds-next : {q : Writer} → q ≡ moved-to p (p .at + 1) → Holds s o n q (go-to t σ)
+    holds-next {q} g =
+        by-state g
+        (subst (λ (r : Text). Holds s o n (moved-to p (p .at + 1)) (go-to r σ)) (sym (next-byte .1)) (holds-moved (p .at + 1) (omega arith) (omega (arith, some-left))))
+
+  -- a text is written at another place
+  pub put-moved : (w : Text) {o' : Text} {q r : Writer} {to : ℕ} → q ≡ moved-to p to → Puts w o o' q r
+      → p .at ≤ to → to ≤ length s → p .out + length w ≤ 16 * to → Holds s o' n r (put w (go-to (drop to s) σ))
+  put-moved w {o'} {q} {r} {to} e x l k b =
+      x .1 s n (go-to (drop to s) σ) (by-state e (holds-moved to l k)) (omega (arith, ap (λ (x : Writer). x .at) e, ap (λ (x : Writer). x .out) e))
+
+module _ {s o n : Text} {p : Writer} where
+  pub moved-ready : {q : Writer} → q ≡ moved-to p (p .at + 1) → p .at < length s → Ready s o n p → Ready s o n q
+  moved-ready e l (σ, h) = (_, holds-next h (first-byte h l) e)
+
+  pub copied-ready : {o' : Text} {q : Writer} → Copies s o o' p q → p .at < length s → Ready s o n p → Ready s o' n q
+  copied-ready k l (σ, h) = (_, k .1 n σ h _ _ (first-byte h l))

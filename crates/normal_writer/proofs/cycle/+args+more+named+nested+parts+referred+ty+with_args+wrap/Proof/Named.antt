@@ -1,0 +1,18 @@
+-- The answers of `named`. Assumes nothing.
+use Prim.Native.Nat.{ℕ}
+use native.Mathlib.Omega.{arith}
+use Rattle.normal_writer.specs.laws.Types.{by-name, first-named, first-next, class-refused, class-answer}
+use Rattle.normal_writer.proofs.cycle.named.Reads as named
+use Rattle.normal_writer.proofs.cycle.+args+more+named+nested+parts+referred+ty+with_args+wrap.Lts-named as lts
+use Rattle.normal_writer.proofs.cycle.+args+more+named+nested+parts+referred+ty+with_args+wrap.Proof.Cycle.{named-at, named-calls}
+
+pub returns : (t : ℕ) → lts.Need-returns (named-calls t) (named-at t) named.Post
+returns t c = class-refused by-name (first-named (c .before .before .before .before .before .before .first-name .ensures)) (c .enum-told .given .1)
+
+pub with-args-requires : (t : ℕ) → lts.Need-with-args-requires (named-calls t) (named-at t) named.Post
+with-args-requires t c κs =
+    let w = first-next by-name (first-named (c .before .before .before .before .before .before .before .before .before .first-name .ensures)) (c .before .before .before .next .given .1) (c .before .before .before .before .before .before .before .before .before .before .before .before .before .before .before .pre .1 .0) (c .before .before .before .before .before .before .before .before .before .before .before .before .before .before .before .pre .1 .1) in
+    (omega (arith, w .limits .0, w .holds .place, c .before .before .before .before .before .before .before .before .before .before .before .before .before .before .before .pre .0), ((w .small, w .limits .1 .stands), (w .state, w .holds)))
+
+pub returns-2 : (t : ℕ) → lts.Need-returns-2 (named-calls t) (named-at t) named.Post
+returns-2 t c = class-answer by-name (first-named (c .before .before .before .before .before .before .before .before .before .before .before .before .before .before .first-name .ensures)) (c .before .before .before .before .before .before .before .before .next .given .1) (c .before .before .before .before .with-args .ensures)

@@ -1,0 +1,32 @@
+-- The answers of `nested`. Assumes nothing.
+use Prim.Native.Nat.{ℕ}
+use native.Mathlib.Omega.{arith}
+use Rattle.normal_steps.specs.laws.Moves.{copied-ready}
+use Rattle.normal_writer.specs.laws.Types.{close-next, closed-next}
+use Rattle.normal_writer.specs.laws.Parts.{nested-refused, nested-told, nested-answer}
+use Rattle.normal_writer.proofs.cycle.nested.Reads as nested
+use Rattle.normal_writer.proofs.cycle.+args+more+named+nested+parts+referred+ty+with_args+wrap.Lts-nested as lts
+use Rattle.normal_writer.proofs.cycle.+args+more+named+nested+parts+referred+ty+with_args+wrap.Proof.Cycle.{nested-at, nested-calls}
+
+pub parts-requires : (t : ℕ) → lts.Need-parts-requires (nested-calls t) (nested-at t) nested.Post
+parts-requires t c κs = (omega (arith, c .before .before .before .before .before .before .before .before .before .pre .0, c .before .before .before .before .before .before .before .before .before .pre .1 .0, c .before .before .before .before .copy-byte .ensures .0), copied-ready (c .before .before .before .before .copy-byte .ensures) (c .before .before .before .before .before .before .before .before .before .pre .1 .0) (c .before .before .before .before .before .before .before .before .before .pre .1 .1))
+
+pub returns : (t : ℕ) → lts.Need-returns (nested-calls t) (nested-at t) nested.Post
+returns t c = nested-refused (c .before .before .before .before .before .before .before .before .before .before .before .copy-byte .ensures) (c .before .before .before .before .before .before .parts .ensures) (c .enum-told .given .1)
+
+pub close-requires : (t : ℕ) → lts.Need-close-requires (nested-calls t) (nested-at t) nested.Post
+close-requires t c κs = close-next (c .before .before .before .before .before .before .before .before .before .before .before .before .before .before .before .before .before .before .pre .1 .1 .1) (nested-told (c .before .before .before .before .before .before .before .before .before .before .before .before .before .copy-byte .ensures) (c .before .before .before .before .before .before .before .before .parts .ensures) (c .before .before .next .given .1) (c .before .before .before .before .before .before .before .before .before .before .before .before .before .before .before .before .before .before .pre .1 .0) (c .before .before .before .before .before .before .before .before .before .before .before .before .before .before .before .before .before .before .pre .1 .1))
+
+pub enter-nested-requires : (t : ℕ) → lts.Need-enter-nested-requires (nested-calls t) (nested-at t) nested.Post
+enter-nested-requires t c κs =
+    let w = closed-next (c .before .before .before .before .before .before .before .before .before .before .before .before .before .before .before .before .before .before .before .before .before .before .before .pre .1 .1 .1) (nested-told (c .before .before .before .before .before .before .before .before .before .before .before .before .before .before .before .before .before .before .copy-byte .ensures) (c .before .before .before .before .before .before .before .before .before .before .before .before .before .parts .ensures) (c .before .before .before .before .before .before .before .next .given .1) (c .before .before .before .before .before .before .before .before .before .before .before .before .before .before .before .before .before .before .before .before .before .before .before .pre .1 .0) (c .before .before .before .before .before .before .before .before .before .before .before .before .before .before .before .before .before .before .before .before .before .before .before .pre .1 .1)) {from = c .before .before .before .before .before .before .before .before .before .before .before .before .before .before .before .before .before .before .before .before .before .before .before .args .p .out} (omega arith) (c .before .before .before .before .close .ensures) in
+    (w .small, (w .stands, (w .room, (_, w .ready))))
+
+pub same-length-3 : (t : ℕ) → lts.Need-same-length-3 (nested-calls t) (nested-at t) nested.Post
+same-length-3 t c = omega (arith, c .before .before .before .before .enter-nested .kept, c .before .before .before .before .before .before .before .before .before .close .kept, c .before .before .before .before .before .before .before .before .before .before .before .before .before .before .before .before .before .before .parts .kept, c .before .before .before .before .before .before .before .before .before .before .before .before .before .before .before .before .before .before .before .before .before .before .before .copy-byte .kept)
+
+pub same-length-4 : (t : ℕ) → lts.Need-same-length-4 (nested-calls t) (nested-at t) nested.Post
+same-length-4 t c = omega (arith, c .before .before .before .before .enter-nested .kept, c .before .before .before .before .before .before .before .before .before .before .before .before .before .before .before .before .before .before .parts .kept)
+
+pub returns-2 : (t : ℕ) → lts.Need-returns-2 (nested-calls t) (nested-at t) nested.Post
+returns-2 t c = nested-answer (c .before .before .before .before .before .before .before .before .before .before .before .before .before .before .before .before .before .before .before .before .before .before .before .copy-byte .ensures) (c .before .before .before .before .before .before .before .before .before .before .before .before .before .before .before .before .before .before .parts .ensures) (c .before .before .before .before .before .before .before .before .before .before .before .before .next .given .1) (c .before .before .before .before .before .before .before .before .before .close .ensures) (c .before .before .before .before .enter-nested .ensures)

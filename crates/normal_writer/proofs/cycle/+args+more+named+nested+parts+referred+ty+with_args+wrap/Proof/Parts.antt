@@ -1,0 +1,70 @@
+-- The answers of `parts`. Assumes nothing.
+use Prim.Native.Nat.{ℕ}
+use native.Mathlib.Omega.{arith}
+use mathlib.Core.List.{List, [], _∷_}
+use mathlib.Core.Path.{_≡_, refl, sym, _∙_, subst}
+use borrow.Author.Tests.{not-true, not-false}
+use denote.Enum.Declared
+use lib.ListN.{getD}
+use Rattle.catalogue.specs.Recogniser.{lead}
+use types.Run
+use Rattle.normal_steps.specs.Leads.{lead-is}
+use Rattle.normal_steps.specs.laws.Moves.{moved-ready}
+use Rattle.normal_writer.specs.laws.Types.{by-name, by-reference, first-named, first-referred, first-next}
+use Rattle.normal_writer.specs.laws.Parts.{parts-end, parts-by, parts-other, parts-unnamed, parts-named, parts-unreferred, parts-barred, parts-referred}
+use Rattle.normal_steps.specs.declared.lead.Lead.{Lead}
+use Rattle.normal_steps.specs.declared.lead.Lead.the-variants.{Digit, S}
+use Rattle.normal_steps.proofs.lead.Lead as lead-type
+use Rattle.normal_writer.proofs.cycle.parts.Reads as parts
+use Rattle.normal_writer.proofs.cycle.+args+more+named+nested+parts+referred+ty+with_args+wrap.Lts-parts as lts
+use Rattle.normal_writer.proofs.cycle.+args+more+named+nested+parts+referred+ty+with_args+wrap.Proof.Cycle.{parts-at, parts-calls}
+
+-- the last arm's variants
+abbrev others : List ℕ
+others = 0 ∷ 1 ∷ 4 ∷ 5 ∷ 6 ∷ []
+
+module _ (l : Lead) (h : Run.OneOf others (Declared.tagOf lead-type.the-type l)) where
+  not-digit : l ≡ Digit → ⊥
+  not-digit e = Run.miss others 2 tt (subst (λ (x : Lead). Run.OneOf others (Declared.tagOf lead-type.the-type x)) e h)
+
+  not-s : l ≡ S → ⊥
+  not-s e = Run.miss others 3 tt (subst (λ (x : Lead). Run.OneOf others (Declared.tagOf lead-type.the-type x)) e h)
+
+pub returns : (t : ℕ) → lts.Need-returns (parts-calls t) (parts-at t) parts.Post
+returns t c = parts-end (c .if1 .taken)
+
+pub returns-2 : (t : ℕ) → lts.Need-returns-2 (parts-calls t) (parts-at t) parts.Post
+returns-2 t c = parts-by (c .before .before .before .before .before .before .before .before .before .before .before .before .before .if1 .left) (lead-is _ Digit (sym (c .before .before .before .before .before .before .before .before .before .enum-told .given .1) ∙ c .before .before .before .before .before .before .before .before .before .before .before .lead-of .ensures)) (parts-unnamed (first-named (c .before .before .before .before .before .before .first-name .ensures)) (c .enum-told2 .given .1))
+
+pub more-requires : (t : ℕ) → lts.Need-more-requires (parts-calls t) (parts-at t) parts.Post
+more-requires t c κs =
+    let w = first-next by-name (first-named (c .before .before .before .before .before .before .before .before .before .first-name .ensures)) (c .before .before .before .next .given .1) (c .before .before .before .before .before .before .before .before .before .before .before .before .before .before .before .before .if1 .left) (c .before .before .before .before .before .before .before .before .before .before .before .before .before .before .before .before .before .before .before .before .pre .1) in
+    (omega (arith, w .limits .0, w .holds .place, c .before .before .before .before .before .before .before .before .before .before .before .before .before .before .before .before .before .before .before .before .pre .0), ((w .small, w .limits .1 .stands), (w .state, w .holds)))
+
+pub first-reference-requires : (t : ℕ) → lts.Need-first-reference-requires (parts-calls t) (parts-at t) parts.Post
+first-reference-requires t c κs = moved-ready (c .moved .ensures) (c .before .before .before .before .before .before .before .if1 .left) (c .before .before .before .before .before .before .before .before .before .before .before .pre .1)
+
+pub returns-3 : (t : ℕ) → lts.Need-returns-3 (parts-calls t) (parts-at t) parts.Post
+returns-3 t c = parts-by (c .before .before .before .before .before .before .before .before .before .before .before .before .before .before .if1 .left) (lead-is _ S (sym (c .before .before .before .before .before .before .before .before .before .before .enum-told3 .given .1) ∙ c .before .before .before .before .before .before .before .before .before .before .before .before .lead-of .ensures)) (parts-unreferred (first-referred (c .before .before .before .before .before .before .before .moved .ensures) (c .before .before .before .before .before .before .first-reference .ensures)) (c .enum-told4 .given .1))
+
+pub tag-of-requires : (t : ℕ) → lts.Need-tag-of-requires (parts-calls t) (parts-at t) parts.Post
+tag-of-requires t c κs =
+    let w = first-next by-reference (first-referred (c .before .before .before .before .before .before .before .before .before .moved .ensures) (c .before .before .before .before .before .before .before .before .first-reference .ensures)) (c .before .before .next2 .given .1) (c .before .before .before .before .before .before .before .before .before .before .before .before .before .before .before .before .if1 .left) (c .before .before .before .before .before .before .before .before .before .before .before .before .before .before .before .before .before .before .before .before .pre .1) in
+    (_, (_, (w .state, w .holds)))
+
+pub returns-4 : (t : ℕ) → lts.Need-returns-4 (parts-calls t) (parts-at t) parts.Post
+returns-4 t c = parts-by (c .before .before .before .before .before .before .before .before .before .before .before .before .before .before .before .before .before .before .before .if1 .left) (lead-is _ S (sym (c .before .before .before .before .before .before .before .before .before .before .before .before .before .before .before .enum-told3 .given .1) ∙ c .before .before .before .before .before .before .before .before .before .before .before .before .before .before .before .before .before .lead-of .ensures)) (parts-barred (first-referred (c .before .before .before .before .before .before .before .before .before .before .before .before .moved .ensures) (c .before .before .before .before .before .before .before .before .before .before .before .first-reference .ensures)) (c .before .before .before .before .before .next2 .given .1) (c .before .before .tag-of .ensures) (sym (c .before .class .ensures) ∙ not-true _ (c .if2 .taken)))
+
+pub more-requires-2 : (t : ℕ) → lts.Need-more-requires-2 (parts-calls t) (parts-at t) parts.Post
+more-requires-2 t c κs =
+    let w = first-next by-reference (first-referred (c .before .before .before .before .before .before .before .before .before .before .before .before .before .before .moved .ensures) (c .before .before .before .before .before .before .before .before .before .before .before .before .before .first-reference .ensures)) (c .before .before .before .before .before .before .before .next2 .given .1) (c .before .before .before .before .before .before .before .before .before .before .before .before .before .before .before .before .before .before .before .before .before .if1 .left) (c .before .before .before .before .before .before .before .before .before .before .before .before .before .before .before .before .before .before .before .before .before .before .before .before .before .pre .1) in
+    (omega (arith, w .limits .0, w .holds .place, c .before .before .before .before .before .before .before .before .before .before .before .before .before .before .before .before .before .before .before .before .before .before .before .before .before .pre .0), ((w .small, w .limits .1 .stands), (w .state, w .holds)))
+
+pub returns-5 : (t : ℕ) → lts.Need-returns-5 (parts-calls t) (parts-at t) parts.Post
+returns-5 t c = parts-by (c .before .before .before .before .before .before .before .before .before .before .before .before .before .before .before .before .before .before .before .before .before .if1 .left) (lead-is _ Digit (sym (c .before .before .before .before .before .before .before .before .before .before .before .before .before .before .before .before .before .enum-told .given .1) ∙ c .before .before .before .before .before .before .before .before .before .before .before .before .before .before .before .before .before .before .before .lead-of .ensures)) (parts-named (first-named (c .before .before .before .before .before .before .before .before .before .before .before .before .before .before .first-name .ensures)) (c .before .before .before .before .before .before .before .before .next .given .1) (c .before .before .before .before .more .ensures))
+
+pub returns-6 : (t : ℕ) → lts.Need-returns-6 (parts-calls t) (parts-at t) parts.Post
+returns-6 t c = parts-by (c .before .before .before .before .before .before .before .before .before .before .before .before .before .before .before .before .before .before .before .before .before .before .before .before .before .before .if1 .left) (lead-is _ S (sym (c .before .before .before .before .before .before .before .before .before .before .before .before .before .before .before .before .before .before .before .before .before .before .enum-told3 .given .1) ∙ c .before .before .before .before .before .before .before .before .before .before .before .before .before .before .before .before .before .before .before .before .before .before .before .before .lead-of .ensures)) (parts-referred (first-referred (c .before .before .before .before .before .before .before .before .before .before .before .before .before .before .before .before .before .before .before .moved .ensures) (c .before .before .before .before .before .before .before .before .before .before .before .before .before .before .before .before .before .before .first-reference .ensures)) (c .before .before .before .before .before .before .before .before .before .before .before .before .next2 .given .1) (c .before .before .before .before .before .before .before .before .before .tag-of .ensures) (sym (c .before .before .before .before .before .before .before .before .class .ensures) ∙ not-false _ (c .before .before .before .before .before .before .before .if2 .left)) (c .before .before .before .before .more2 .ensures))
+
+pub returns-7 : (t : ℕ) → lts.Need-returns-7 (parts-calls t) (parts-at t) parts.Post
+returns-7 t c = parts-by (c .before .before .before .if1 .left) refl (parts-other (lead (getD (c .before .before .before .before .before .before .before .args .s .now) (c .before .before .before .before .before .before .before .args .p .at) 0)) (λ e. not-digit _ (c .match .keys3) (c .before .lead-of .ensures ∙ e)) (λ e. not-s _ (c .match .keys3) (c .before .lead-of .ensures ∙ e)))

@@ -1,0 +1,22 @@
+-- The answers of `referred`. Assumes nothing.
+use Prim.Native.Nat.{ℕ}
+use native.Mathlib.Omega.{arith}
+use Rattle.normal_steps.specs.laws.Moves.{moved-ready}
+use Rattle.normal_writer.specs.laws.Types.{by-reference, first-referred, first-next, class-refused, class-answer}
+use Rattle.normal_writer.proofs.cycle.referred.Reads as referred
+use Rattle.normal_writer.proofs.cycle.+args+more+named+nested+parts+referred+ty+with_args+wrap.Lts-referred as lts
+use Rattle.normal_writer.proofs.cycle.+args+more+named+nested+parts+referred+ty+with_args+wrap.Proof.Cycle.{referred-at, referred-calls}
+
+pub first-reference-requires : (t : ℕ) → lts.Need-first-reference-requires (referred-calls t) (referred-at t) referred.Post
+first-reference-requires t c κs = moved-ready (c .moved .ensures) (c .before .before .before .before .before .before .pre .1 .0) (c .before .before .before .before .before .before .pre .1 .1)
+
+pub returns : (t : ℕ) → lts.Need-returns (referred-calls t) (referred-at t) referred.Post
+returns t c = class-refused by-reference (first-referred (c .before .before .before .before .before .before .before .moved .ensures) (c .before .before .before .before .before .before .first-reference .ensures)) (c .enum-told .given .1)
+
+pub with-args-requires : (t : ℕ) → lts.Need-with-args-requires (referred-calls t) (referred-at t) referred.Post
+with-args-requires t c κs =
+    let w = first-next by-reference (first-referred (c .before .before .before .before .before .before .before .before .before .before .moved .ensures) (c .before .before .before .before .before .before .before .before .before .first-reference .ensures)) (c .before .before .before .next .given .1) (c .before .before .before .before .before .before .before .before .before .before .before .before .before .before .before .before .pre .1 .0) (c .before .before .before .before .before .before .before .before .before .before .before .before .before .before .before .before .pre .1 .1) in
+    (omega (arith, w .limits .0, w .holds .place, c .before .before .before .before .before .before .before .before .before .before .before .before .before .before .before .before .pre .0), ((w .small, w .limits .1 .stands), (w .state, w .holds)))
+
+pub returns-2 : (t : ℕ) → lts.Need-returns-2 (referred-calls t) (referred-at t) referred.Post
+returns-2 t c = class-answer by-reference (first-referred (c .before .before .before .before .before .before .before .before .before .before .before .before .before .before .before .moved .ensures) (c .before .before .before .before .before .before .before .before .before .before .before .before .before .before .first-reference .ensures)) (c .before .before .before .before .before .before .before .before .next .given .1) (c .before .before .before .before .with-args .ensures)

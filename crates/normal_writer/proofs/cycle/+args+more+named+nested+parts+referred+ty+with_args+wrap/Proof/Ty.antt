@@ -1,0 +1,60 @@
+-- The answers of `ty`. Assumes nothing.
+use Prim.Native.Nat.{ℕ}
+use native.Mathlib.Omega.{arith}
+use mathlib.Core.Path.{sym, _∙_}
+use Rattle.normal_nodes.specs.laws.Laws.{letter-below}
+use Rattle.normal_steps.specs.Leads.{lead-is}
+use Rattle.normal_steps.specs.laws.Moves.{moved-ready}
+use Rattle.normal_writer.specs.laws.Types.{type-end, type-by, letter-answer, literal-answer, none-answer}
+use Rattle.normal_steps.specs.declared.lead.Lead.the-variants.{Letter, Wrap, Digit, S, N, L, None}
+use Rattle.normal_writer.proofs.cycle.ty.Reads as ty
+use Rattle.normal_writer.proofs.cycle.+args+more+named+nested+parts+referred+ty+with_args+wrap.Lts-ty as lts
+use Rattle.normal_writer.proofs.cycle.+args+more+named+nested+parts+referred+ty+with_args+wrap.Proof.Cycle.{ty-at, ty-calls}
+
+pub returns : (t : ℕ) → lts.Need-returns (ty-calls t) (ty-at t) ty.Post
+returns t c = type-end (c .if1 .taken)
+
+pub cast-t16 : (t : ℕ) → lts.Need-cast-t16 (ty-calls t) (ty-at t) ty.Post
+cast-t16 t c =
+    let w = lead-is _ Letter (sym (c .before .before .before .before .enum-told .given .1) ∙ c .before .before .before .before .before .before .lead-of .ensures) in
+    record { fits = omega (arith, letter-below (w .0), w .1 .1) }
+
+pub wrap-requires : (t : ℕ) → lts.Need-wrap-requires (ty-calls t) (ty-at t) ty.Post
+wrap-requires t c κs = (omega (arith, c .before .before .before .before .before .before .before .before .before .before .pre .0), (c .before .before .before .before .before .before .if1 .left, c .before .before .before .before .before .before .before .before .before .before .pre .1))
+
+pub named-requires : (t : ℕ) → lts.Need-named-requires (ty-calls t) (ty-at t) ty.Post
+named-requires t c κs = (omega (arith, c .before .before .before .before .before .before .before .before .before .before .pre .0), (c .before .before .before .before .before .before .if1 .left, c .before .before .before .before .before .before .before .before .before .before .pre .1))
+
+pub referred-requires : (t : ℕ) → lts.Need-referred-requires (ty-calls t) (ty-at t) ty.Post
+referred-requires t c κs = (omega (arith, c .before .before .before .before .before .before .before .before .before .before .pre .0), (c .before .before .before .before .before .before .if1 .left, c .before .before .before .before .before .before .before .before .before .before .pre .1))
+
+pub nested-requires : (t : ℕ) → lts.Need-nested-requires (ty-calls t) (ty-at t) ty.Post
+nested-requires t c κs = (omega (arith, c .before .before .before .before .before .before .before .before .before .before .pre .0), (c .before .before .before .before .before .before .if1 .left, c .before .before .before .before .before .before .before .before .before .before .pre .1))
+
+pub literal-requires : (t : ℕ) → lts.Need-literal-requires (ty-calls t) (ty-at t) ty.Post
+literal-requires t c κs = moved-ready (c .moved .ensures) (c .before .before .before .before .before .before .before .if1 .left) (c .before .before .before .before .before .before .before .before .before .before .before .pre .1)
+
+pub returns-2 : (t : ℕ) → lts.Need-returns-2 (ty-calls t) (ty-at t) ty.Post
+returns-2 t c =
+    let w = lead-is _ Letter (sym (c .before .before .before .before .enum-told .given .1) ∙ c .before .before .before .before .before .before .lead-of .ensures) in
+    type-by (c .before .before .before .before .before .before .before .before .if1 .left) (w .1 .0) (letter-answer (w .0) _ (omega (arith, letter-below (w .0), w .1 .1)) (c .before .before .copy-byte .ensures))
+
+pub returns-3 : (t : ℕ) → lts.Need-returns-3 (ty-calls t) (ty-at t) ty.Post
+returns-3 t c =
+    let w = lead-is _ Wrap (sym (c .before .before .before .before .before .before .before .enum-told2 .given .1) ∙ c .before .before .before .before .before .before .before .before .before .lead-of .ensures) in
+    type-by (c .before .before .before .before .before .before .before .before .before .before .before .if1 .left) (w .1 .0) (c .before .before .before .before .wrap .ensures (w .0))
+
+pub returns-4 : (t : ℕ) → lts.Need-returns-4 (ty-calls t) (ty-at t) ty.Post
+returns-4 t c = type-by (c .before .before .before .before .before .before .before .before .before .before .before .if1 .left) (lead-is _ Digit (sym (c .before .before .before .before .before .before .before .enum-told3 .given .1) ∙ c .before .before .before .before .before .before .before .before .before .lead-of .ensures)) (c .before .before .before .before .named .ensures _)
+
+pub returns-5 : (t : ℕ) → lts.Need-returns-5 (ty-calls t) (ty-at t) ty.Post
+returns-5 t c = type-by (c .before .before .before .before .before .before .before .before .before .before .before .if1 .left) (lead-is _ S (sym (c .before .before .before .before .before .before .before .enum-told4 .given .1) ∙ c .before .before .before .before .before .before .before .before .before .lead-of .ensures)) (c .before .before .before .before .referred .ensures _)
+
+pub returns-6 : (t : ℕ) → lts.Need-returns-6 (ty-calls t) (ty-at t) ty.Post
+returns-6 t c = type-by (c .before .before .before .before .before .before .before .before .before .before .before .if1 .left) (lead-is _ N (sym (c .before .before .before .before .before .before .before .enum-told5 .given .1) ∙ c .before .before .before .before .before .before .before .before .before .lead-of .ensures)) (c .before .before .before .before .nested .ensures _)
+
+pub returns-7 : (t : ℕ) → lts.Need-returns-7 (ty-calls t) (ty-at t) ty.Post
+returns-7 t c = type-by (c .before .before .before .before .before .before .before .before .before .before .before .before .if1 .left) (lead-is _ L (sym (c .before .before .before .before .before .before .before .before .enum-told6 .given .1) ∙ c .before .before .before .before .before .before .before .before .before .before .lead-of .ensures)) (literal-answer _ (c .before .before .before .before .before .moved .ensures) (c .before .before .before .before .literal .ensures))
+
+pub returns-8 : (t : ℕ) → lts.Need-returns-8 (ty-calls t) (ty-at t) ty.Post
+returns-8 t c = type-by (c .before .before .before .before .if1 .left) (lead-is _ None (sym (c .enum-told7 .given .1) ∙ c .before .before .lead-of .ensures)) (none-answer _)

@@ -1,0 +1,90 @@
+-- `normal_writer::symbol::types`: the loop's invariant is that the reading of the types is that of those left, from the state now held. The measure
+-- is the bytes left. Assumes nothing.
+use Prim.Native.Nat.{_-_}
+use lib.ListN.{length}
+use Rattle.normal_writer.specs.laws.Symbols.{Turned, turned-none, turned-from, turn-none, turn-told, turn-lit, turn-more, goes-ended, ends-broken}
+use borrow.Author.Needs.{needs}
+use native.Mathlib.Omega.{arith}
+use Rattle.normal_writer.proofs.symbol.types.Statement.{statement}
+use Rattle.normal_writer.proofs.symbol.types.Tie as tie
+
+abbrev Inv-loop : tie.InvT-loop
+Inv-loop s out₀ notes₀ next₀ out notes next = Turned s out₀ notes₀ out notes next₀ next
+
+abbrev μ-loop : tie.MeasureT-loop
+μ-loop s out₀ notes₀ next₀ out notes next = length s - next .at
+
+loop-holds : tie.Need-loop-holds Inv-loop μ-loop
+loop-holds c = turned-none
+
+ty-requires : tie.Need-ty-requires Inv-loop μ-loop
+ty-requires c κs = let y = turned-from (c .before .before .before .before .loop .inv) (c .before .before .before .before .before .before .before .before .pre) in (y .state, y .holds)
+
+same-length : tie.Need-same-length Inv-loop μ-loop
+same-length c = omega (arith, c .before .before .before .before .before .before .before .before .before .before .before .loop .inv .out-kept, c .before .before .before .before .before .before .ty .kept)
+
+same-length-2 : tie.Need-same-length-2 Inv-loop μ-loop
+same-length-2 c = omega (arith, c .before .before .before .before .before .before .before .before .before .before .before .loop .inv .notes-kept, c .before .before .before .before .before .before .ty .kept)
+
+returns : tie.Need-returns Inv-loop μ-loop
+returns c σ h m k = ends-broken (turn-none (c .before .before .before .before .before .before .before .before .before .before .before .loop .inv .goes σ h m k) (c .before .before .before .before .before .before .before .before .before .if1 .taken) (c .before .before .before .before .before .before .ty .ensures) (c .enum-told .given .1))
+
+tag-of-requires : tie.Need-tag-of-requires Inv-loop μ-loop
+tag-of-requires c κs =
+    let t = turn-told (turned-from (c .before .before .before .before .before .before .before .before .before .before .before .before .before .loop .inv) (c .before .before .before .before .before .before .before .before .before .before .before .before .before .before .before .before .before .pre)) (c .before .before .before .before .before .before .before .before .before .before .before .if1 .taken) (c .before .before .before .before .before .before .before .before .ty .ensures) (c .before .before .q .given .1) in
+    (_, (_, (t .state, t .holds)))
+
+same-length-3 : tie.Need-same-length-3 Inv-loop μ-loop
+same-length-3 c = omega (arith, c .before .before .before .before .before .before .before .before .before .before .before .before .before .before .before .loop .inv .out-kept, c .before .before .before .before .before .before .before .before .before .before .ty .kept)
+
+same-length-4 : tie.Need-same-length-4 Inv-loop μ-loop
+same-length-4 c = omega (arith, c .before .before .before .before .before .before .before .before .before .before .before .before .before .before .before .loop .inv .notes-kept, c .before .before .before .before .before .before .before .before .before .before .ty .kept)
+
+returns-2 : tie.Need-returns-2 Inv-loop μ-loop
+returns-2 c σ h m k =
+    ends-broken (turn-lit (c .before .before .before .before .before .before .before .before .before .before .before .before .before .before .before .loop .inv .goes σ h m k) (c .before .before .before .before .before .before .before .before .before .before .before .before .before .if1 .taken) (c .before .before .before .before .before .before .before .before .before .before .ty .ensures) (c .before .before .before .before .q .given .1) (c .before .tag-of .ensures) (c .if2 .taken))
+
+loop-less : tie.Need-loop-less Inv-loop μ-loop
+loop-less c =
+    let t = turn-told (turned-from (c .before .before .before .before .before .before .before .before .before .before .before .before .before .before .before .loop .inv) (c .before .before .before .before .before .before .before .before .before .before .before .before .before .before .before .before .before .before .before .pre)) (c .before .before .before .before .before .before .before .before .before .before .before .before .before .if1 .taken) (c .before .before .before .before .before .before .before .before .before .before .ty .ensures) (c .before .before .before .before .q .given .1) in
+    omega (arith, t .limits .at, c .before .before .before .before .before .before .before .before .before .before .before .before .before .if1 .taken)
+
+loop-again : tie.Need-loop-again Inv-loop μ-loop
+loop-again c = record {
+  out-kept = omega (arith, c .before .before .before .before .before .before .before .before .before .before .before .before .before .before .before .loop .inv .out-kept, c .before .before .before .before .before .before .before .before .before .before .ty .kept);
+  notes-kept = omega (arith, c .before .before .before .before .before .before .before .before .before .before .before .before .before .before .before .loop .inv .notes-kept, c .before .before .before .before .before .before .before .before .before .before .ty .kept);
+  goes = λ σ h m k. turn-more (c .before .before .before .before .before .before .before .before .before .before .before .before .before .before .before .loop .inv .goes σ h m k) (c .before .before .before .before .before .before .before .before .before .before .before .before .before .if1 .taken) (c .before .before .before .before .before .before .before .before .before .before .ty .ensures) (c .before .before .before .before .q .given .1) (c .before .tag-of .ensures) (c .if2 .left);
+}
+
+same-length-5 : tie.Need-same-length-5 Inv-loop μ-loop
+same-length-5 c = omega (arith, c .before .before .loop .inv .out-kept)
+
+same-length-6 : tie.Need-same-length-6 Inv-loop μ-loop
+same-length-6 c = omega (arith, c .before .before .loop .inv .notes-kept)
+
+returns-3 : tie.Need-returns-3 Inv-loop μ-loop
+returns-3 c σ h m k = goes-ended (c .before .before .loop .inv .goes σ h m k) (c .if1 .left)
+
+pub types-spec : {M : Type 1} → statement M
+types-spec =
+    tie.close
+    (tie.spec
+    Inv-loop
+    μ-loop
+    loop-holds
+    ty-requires
+    (λ c. search needs)
+    (λ c. search needs)
+    same-length
+    same-length-2
+    returns
+    tag-of-requires
+    (λ c. search needs)
+    same-length-3
+    same-length-4
+    returns-2
+    loop-less
+    loop-again
+    same-length-5
+    same-length-6
+    returns-3)

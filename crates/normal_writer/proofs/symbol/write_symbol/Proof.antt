@@ -1,0 +1,89 @@
+-- `normal_writer::symbol::write_symbol` writes the normal symbol of a catalogue symbol. Assumes nothing.
+use mathlib.Core.Bool.{true, false≢true}
+use mathlib.Core.Logic.{⊎-elim}
+use mathlib.Core.Path.{_≡_, sym, _∙_}
+use Prim.Native.Nat.{_<_}
+use lib.ListN.{length}
+use borrow.Author.Tests.{not-true, not-false}
+use Rattle.normal_writer.specs.laws.Symbols.{
+  outside-by,
+  symbol-not,
+  symbol-nameless,
+  symbol-headed,
+  symbol-alone,
+  symbol-broken,
+  symbol-many,
+  symbol-writes,
+}
+use borrow.Author.Needs.{needs}
+use Rattle.normal_writer.proofs.symbol.write_symbol.Statement.{statement}
+use Rattle.normal_writer.proofs.symbol.write_symbol.Tie as tie
+
+returns : tie.Need-returns
+returns c = outside-by (symbol-not (c .before .before .before .before .before .before .args .s .now) (sym (c .before .starts-with .ensures) ∙ not-true _ (c .if1 .taken)))
+
+returns-2 : tie.Need-returns-2
+returns-2 c =
+    let y = sym (c .before .before .before .before .before .before .before .before .before .before .starts-with .ensures) ∙ not-false _ (c .before .before .before .before .before .before .before .before .before .if1 .left) in
+    outside-by (symbol-nameless y (c .before .before .before .before .before .before .function .ensures) (c .enum-told .given .1))
+
+returns-3 : tie.Need-returns-3
+returns-3 c =
+    let y = sym (c .before .before .before .before .before .before .before .before .before .before .before .before .before .before .starts-with .ensures) ∙ not-false _ (c .before .before .before .before .before .before .before .before .before .before .before .before .before .if1 .left) in
+    outside-by (symbol-alone y (c .before .before .before .before .before .before .before .before .before .before .function .ensures) (c .before .before .before .before .p .given .1) (c .before .before .if2 .taken) (c .if3 .taken))
+
+types-requires : tie.Need-types-requires
+types-requires c κs =
+    let y = sym (c .before .before .before .before .before .before .before .before .before .before .before .before .before .before .starts-with .ensures) ∙ not-false _ (c .before .before .before .before .before .before .before .before .before .before .before .before .before .if1 .left) in
+    let h = symbol-headed y (c .before .before .before .before .before .before .before .before .before .before .function .ensures) (c .before .before .before .before .p .given .1) in
+    (h .state, h .holds)
+
+returns-4 : tie.Need-returns-4
+returns-4 c =
+    let y = sym (c .before .before .before .before .before .before .before .before .before .before .before .before .before .before .before .before .before .before .before .before .before .starts-with .ensures) ∙ not-false _ (c .before .before .before .before .before .before .before .before .before .before .before .before .before .before .before .before .before .before .before .before .if1 .left) in
+    let h : c .before .before .before .before .before .before .before .before .before .before .before .p .given .0 .1 .0 ≡ true → c .before .before .before .before .before .before .before .before .before .before .before .p .given .0 .0 .at < length (c .before .before .before .before .before .before .before .before .before .before .before .before .before .before .before .before .before .before .before .before .before .before .before .before .before .before .args .s .now) =
+    λ x. ⊎-elim (λ w. w .2 .left) (λ w. absurd (false≢true (sym (w .left) ∙ x))) (c .before .before .before .before .before .before .before .before .before .if2 .came) in
+    outside-by (symbol-broken y (c .before .before .before .before .before .before .before .before .before .before .before .before .before .before .before .before .before .function .ensures) (c .before .before .before .before .before .before .before .before .before .before .before .p .given .1) h (c .before .before .before .before .before .before .types .ensures) (c .enum-told2 .given .1))
+
+returns-5 : tie.Need-returns-5
+returns-5 c =
+    let y = sym (c .before .before .before .before .before .before .before .before .before .before .before .before .before .before .before .before .before .before .before .before .before .before .before .before .starts-with .ensures) ∙ not-false _ (c .before .before .before .before .before .before .before .before .before .before .before .before .before .before .before .before .before .before .before .before .before .before .before .if1 .left) in
+    let h : c .before .before .before .before .before .before .before .before .before .before .before .before .before .before .p .given .0 .1 .0 ≡ true → c .before .before .before .before .before .before .before .before .before .before .before .before .before .before .p .given .0 .0 .at < length (c .before .before .before .before .before .before .before .before .before .before .before .before .before .before .before .before .before .before .before .before .before .before .before .before .before .before .before .before .before .args .s .now) =
+    λ x. ⊎-elim (λ w. w .2 .left) (λ w. absurd (false≢true (sym (w .left) ∙ x))) (c .before .before .before .before .before .before .before .before .before .before .before .before .if2 .came) in
+    outside-by (symbol-many y (c .before .before .before .before .before .before .before .before .before .before .before .before .before .before .before .before .before .before .before .before .function .ensures) (c .before .before .before .before .before .before .before .before .before .before .before .before .before .before .p .given .1) h (c .before .before .before .before .before .before .before .before .before .types .ensures) (c .before .before .before .q .given .1) (c .if4 .taken))
+
+returns-6 : tie.Need-returns-6
+returns-6 c =
+    let y = sym (c .before .before .before .before .before .before .before .before .before .before .before .before .before .before .before .before .before .before .before .before .before .before .before .before .starts-with .ensures) ∙ not-false _ (c .before .before .before .before .before .before .before .before .before .before .before .before .before .before .before .before .before .before .before .before .before .before .before .if1 .left) in
+    let h : c .before .before .before .before .before .before .before .before .before .before .before .before .before .before .p .given .0 .1 .0 ≡ true → c .before .before .before .before .before .before .before .before .before .before .before .before .before .before .p .given .0 .0 .at < length (c .before .before .before .before .before .before .before .before .before .before .before .before .before .before .before .before .before .before .before .before .before .before .before .before .before .before .before .before .before .args .s .now) =
+    λ x. ⊎-elim (λ w. w .2 .left) (λ w. absurd (false≢true (sym (w .left) ∙ x))) (c .before .before .before .before .before .before .before .before .before .before .before .before .if2 .came) in
+    symbol-writes y (c .before .before .before .before .before .before .before .before .before .before .before .before .before .before .before .before .before .before .before .before .function .ensures) (c .before .before .before .before .before .before .before .before .before .before .before .before .before .before .p .given .1) h (c .before .before .before .before .before .before .before .before .before .types .ensures) (c .before .before .before .q .given .1) (c .if4 .left)
+
+pub write-symbol-spec : {M : Type 1} → statement M
+write-symbol-spec =
+    tie.close
+    (tie.spec
+    (λ c. search needs)
+    (λ c κs. search needs)
+    returns
+    (λ c κs. search needs)
+    (λ c. search needs)
+    (λ c. search needs)
+    (λ c. search needs)
+    (λ c. search needs)
+    returns-2
+    (λ c. search needs)
+    (λ c. search needs)
+    returns-3
+    types-requires
+    (λ c. search needs)
+    (λ c. search needs)
+    (λ c. search needs)
+    (λ c. search needs)
+    returns-4
+    (λ c. search needs)
+    (λ c. search needs)
+    returns-5
+    (λ c. search needs)
+    (λ c. search needs)
+    returns-6)

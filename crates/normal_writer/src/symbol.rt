@@ -1,0 +1,125 @@
+// A whole symbol, read, and its normal symbol written.
+use crate::cycle;
+use grammar::text as bytes;
+use normal_steps::memory;
+use normal_steps::state::Told;
+use normal_steps::state::Writer;
+use normal_steps::steps;
+use normal_steps::words;
+use normal_steps::words::Named;
+use store::stack;
+ghost use mathlib.Core.Path.{_≡_};
+ghost use Prim.Native.Nat.{_≤_};
+ghost use lib.ListN.{length};
+ghost use Rattle.store.specs.Table.{Front};
+ghost use Rattle.normal_nodes.specs.Nodes.{note-symbol};
+ghost use Rattle.normal_steps.specs.States.{begun-at};
+ghost use Rattle.normal_steps.specs.Holds.{Ready};
+ghost use Rattle.normal_writer.specs.Writes.{Plain, Scoped, Functions, Types, Writes};
+
+// The normal symbol is written; or the symbol is outside the class.
+pub enum Written {
+    Symbol(Writer),
+    Bad,
+}
+
+// A function's name is written, and whether it has a K.
+pub enum Headed {
+    Name(Writer, bool),
+    Bad,
+}
+
+// "_Z", "_ZN" or "_ZNK" is written, and taken.
+fn begin(out: &mut [u8], word: &[u8]) -> Writer
+    requires { ⌜ (length (now word) ≤ 4) × (length (now out) ≡ 65536) ⌝ }
+    ensures { λ r. ⌜ (r ≡ begun-at (length (now (word .entry))) (length (now (word .entry)))) × Front 65536 (now (word .entry)) (now (out .exit)) ⌝ }
+{
+    stack::copy(out, 0, word);
+    let n = word.len();
+    Writer::begun(n, n)
+}
+
+// <source-name>
+fn plain(s: &[u8], out: &mut [u8]) -> Headed
+    requires { ⌜ (length (now s) ≤ 4096) × (length (now out) ≡ 65536) ⌝ }
+    ensures { λ r. ⌜ Plain (now (s .entry)) (now (out .exit)) r ⌝ }
+{
+    let Named::At(from, to) = words::source_name(s, 2) else {
+        return Headed::Bad;
+    };
+    let begun = begin(out, b"_Z");
+    Headed::Name(memory::put_name(out, begun.moved(to), s, from, to), false)
+}
+
+// <parts> E behind N or NK, without arguments at the end
+fn scoped(s: &[u8], out: &mut [u8], notes: &mut [u16], word: &[u8], constant: bool) -> Headed
+    requires { ⌜ ((length (now s) ≤ 4096) × ((2 ≤ length (now word)) × ((length (now word) ≤ 4) × (length (now word) ≤ length (now s)))))
+        × ((length (now out) ≡ 65536) × (length (now notes) ≡ 24576)) ⌝ }
+    ensures { λ r. ⌜ Scoped (now (word .entry)) constant (now (s .entry)) (now (out .exit)) (now (notes .exit)) r ⌝ }
+{
+    let begun = begin(out, word);
+    let Told::Number(next, u) = cycle::parts(s, out, notes, begun) else {
+        return Headed::Bad;
+    };
+    if !steps::bare(memory::tag_of(notes, next, u)) {
+        return Headed::Bad;
+    }
+    Headed::Name(steps::close(out, next), constant)
+}
+
+// <name> ::= <source-name> | N [K] <parts> E
+fn function(s: &[u8], out: &mut [u8], notes: &mut [u16]) -> Headed
+    requires { ⌜ (length (now s) ≤ 4096) × ((length (now out) ≡ 65536) × (length (now notes) ≡ 24576)) ⌝ }
+    ensures { λ r. ⌜ Functions (now (s .entry)) (now (out .exit)) (now (notes .exit)) r ⌝ }
+{
+    if !bytes::starts_with(s, 2, b"N") {
+        return plain(s, out);
+    }
+    if bytes::starts_with(s, 3, b"K") {
+        return scoped(s, out, notes, b"_ZNK", true);
+    }
+    scoped(s, out, notes, b"_ZN", false)
+}
+
+// <type>+ to the end
+fn types(s: &[u8], out: &mut [u8], notes: &mut [u16], p: Writer) -> Written
+    requires { ⌜ Ready (now s) (now out) (now notes) p ⌝ }
+    ensures { λ r. ⌜ Types (now (s .entry)) (now (out .entry)) (now (notes .entry)) (now (out .exit)) (now (notes .exit)) p r ⌝ }
+{
+    let mut next = p;
+    while next.at < s.len() {
+        let Told::Number(q, t) = cycle::ty(s, out, notes, next) else {
+            return Written::Bad;
+        };
+        if memory::tag_of(notes, q, t) == b'L' as usize {
+            return Written::Bad;
+        }
+        next = q;
+    }
+    Written::Symbol(next)
+}
+
+// <encoding> ::= <name> [<type>+]; at most 1,024 arguments
+pub fn write_symbol(s: &[u8], out: &mut [u8], notes: &mut [u16]) -> Written
+    requires { ⌜ (length (now s) ≤ 4096) × ((length (now out) ≡ 65536) × (length (now notes) ≡ 24576)) ⌝ }
+    ensures { λ r. ⌜ Writes (now (s .entry)) (now (out .exit)) (now (notes .exit)) r (note-symbol (now (s .entry))) ⌝ }
+{
+    if !bytes::starts_with(s, 0, b"_Z") {
+        return Written::Bad;
+    }
+    let Headed::Name(p, constant) = function(s, out, notes) else {
+        return Written::Bad;
+    };
+    if constant {
+        if s.len() <= p.at {
+            return Written::Bad;
+        }
+    }
+    let Written::Symbol(q) = types(s, out, notes, p) else {
+        return Written::Bad;
+    };
+    if 1024 < q.args {
+        return Written::Bad;
+    }
+    Written::Symbol(q)
+}

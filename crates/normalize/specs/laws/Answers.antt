@@ -1,0 +1,137 @@
+-- Laws of the answer of the entry for normal symbols, by what is told on the way. Assumes nothing.
+use mathlib.Core.Bool.{Bool, true, false, _&&_}
+use mathlib.Core.List.{[], _++_}
+use mathlib.Core.Option.{Option, none, some}
+use mathlib.Core.Path.{_≡_, refl, sym, ap, ap₂, _∙_, subst}
+use Prim.Native.Nat.{ℕ, _+_, _≤_, _<_}
+use native.Mathlib.Omega.{arith}
+use borrow.Author.Tests.{le-leb, lt-leb, leb-true}
+use lib.Dec.{leb}
+use lib.ListN.{length, drop}
+use lib.Seq.{paste, take-length}
+use Rattle.grammar.specs.Text.{Text, if_then_else_}
+use Rattle.grammar.specs.Names.{refusal, named, demangle, mangled-name, answer, within, work-fits, most-symbol-bytes, number-of}
+use Rattle.grammar.specs.Names as n
+use Rattle.grammar.specs.laws.Fuel.{never-0}
+use Rattle.catalogue.specs.Recogniser.{classify}
+use Rattle.catalogue.specs.Answer.{normal-in, normal-told, normal-after, normal-answer, normal-work-fits}
+use Rattle.normal_walk.specs.laws.Equal.{walk-is}
+use Rattle.normal_nodes.specs.Nodes.{note-symbol}
+use Rattle.normal_nodes.specs.laws.Equal.{nodes-are-walk}
+use Rattle.store.specs.Stack.{zeros}
+use Rattle.demangle.specs.declared.entry.Answer.{Answer}
+use Rattle.demangle.specs.declared.entry.Answer.the-variants.{Name, Refused}
+use Rattle.demangle.specs.declared.symbol.Front.{Front}
+use Rattle.demangle.specs.declared.symbol.Front.the-variants as front-as
+use Rattle.demangle.specs.Outcome.{Slices, slices, lent, number-in}
+use Rattle.demangle.specs.Symbols.{Fronts}
+use Rattle.demangle.specs.laws.Fronts.{both-true}
+use Rattle.demangle.specs.Printed.{Tells, refused-of}
+use Rattle.demangle.specs.laws.Tells.{tells-refusal, tells-name, tells-as}
+use Rattle.demangle.specs.laws.Told.{front-tells, told-leaves}
+use Rattle.demangle.specs.laws.Lengths.{answer-is}
+use Rattle.normalize.specs.Outcome.{normalized, Normalizes}
+use Rattle.normalize.specs.Parts.{Long, accepted-answer}
+
+-- ---- a normal symbol, told
+
+module _ (w out : Text) where
+  pub told-13 : most-symbol-bytes < length w → Tells (within (length out) (normal-told (some w))) out out (Refused 13)
+  unfolding normal-told within if_then_else_
+  told-13 h = tells-refusal (rw (lt-leb (length w) 4096 h))
+
+  pub told-12 : length w ≤ most-symbol-bytes → length out < length w → Tells (within (length out) (normal-told (some w))) out out (Refused 12)
+  unfolding normal-told within if_then_else_
+  told-12 h l = tells-refusal (rw (le-leb (length w) 4096 h, lt-leb (length w) (length out) l))
+
+  pub told-name : length w ≤ most-symbol-bytes → length w ≤ length out → {out' : Text} {n : ℕ} → n ≡ length w → out' ≡ paste out 0 w (length w)
+      → Tells (within (length out) (normal-told (some w))) out out' (Name n)
+  unfolding normal-told within if_then_else_
+  told-name h l e f =
+      tells-name {t = w} (rw (le-leb (length w) 4096 h, le-leb (length w) (length out) l)) e
+      (f ∙ ap₂ (λ (x : Text) (k : ℕ). x ++ drop k out) (take-length w) (let e : 0 + length w ≡ length w = omega arith in e))
+
+-- the code's walk finds what the recogniser finds
+pub note-is : (s : Text) → note-symbol s ≡ normal-in (classify s)
+note-is s = nodes-are-walk s ∙ walk-is s
+
+module _ (s out : Text) where
+  pub told-6 : note-symbol s ≡ none → Tells (accepted-answer (length out) s) out out (Refused 6)
+  unfolding normal-told within
+  told-6 e = tells-refusal (ap (λ (x : Option Text). within (length out) (normal-told x)) (sym (note-is s) ∙ e))
+
+  pub told-normal : {v w out' : Text} {r : Answer} → note-symbol s ≡ some v → w ≡ v → Tells (within (length out) (normal-told (some w))) out out' r
+      → Tells (accepted-answer (length out) s) out out' r
+  told-normal e f h = tells-as (ap (λ (x : Option Text). within (length out) (normal-told x)) (ap some f ∙ sym e ∙ note-is s)) h
+
+-- ---- the reading for the name
+
+long-fits : (l : Slices) → Long l → work-fits (lent l) ≡ true
+unfolding work-fits
+long-fits l h =
+    rw (le-leb 51200 (length (l .text)) (h .text), le-leb 65536 (length (l .store)) (h .store), le-leb 2048 (length (l .ends)) (omega (arith, h .ends)))
+
+-- a reading whose output slice is never too short tells the number of the symbol
+pub number-is : (s out text store ends : Text) {out' : Text} (r : Answer) {k : ℕ} → Tells (answer most-symbol-bytes (lent (slices out text store ends)) s) out out' r
+    → 16384 ≤ length out → Long (slices [] text store ends) → k ≡ number-in r → k ≡ number-of (demangle most-symbol-bytes s)
+number-is s out text store ends r e h f g =
+    let l = slices out text store ends in
+    g ∙ e .number ∙ ap number-of (answer-is l s h (long-fits l (record { text = f .text; store = f .store; ends = f .ends })))
+
+after-refused : (s : Text) (a : n.Answer) {k : ℕ} → k ≡ number-of a → (k ≡ 0 → ⊥) → normal-after s a ≡ refusal k
+unfolding number-of normal-after
+after-refused s (named x) e h = absurd (h e)
+after-refused s (refusal r) e h = ap refusal (sym e)
+
+after-accepted : (s : Text) (a : n.Answer) {k : ℕ} → (a ≡ refusal 0 → ⊥) → k ≡ number-of a → k ≡ 0 → normal-after s a ≡ normal-told (normal-in (classify s))
+unfolding number-of normal-after
+after-accepted s (named x) z e h = refl
+after-accepted s (refusal r) z e h = absurd (z (ap refusal (sym e ∙ h)))
+
+-- ---- the lengths of the work slices
+
+abbrev pub fit : Slices → Bool
+fit l = leb 51200 (length (l .text)) && leb 65536 (length (l .store)) && leb 24576 (length (l .ends))
+
+pub fit-long : (l : Slices) → fit l ≡ true → Long l
+fit-long l h =
+    let (i, k) = both-true (leb 51200 (length (l .text)) && leb 65536 (length (l .store))) (leb 24576 (length (l .ends))) h in
+    let (x, y) = both-true (leb 51200 (length (l .text))) (leb 65536 (length (l .store))) i in
+    record { text = leb-true 51200 (length (l .text)) x; store = leb-true 65536 (length (l .store)) y; ends = leb-true 24576 (length (l .ends)) k }
+
+-- ---- by the front
+
+module _ {s : Text} {f : Front} (h : Fronts s f) where
+  pub front-refuses : (l : Slices) {r : Answer} {k : ℕ} → f ≡ front-as.Refused k → r ≡ refused-of f → Tells (normal-answer (lent l) s) (l .out) (l .out) r
+  unfolding normal-answer
+  front-refuses l e g = front-tells h _ (l .out) e g
+
+  module _ {k : ℕ} (e : f ≡ front-as.Behind k) (l : Slices) where
+    abbrev here : Fronts s (front-as.Behind k)
+    here = subst (Fronts s) e h
+
+    pub front-short : fit l ≡ false → Tells (normal-answer (lent l) s) (l .out) (l .out) (Refused 14)
+    unfolding normal-answer normal-work-fits if_then_else_
+    front-short g = tells-refusal (here .is _ ∙ rw g)
+
+    module _ (g : fit l ≡ true) where
+      after-is : normal-answer (lent l) s ≡ within (length (l .out)) (normal-after s (demangle most-symbol-bytes s))
+      unfolding normal-answer normal-work-fits if_then_else_ demangle
+      after-is = here .is _ ∙ rw g (ap (λ (a : n.Answer). within (length (l .out)) (normal-after s a)) (sym (here .is mangled-name)))
+
+      module _ {j : ℕ} (a : j ≡ number-of (demangle most-symbol-bytes s)) where
+        pub reading-refuses : (j ≡ 0 → ⊥) → Tells (normal-answer (lent l) s) (l .out) (l .out) (Refused j)
+        unfolding within
+        reading-refuses z = tells-refusal (after-is ∙ ap (within (length (l .out))) (after-refused s (demangle most-symbol-bytes s) a z))
+
+        pub reading-accepts : {out : Text} {r : Answer} → j ≡ 0 → Tells (accepted-answer (length (l .out)) s) (l .out) out r
+            → Tells (normal-answer (lent l) s) (l .out) out r
+        reading-accepts z i =
+            tells-as (sym (after-is ∙ ap (within (length (l .out))) (after-accepted s (demangle most-symbol-bytes s) (never-0 most-symbol-bytes s) a z))) i
+
+-- ---- an answer that was told, and work slices that are zero
+
+pub told-normalizes : (s : Text) (l m : Slices) {r : Answer} → Tells (normal-answer (lent l) s) (l .out) (m .out) r → m .text ≡ zeros (length (l .text))
+    → m .store ≡ zeros (length (l .store)) → m .ends ≡ zeros (length (l .ends)) → Normalizes s l m r
+unfolding normalized
+told-normalizes s l m h e f g = told-leaves l m h e f g
