@@ -17,3 +17,4 @@ pub mod LowBytes
 pub mod NormalForm
 pub mod Examples
 pub mod ManyArguments
+pub mod Bytes

@@ -7,3 +7,4 @@ pub mod Finds
 pub mod Steps
 pub mod NameSteps
 pub mod Examples
+pub mod Loops

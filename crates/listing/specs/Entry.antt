@@ -1,83 +1,12 @@
 -- The entry for listings: the lengths of its work slices, the lines that it takes, and what it leaves. Assumes nothing.
-use mathlib.Core.Bool.{Bool, true, false, _&&_}
 use mathlib.Core.List.{List, []}
-use mathlib.Core.Path.{_≡_, refl, sym, _∙_}
-use Prim.Native.Nat.{ℕ, _≤_, _<_}
-use borrow.Author.Tests.{le-leb, lt-leb, leb-true}
-use lib.Dec.{leb}
 use lib.ListN.{length}
 use Rattle.grammar.specs.Text.{Text, if_then_else_}
-use Rattle.store.specs.Stack.{zeros}
 use Rattle.demangle.specs.Outcome.{Slices}
-use Rattle.demangle.specs.laws.Fronts.{both-true}
-use Rattle.listing.specs.Listing.{lines, fitting, bytes-taken, listing, least-ends-of, sized, work-sized, lists, listed, Lists}
-use Rattle.listing.specs.Kinds.{Sized}
-use Rattle.listing.specs.Lines.{Goes}
+use Rattle.listing.specs.Listing.{lines, fitting, sized, work-sized}
 use Rattle.listing.specs.declared.listing.Kind.{Kind}
-use Rattle.listing.specs.declared.listing.Listed.{Listed}
-
--- ---------------------------------------------------------------- the lengths
-
-module _ (kind : Kind) (name text store ends : ℕ) where
-  pub short-name : name < 16384 → false ≡ sized kind name text store ends
-  unfolding sized
-  short-name h = rw (lt-leb 16384 name h)
-
-  pub short-text : 16384 ≤ name → text < 51200 → false ≡ sized kind name text store ends
-  unfolding sized
-  short-text h k = rw (le-leb 16384 name h, lt-leb 51200 text k)
-
-  pub short-store : 16384 ≤ name → 51200 ≤ text → store < 65536 → false ≡ sized kind name text store ends
-  unfolding sized
-  short-store h k l = rw (le-leb 16384 name h, le-leb 51200 text k, lt-leb 65536 store l)
-
-  pub long-others : 16384 ≤ name → 51200 ≤ text → 65536 ≤ store → leb (least-ends-of kind) ends ≡ sized kind name text store ends
-  unfolding sized
-  long-others h k l = rw (le-leb 16384 name h, le-leb 51200 text k, le-leb 65536 store l)
 
 -- ---------------------------------------------------------------- the lines that are taken
 
 abbrev pub taken-lines : Kind → Text → Text → Slices → List Text
 taken-lines kind input out work = if work-sized kind work then fitting kind (length out) (lines input) else []
-
--- by a test of the lengths
-module _ (kind : Kind) (work : Slices) {q : Bool} (e : q ≡ sized kind (length (work .out)) (length (work .text)) (length (work .store)) (length (work .ends))) where
-  pub least-lengths : q ≡ true → Sized kind work
-  unfolding sized
-  least-lengths f =
-      let name = leb 16384 (length (work .out)) in
-      let text = leb 51200 (length (work .text)) in
-      let store = leb 65536 (length (work .store)) in
-      let ends = leb (least-ends-of kind) (length (work .ends)) in
-      let (x, i) = both-true name (text && store && ends) (sym e ∙ f) in
-      let (j, w) = both-true (text && store) ends i in
-      let (y, z) = both-true text store j in
-      record {
-        name = leb-true 16384 (length (work .out)) x;
-        text = leb-true 51200 (length (work .text)) y;
-        store = leb-true 65536 (length (work .store)) z;
-        ends = leb-true (least-ends-of kind) (length (work .ends)) w;
-      }
-
-  pub goes-none : (input out : Text) → q ≡ false → Goes kind out out (taken-lines kind input out work) (record { taken = 0; written = 0 })
-  unfolding work-sized bytes-taken listing if_then_else_
-  goes-none input out f = rw (sym e ∙ f) (record { taken = refl; written = refl; is = refl })
-
-  pub goes-some : (input : Text) {out out' : Text} {r : Listed} → q ≡ true → Goes kind out out' (fitting kind (length out) (lines input)) r
-      → Goes kind out out' (taken-lines kind input out work) r
-  unfolding work-sized if_then_else_
-  goes-some input f g = rw (sym e ∙ f) g
-
--- ---------------------------------------------------------------- the outcome
-
--- the lines were taken, and the work slices cleared
-pub goes-lists : (kind : Kind) (input : Text) {out out' : Text} (work work' : Slices) {r : Listed} → Goes kind out out' (taken-lines kind input out work) r
-    → work' .out ≡ zeros (length (work .out)) → work' .text ≡ zeros (length (work .text)) → work' .store ≡ zeros (length (work .store)) → work' .ends ≡ zeros (length (work .ends))
-    → Lists kind input out out' work work' r
-unfolding listed lists
-goes-lists kind input work work' g e f h k = λ i. record {
-  taken = g .taken i;
-  written = g .written i;
-  out = g .is i;
-  work = record { out = e i; text = f i; store = h i; ends = k i };
-}

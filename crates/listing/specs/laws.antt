@@ -2,3 +2,8 @@
 pub mod Answers
 pub mod Examples
 pub mod Inside
+pub mod Cut
+pub mod Entry
+pub mod Kinds
+pub mod Lines
+pub mod Printed

@@ -13,30 +13,7 @@ use Rattle.store.specs.Table.{Front}
 use Rattle.catalogue.specs.Bytes.{all}
 use Rattle.catalogue.specs.Spelling.{name-bytes}
 use Rattle.normal_walk.specs.Walk.{name, literal, lit-bytes}
-use Rattle.normal_nodes.specs.Nodes.{
-  Node,
-  node,
-  Notes,
-  Noter,
-  Got,
-  got,
-  bad,
-  firsts,
-  with,
-  when,
-  put,
-  go-to,
-  noted,
-  counted,
-  number-of,
-  tag-of,
-  may-stand,
-  lit-node,
-  sub-node,
-  arg-node,
-  wrap-node,
-  enter,
-}
+use Rattle.normal_nodes.specs.Nodes.{Node, node, Notes, Noter, Got, got, bad, firsts, with, when, put, go-to, noted, counted, number-of, tag-of, may-stand, lit-node, sub-node, arg-node, wrap-node, enter}
 use Rattle.normal_steps.specs.Parts.{part}
 use Rattle.normal_steps.specs.Regions.{Regions}
 use Rattle.normal_steps.specs.States.{written-to}
@@ -52,9 +29,6 @@ pub record Row : Type 0 where
   pub of : ℕ
   pub from : ℕ
   pub to : ℕ
-
-abbrev pub row : ℕ → ℕ → ℕ → ℕ → Row
-row c n from to = record { tag = c; of = n; from = from; to = to }
 
 abbrev pub node-in : Text → Row → Node
 node-in s x = node (x .tag) (x .of) (part s (x .from) (x .to))

@@ -10,3 +10,10 @@ pub mod Limits
 pub mod Told
 pub mod Steps
 pub mod LeafSteps
+pub mod Leads
+pub mod Parts
+pub mod Regions
+pub mod Rows
+pub mod Seeks
+pub mod Written
+pub mod Holds

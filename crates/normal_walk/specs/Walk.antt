@@ -11,46 +11,11 @@ use lib.ListN.{length, getElem?}
 use Rattle.grammar.specs.Text.{Text, if_then_else_, choose, run, past, between, digit}
 use Rattle.grammar.specs.Grammar.{index}
 use Rattle.catalogue.specs.Bytes.{all, first}
-use Rattle.catalogue.specs.Tree.{
-  Kind,
-  Ty,
-  Args,
-  letter,
-  wrap,
-  root,
-  sub,
-  app,
-  lit,
-  one,
-  also,
-  is-lit,
-  is-class,
-  is-bare,
-  single,
-  kind-code,
-}
+use Rattle.catalogue.specs.Tree.{Kind, Ty, Args, letter, wrap, root, sub, app, lit, one, also, is-lit, is-class, is-bare, single, kind-code}
 use Rattle.catalogue.specs.Spelling.{ref-bytes, name-bytes, minus, const-byte}
 use Rattle.catalogue.specs.Class.{name-ok, leading-zero, lit-ok, stands, push, push-new, most-arguments}
 use Rattle.catalogue.specs.Normal.{seek, known}
-use Rattle.catalogue.specs.Recogniser.{
-  Rd,
-  rd,
-  stop,
-  bind,
-  if-next,
-  read-name,
-  with-code,
-  all-kinds,
-  Lead,
-  lead-letter,
-  lead-wrap,
-  lead-digit,
-  leadS,
-  leadN,
-  leadL,
-  leadNone,
-  lead,
-}
+use Rattle.catalogue.specs.Recogniser.{Rd, rd, stop, bind, if-next, read-name, with-code, all-kinds, Lead, lead-letter, lead-wrap, lead-digit, leadS, leadN, leadL, leadNone, lead}
 
 -- what is read, the bytes written for it, the table, the arguments so far, the bytes left; or the symbol is outside the class
 pub data Walk (A : Type 0) : Type 0 where

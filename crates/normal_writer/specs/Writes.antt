@@ -8,20 +8,7 @@ use lib.ListN.{length, drop}
 use Rattle.grammar.specs.Text.{Text}
 use Rattle.catalogue.specs.Spelling.{name-bytes}
 use Rattle.normal_walk.specs.Walk.{name}
-use Rattle.normal_nodes.specs.Nodes.{
-  Notes,
-  notes,
-  Got,
-  got,
-  bad,
-  with,
-  begun,
-  note-at-scoped,
-  at-function,
-  note-at-end,
-  note-parts,
-  note-types,
-}
+use Rattle.normal_nodes.specs.Nodes.{Notes, notes, Got, got, bad, with, begun, note-at-scoped, at-function, note-at-end, note-parts, note-types}
 use Rattle.normal_steps.specs.Holds.{Holds}
 use Rattle.normal_steps.specs.declared.state.Writer.{Writer}
 use Rattle.normal_writer.specs.declared.symbol.Headed.{Headed}

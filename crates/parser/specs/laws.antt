@@ -4,3 +4,10 @@ pub mod Runs
 pub mod Tags
 pub mod Unnamed
 pub mod Decimals
+pub mod Adds
+pub mod Halves
+pub mod Leaves
+pub mod Literals
+pub mod References
+pub mod Source
+pub mod Wraps

@@ -13,3 +13,6 @@ pub mod Lits
 pub mod LocFns
 pub mod Nested
 pub mod Packs
+pub mod Funcs
+pub mod Separators
+pub mod Structors

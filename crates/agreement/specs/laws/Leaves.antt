@@ -16,7 +16,8 @@ use Rattle.grammar.specs.Reader.{State, Reader, onto, refuse, give, go-to, find
 use Rattle.grammar.specs.Grammar as g
 use Rattle.grammar.specs.Grammar.{⟨unqualified-name⟩, ⟨source-name⟩, ⟨operator-name⟩, ⟨substitution⟩, production, reading, index}
 use Rattle.grammar.specs.laws.Fuel.{reading-is}
-use Rattle.catalogue.specs.Bytes.{all, first, and-left, and-right, not-true, eqb-eq, run-of, past-of}
+use Rattle.catalogue.specs.Bytes.{all, first, and-left, and-right, eqb-eq}
+use Rattle.catalogue.specs.laws.Bytes.{not-true, run-of, past-of}
 use Rattle.agreement.specs.laws.Verdict.{at}
 
 -- ---------------------------------------------------------------- a byte that no code begins with

@@ -12,32 +12,9 @@ use Rattle.grammar.specs.Tables.{_⇒_, letters, suffixes}
 use Rattle.grammar.specs.Reader.{State, ok, Reader, onto, every, go-to, steps, word-for, push-arg, fits, most-open, most-text-bytes}
 use Rattle.grammar.specs.Grammar as g
 use Rattle.grammar.specs.Grammar.{⟨template-args⟩, ⟨template-arg⟩, production, reading}
-use Rattle.catalogue.specs.Bytes.{all, first, and-left, and-right, and-both, run-of, past-of}
-use Rattle.catalogue.specs.Tree.{
-  Letter,
-  Kind,
-  Ty,
-  Args,
-  lb,
-  li,
-  lj,
-  ll,
-  lm,
-  kb,
-  ki,
-  kj,
-  kl,
-  km,
-  lit,
-  one,
-  also,
-  letter-code,
-  kind-code,
-  word,
-  literal,
-  print,
-  print-args,
-}
+use Rattle.catalogue.specs.Bytes.{all, first, and-left, and-right, and-both}
+use Rattle.catalogue.specs.laws.Bytes.{run-of, past-of}
+use Rattle.catalogue.specs.Tree.{Letter, Kind, Ty, Args, lb, li, lj, ll, lm, kb, ki, kj, kl, km, lit, one, also, letter-code, kind-code, word, literal, print, print-args}
 use borrow.Author.Tests.{ne-eqb}
 use Rattle.catalogue.specs.laws.Numbers.{digit-low}
 use Rattle.catalogue.specs.Spelling.{minus}
@@ -45,34 +22,7 @@ use Rattle.catalogue.specs.Class.{lit-ok}
 use Rattle.catalogue.specs.laws.NormalForm.{arg-bytes, nbytes}
 use Rattle.catalogue.specs.laws.WellFormed.{WfArgs}
 use Rattle.catalogue.specs.laws.Count.{number-of, nargs}
-use Rattle.agreement.specs.laws.Verdict.{
-  at,
-  Verdict,
-  gives,
-  next,
-  assoc,
-  then-by,
-  by-equal,
-  weaken,
-  gives-as,
-  before-E,
-  guarded,
-  guarded-is,
-  closed,
-  closed-by,
-  up-to-E-is,
-  in-reading,
-  give-end,
-  need-by,
-  byte-E,
-  byte-I,
-  byte-L,
-  entered-by,
-  by-code-miss,
-  push-arg-by,
-  step-on,
-  step-off,
-}
+use Rattle.agreement.specs.laws.Verdict.{at, Verdict, gives, next, assoc, then-by, by-equal, weaken, gives-as, before-E, guarded, guarded-is, closed, closed-by, up-to-E-is, in-reading, give-end, need-by, byte-E, byte-I, byte-L, entered-by, by-code-miss, push-arg-by, step-on, step-off}
 use Rattle.agreement.specs.laws.Leaves.{find-miss, clear, starts-miss}
 use Rattle.agreement.specs.laws.Heads.{opens, some-bytes}
 use Rattle.agreement.specs.laws.Steps.{literal-arg-by}

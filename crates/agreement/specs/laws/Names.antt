@@ -17,18 +17,7 @@ use Rattle.catalogue.specs.Tree.{Ty, root, sub, print}
 use Rattle.catalogue.specs.Spelling.{Pre, SpName, flat, scoped, spell-name, spell-pre, name-bytes, const-byte}
 use Rattle.catalogue.specs.Class.{name-ok, resolve-pre, resolve-name, is-const}
 use Rattle.catalogue.specs.laws.Limits.{depth-pre, depth-name}
-use Rattle.agreement.specs.laws.Verdict.{
-  at,
-  Verdict,
-  reads,
-  stops,
-  in-onto,
-  by-equal,
-  in-reading,
-  give-by,
-  at-code-hit,
-  at-code-miss,
-}
+use Rattle.agreement.specs.laws.Verdict.{at, Verdict, reads, stops, in-onto, by-equal, in-reading, give-by, at-code-hit, at-code-miss}
 use Rattle.agreement.specs.laws.After.{After, after-ok, after-then, after-if}
 use Rattle.agreement.specs.laws.Leaves.{find-miss, clear}
 use Rattle.agreement.specs.laws.Heads.{heads, name-first, pre-heads}
@@ -36,18 +25,7 @@ use Rattle.agreement.specs.laws.Printed.{join-snoc}
 use Rattle.agreement.specs.laws.Rooms.{texts, bytes, Room, Kept, grown-refl}
 use Rattle.agreement.specs.laws.Pushes.{kept-same, room-part}
 use Rattle.agreement.specs.laws.TypeNodes.{I-miss, unqualified-gives}
-use Rattle.agreement.specs.laws.Nested.{
-  SaysPre,
-  parts,
-  ending,
-  nested-by,
-  ending-by,
-  part-by,
-  parts-end,
-  last-part,
-  goes-digit,
-  name-longer,
-}
+use Rattle.agreement.specs.laws.Nested.{SaysPre, parts, ending, nested-by, ending-by, part-by, parts-end, last-part, goes-digit, name-longer}
 use Rattle.agreement.specs.laws.Spellings.{PreRead, reads-pre, name-tag, name-more}
 
 -- the name y was read up to r with the qualifiers c; no template arguments ended it

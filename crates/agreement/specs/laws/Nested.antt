@@ -8,55 +8,18 @@ use Prim.Native.Char.{code}
 use native.Mathlib.Omega.{arith}
 use lib.ListN.{length, length-append, getElem?}
 use Rattle.grammar.specs.Text.{Text, b, if_then_else_, choose, same, starts, holds, join, each, digit, digit-value}
-use Rattle.grammar.specs.Reader.{
-  State,
-  ok,
-  Reader,
-  onto,
-  return,
-  refuse,
-  give,
-  need,
-  eat,
-  every,
-  go-to,
-  steps,
-  while,
-  up-to-E,
-  see,
-  push-sub,
-  set-args,
-  set-cv,
-  set-templated,
-  bytes-of,
-  most-open,
-  most-text-bytes,
-}
+use Rattle.grammar.specs.Reader.{State, ok, Reader, onto, return, refuse, give, need, eat, every, go-to, steps, while, up-to-E, see, push-sub, set-args, set-cv, set-templated, bytes-of, most-open, most-text-bytes}
 use Rattle.grammar.specs.Grammar as g
 use Rattle.grammar.specs.Grammar.{⟨template-args⟩, ⟨nested-name⟩, production, reading, Parts, last, onto-last}
 use Rattle.grammar.specs.laws.Fuel.{reading-is}
-use Rattle.catalogue.specs.Bytes.{all, first, run-of, past-of}
+use Rattle.catalogue.specs.Bytes.{all, first}
+use Rattle.catalogue.specs.laws.Bytes.{run-of, past-of}
 use Rattle.catalogue.specs.Tree.{Ty, Args, root, sub, app, print}
 use Rattle.catalogue.specs.Spelling.{ref-digits, length-digits, name-bytes, const-byte}
 use Rattle.catalogue.specs.Class.{name-ok, push}
 use Rattle.catalogue.specs.laws.Count.{number-of}
 use Rattle.catalogue.specs.laws.NormalForm.{arg-bytes}
-use Rattle.agreement.specs.laws.Verdict.{
-  at,
-  Verdict,
-  next,
-  assoc,
-  then-by,
-  by-equal,
-  give-by,
-  before-E,
-  guarded,
-  guarded-is,
-  closed,
-  closed-by,
-  loop-on,
-  loop-off,
-}
+use Rattle.agreement.specs.laws.Verdict.{at, Verdict, next, assoc, then-by, by-equal, give-by, before-E, guarded, guarded-is, closed, closed-by, loop-on, loop-off}
 use Rattle.agreement.specs.laws.Leaves.{starts-miss}
 use Rattle.agreement.specs.laws.Heads.{heads, name-first, length-digit, some-bytes}
 use Rattle.agreement.specs.laws.Steps.{prefix-name, prefix-ref, prefix-list}

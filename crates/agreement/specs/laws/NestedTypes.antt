@@ -25,21 +25,7 @@ use Rattle.agreement.specs.laws.Printed.{list-text, join-snoc, join-onto
 use Rattle.agreement.specs.laws.Rooms.{texts, Grown, grown-push, grown-push-new, grown-trans}
 use Rattle.agreement.specs.laws.Pushes.{new-entry-end, old-entry-end, kept-new, kept-app, room-part, room-list}
 use Rattle.agreement.specs.laws.TypeNodes.{Says, SaysList}
-use Rattle.agreement.specs.laws.Nested.{
-  SaysPre,
-  parts,
-  ending,
-  nested-by,
-  ending-by,
-  part-by,
-  parts-end,
-  last-part,
-  list-part,
-  goes-digit,
-  goes-I,
-  name-longer,
-  nothing,
-}
+use Rattle.agreement.specs.laws.Nested.{SaysPre, parts, ending, nested-by, ending-by, part-by, parts-end, last-part, list-part, goes-digit, goes-I, name-longer, nothing}
 
 -- ---------------------------------------------------------------- N .. E as a type
 

@@ -17,18 +17,7 @@ use Rattle.catalogue.specs.laws.NormalTree.{resolve-sym-normal}
 use Rattle.catalogue.specs.laws.NoDoubles.{sum}
 use Rattle.catalogue.specs.laws.Count.{nargs, Counted, counted-sym}
 use Rattle.catalogue.specs.laws.Decision.{resolves, few, tree-wf}
-use Rattle.catalogue.specs.laws.NormalForm.{
-  nbytes,
-  nbytes-printed,
-  sum-le,
-  weight-one,
-  printed,
-  no-larger,
-  sum-no-larger,
-  normal-catalogue,
-  normal-normal,
-  names-normals-of,
-}
+use Rattle.catalogue.specs.laws.NormalForm.{nbytes, nbytes-printed, sum-le, weight-one, printed, no-larger, sum-no-larger, normal-catalogue, normal-normal, names-normals-of}
 use Rattle.agreement.specs.laws.Symbols.{RoomSym}
 use Rattle.agreement.specs.laws.Accepted.{Accepted, accepted, accepts}
 

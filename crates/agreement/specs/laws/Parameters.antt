@@ -9,7 +9,8 @@ use Rattle.grammar.specs.Text.{Text, b, if_then_else_, choose, same, holds, joi
 use Rattle.grammar.specs.Tables.{letters}
 use Rattle.grammar.specs.Reader.{Result, Reader, onto, steps, word-for, most-open}
 use Rattle.grammar.specs.Grammar.{⟨type⟩, reading, ended, only-void}
-use Rattle.catalogue.specs.Bytes.{first, and-left, and-right, not-true}
+use Rattle.catalogue.specs.Bytes.{first, and-left, and-right}
+use Rattle.catalogue.specs.laws.Bytes.{not-true}
 use Rattle.catalogue.specs.Tree.{Ty, Args, letter, lv, one, also, word, print, print-args, is-lit, is-void, inside, same-ty}
 use Rattle.catalogue.specs.Spelling.{Sp, SpArgs, s-one, s-also, spell, spell-args}
 use Rattle.catalogue.specs.Class.{all-types, resolve, resolve-args}

@@ -20,19 +20,7 @@ use Rattle.catalogue.specs.laws.Back.{back}
 use Rattle.catalogue.specs.laws.Count.{sum-push, nargs, number-of}
 use Rattle.agreement.specs.laws.Verdict.{at, Verdict, reads, Gives, gives, push-sub-by, recorded-end}
 use Rattle.agreement.specs.laws.Printed.{list-text}
-use Rattle.agreement.specs.laws.Rooms.{
-  texts,
-  texts-push,
-  Fits,
-  fits-push,
-  push-fits,
-  fits-grown,
-  Grown,
-  sum-grown,
-  bytes,
-  Room,
-  Kept,
-}
+use Rattle.agreement.specs.laws.Rooms.{texts, texts-push, Fits, fits-push, push-fits, fits-grown, Grown, sum-grown, bytes, Room, Kept}
 
 -- ---------------------------------------------------------------- entries
 

@@ -12,26 +12,7 @@ use Rattle.grammar.specs.Text.{Text, if_then_else_}
 use Rattle.grammar.specs.Reader.{fits, bytes-of, most-open, most-entries, most-entry-bytes, most-text-bytes}
 use Rattle.catalogue.specs.Bytes.{and-left, and-right, and-both}
 use Rattle.catalogue.specs.Tree.{Ty, Args, wrap, root, sub, app, print, is-bare, is-class, single}
-use Rattle.catalogue.specs.Spelling.{
-  Sp,
-  Pre,
-  SpArgs,
-  s-letter,
-  s-wrap,
-  s-ref,
-  plain,
-  templ,
-  retempl,
-  nest-sub,
-  nest-app,
-  s-lit,
-  p-ref,
-  p-root,
-  p-sub,
-  p-app,
-  s-one,
-  s-also,
-}
+use Rattle.catalogue.specs.Spelling.{Sp, Pre, SpArgs, s-letter, s-wrap, s-ref, plain, templ, retempl, nest-sub, nest-app, s-lit, p-ref, p-root, p-sub, p-app, s-one, s-also}
 use Rattle.catalogue.specs.Class.{name-ok, lit-ok, stands, push, last-is, push-new, Res, ok, and-then, entry, resolve, resolve-pre, resolve-args}
 use Rattle.catalogue.specs.laws.WellFormed.{Post, post-ok, post-then, post-if}
 use Rattle.catalogue.specs.laws.Count.{nargs}

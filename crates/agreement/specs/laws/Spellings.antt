@@ -11,113 +11,25 @@ use lib.ListN.{length, length-append, getElem?}
 use Rattle.grammar.specs.Text.{Text, b, if_then_else_, starts, holds, digit, digit-value}
 use Rattle.grammar.specs.Reader.{ok}
 use Rattle.grammar.specs.Grammar.{⟨type⟩, ⟨template-args⟩, ⟨template-arg⟩, reading}
-use Rattle.catalogue.specs.Bytes.{first, and-right, not-true, or-left}
+use Rattle.catalogue.specs.Bytes.{first, and-right}
+use Rattle.catalogue.specs.laws.Bytes.{not-true, or-left}
 use borrow.Author.Tests.{ne-eqb}
 use Rattle.catalogue.specs.laws.Numbers.{digit-low}
-use Rattle.catalogue.specs.Tree.{
-  Letter,
-  Wrap,
-  Kind,
-  Ty,
-  Args,
-  letter,
-  wrap,
-  root,
-  sub,
-  app,
-  lit,
-  one,
-  also,
-  letter-code,
-  wrap-code,
-  kind-code,
-  print,
-  is-lit,
-  is-ref,
-  is-qual,
-  is-class,
-  is-bare,
-  single,
-  w-p,
-  wR,
-  wO,
-  wK,
-  wV,
-}
-use Rattle.catalogue.specs.Spelling.{
-  Sp,
-  Pre,
-  SpArgs,
-  s-letter,
-  s-wrap,
-  s-ref,
-  plain,
-  templ,
-  retempl,
-  nest-sub,
-  nest-app,
-  s-lit,
-  p-ref,
-  p-root,
-  p-sub,
-  p-app,
-  s-one,
-  s-also,
-  spell,
-  spell-pre,
-  spell-args,
-  ref-digits,
-  name-bytes,
-  minus,
-}
+use Rattle.catalogue.specs.Tree.{Letter, Wrap, Kind, Ty, Args, letter, wrap, root, sub, app, lit, one, also, letter-code, wrap-code, kind-code, print, is-lit, is-ref, is-qual, is-class, is-bare, single, w-p, wR, wO, wK, wV}
+use Rattle.catalogue.specs.Spelling.{Sp, Pre, SpArgs, s-letter, s-wrap, s-ref, plain, templ, retempl, nest-sub, nest-app, s-lit, p-ref, p-root, p-sub, p-app, s-one, s-also, spell, spell-pre, spell-args, ref-digits, name-bytes, minus}
 use Rattle.catalogue.specs.Class.{name-ok, lit-ok, stands, push, push-new, Res, wrong, entry, resolve, resolve-pre, resolve-args}
 use Rattle.catalogue.specs.Class as class
 use Rattle.catalogue.specs.laws.Limits.{depth, depth-pre, depth-args}
-use Rattle.catalogue.specs.laws.WellFormed.{
-  Wf,
-  WfArgs,
-  AllWf,
-  Good,
-  GoodPre,
-  GoodArgs,
-  Post,
-  post-ok,
-  post-if,
-  wf-push,
-  resolve-wf,
-  resolve-pre-wf,
-  resolve-args-wf,
-}
+use Rattle.catalogue.specs.laws.WellFormed.{Wf, WfArgs, AllWf, Good, GoodPre, GoodArgs, Post, post-ok, post-if, wf-push, resolve-wf, resolve-pre-wf, resolve-args-wf}
 use Rattle.agreement.specs.laws.Letters.{every-letter}
 use Rattle.agreement.specs.laws.Verdict.{at}
 use Rattle.agreement.specs.laws.After.{After, after-ok, after-then, after-if, after-entry, after-also, Up, up}
-use Rattle.agreement.specs.laws.Heads.{
-  opens,
-  first-map,
-  Follow,
-  follow-E,
-  follow-opens,
-  spell-opens,
-  args-opens,
-  pre-heads,
-  name-first,
-  name-opens,
-}
+use Rattle.agreement.specs.laws.Heads.{opens, first-map, Follow, follow-E, follow-opens, spell-opens, args-opens, pre-heads, name-first, name-opens}
 use Rattle.agreement.specs.laws.Leaves.{starts-miss}
 use Rattle.agreement.specs.laws.Steps.{type-arg-by, not-L}
 use Rattle.agreement.specs.laws.Printed.{first-long}
 use Rattle.agreement.specs.laws.Rooms.{texts, Grown, grows-args}
-use Rattle.agreement.specs.laws.TypeNodes.{
-  Says,
-  SaysList,
-  SaysItems,
-  letter-says,
-  wrap-says,
-  ref-says,
-  plain-says,
-  templ-says,
-  retempl-says,
-}
+use Rattle.agreement.specs.laws.TypeNodes.{Says, SaysList, SaysItems, letter-says, wrap-says, ref-says, plain-says, templ-says, retempl-says}
 use Rattle.agreement.specs.laws.Lists.{literal-says, args-loop, one-says, also-says, list-says}
 use Rattle.agreement.specs.laws.NestedTypes.{nest-sub-says, nest-app-says}
 use Rattle.agreement.specs.laws.Nested.{SaysPre, pre-ref-says, pre-root-says, pre-sub-says, pre-app-says}

@@ -10,57 +10,13 @@ use lib.ListN.{length, length-append}
 use lib.Dec.{eqb}
 use Rattle.grammar.specs.Text.{Text, b, if_then_else_, choose, same, join, each, digit, digit-value}
 use Rattle.grammar.specs.Tables.{labels, qualifiers, letters}
-use Rattle.grammar.specs.Reader.{
-  bytes-of,
-  State,
-  ok,
-  Reader,
-  onto,
-  return,
-  give,
-  while,
-  set-cv,
-  word-for,
-  most-open,
-  most-entries,
-  most-entry-bytes,
-  most-text-bytes,
-}
+use Rattle.grammar.specs.Reader.{bytes-of, State, ok, Reader, onto, return, give, while, set-cv, word-for, most-open, most-entries, most-entry-bytes, most-text-bytes}
 use Rattle.grammar.specs.Grammar as g
 use Rattle.grammar.specs.Grammar.{⟨encoding⟩, ⟨name⟩, ⟨type⟩, production, reading, ended, only-void}
 use Rattle.catalogue.specs.Bytes.{first}
-use Rattle.catalogue.specs.Tree.{
-  Ty,
-  Args,
-  Enc,
-  letter,
-  lv,
-  enc,
-  one,
-  also,
-  print,
-  print-args,
-  is-void,
-  inside,
-  tail,
-  print-enc,
-  word,
-  same-ty,
-  same-ty-eq,
-}
+use Rattle.catalogue.specs.Tree.{Ty, Args, Enc, letter, lv, enc, one, also, print, print-args, is-void, inside, tail, print-enc, word, same-ty, same-ty-eq}
 use Rattle.catalogue.specs.Spelling.{SpArgs, SpName, Sym, flat, scoped, symbol, spell-args, spell-name, spell-params, name-bytes}
-use Rattle.catalogue.specs.Class.{
-  name-ok,
-  all-types,
-  is-const,
-  and-then,
-  provided,
-  resolve-pre,
-  resolve-args,
-  resolve-name,
-  resolve-params,
-  resolve-sym,
-}
+use Rattle.catalogue.specs.Class.{name-ok, all-types, is-const, and-then, provided, resolve-pre, resolve-args, resolve-name, resolve-params, resolve-sym}
 use Rattle.catalogue.specs.Class as class
 use Rattle.catalogue.specs.laws.Count.{nargs}
 use Rattle.catalogue.specs.laws.Limits.{depth-name, depth-args, depth-sym}

@@ -7,23 +7,8 @@ use mathlib.Core.Path.{_≡_, refl, sym, _∙_, ap}
 use Prim.Native.Nat.{ℕ, suc, zero, _+_, _-_}
 use lib.ListN.{getElem?}
 use Rattle.grammar.specs.Text.{if_then_else_}
-use Rattle.catalogue.specs.Bytes.{or-false, or-true, or-cases}
-use Rattle.catalogue.specs.Tree.{
-  Ty,
-  Args,
-  letter,
-  wrap,
-  root,
-  sub,
-  app,
-  lit,
-  one,
-  also,
-  same-ty,
-  same-ty-eq,
-  same-ty-yes,
-  is-class,
-}
+use Rattle.catalogue.specs.laws.Bytes.{or-false, or-true, or-cases}
+use Rattle.catalogue.specs.Tree.{Ty, Args, letter, wrap, root, sub, app, lit, one, also, same-ty, same-ty-eq, same-ty-yes, is-class}
 use Rattle.catalogue.specs.Class.{push, last-is, push-new}
 use Rattle.catalogue.specs.Normal.{later, seek, known, after, after-pre, after-args}
 use Rattle.catalogue.specs.laws.WellFormed.{Wf, WfArgs, bare-class}

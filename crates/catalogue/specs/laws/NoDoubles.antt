@@ -7,7 +7,7 @@ use mathlib.Core.Path.{_≡_, refl, sym, _∙_}
 use Prim.Native.Nat.{ℕ, suc, _+_, _-_, _≤_, _<_}
 use native.Mathlib.Omega.{arith}
 use Rattle.grammar.specs.Text.{if_then_else_}
-use Rattle.catalogue.specs.Bytes.{or-left, or-right, or-true, or-cases, or-no}
+use Rattle.catalogue.specs.laws.Bytes.{or-left, or-right, or-true, or-cases, or-no}
 use Rattle.catalogue.specs.Tree.{Ty, Args, letter, wrap, root, sub, app, lit, one, also, same-ty, same-ty-eq, same-ty-yes}
 use Rattle.catalogue.specs.Class.{push, last-is, push-new}
 use Rattle.catalogue.specs.Normal.{seek, known, after, after-pre, after-args}

@@ -8,23 +8,7 @@ use Prim.Native.Nat.{ℕ, _+_, _≤_}
 use native.Mathlib.Omega.{arith}
 use lib.ListN.{length, length-append}
 use Rattle.grammar.specs.Text.{Text}
-use Rattle.catalogue.specs.Tree.{
-  Ty,
-  Args,
-  Enc,
-  letter,
-  wrap,
-  root,
-  sub,
-  app,
-  lit,
-  one,
-  also,
-  enc,
-  print,
-  print-args,
-  print-enc,
-}
+use Rattle.catalogue.specs.Tree.{Ty, Args, Enc, letter, wrap, root, sub, app, lit, one, also, enc, print, print-args, print-enc}
 use Rattle.catalogue.specs.Spelling.{Sym, spell-sym}
 use Rattle.catalogue.specs.Class.{ok, resolve-sym, count-sym, Catalogue}
 use Rattle.catalogue.specs.Normal.{after-params, after-name, normal-sym, after-sym, write, normal-of}

@@ -8,7 +8,8 @@ use lib.Dec.{leb, ltb}
 use borrow.Author.Tests.{ltb-true, ltb-false, leb-true, le-leb, lt-leb, lt-ltb, le-ltb}
 use Rattle.grammar.specs.Text.{Text, if_then_else_, between, digit-value, digit, number, decimal}
 use Rattle.grammar.specs.Grammar.{index}
-use Rattle.catalogue.specs.Bytes.{all, all-append, and-left, and-right}
+use Rattle.catalogue.specs.Bytes.{all, and-left, and-right}
+use Rattle.catalogue.specs.laws.Bytes.{all-append}
 use Rattle.catalogue.specs.Spelling.{digit-of, base36, ref-digits}
 
 -- ---------------------------------------------------------------- one digit

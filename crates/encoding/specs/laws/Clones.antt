@@ -20,8 +20,9 @@ use Rattle.parser.specs.declared.state.Read.the-variants.{Text as read, Refused
 use Rattle.parser.specs.States.{fresh, raised-to, moved-to}
 use Rattle.grammar.specs.laws.Places.{rest-none}
 use Rattle.parser.specs.Holds.{Memory, mem, low-bytes, high-bytes, low-ends, high-ends, Puts, keep, given-of}
-use Rattle.parser.specs.Halves.{give-short, give-long}
-use Rattle.parser.specs.Adds.{Adds, adds-none, adds-more}
+use Rattle.parser.specs.laws.Halves.{give-short, give-long}
+use Rattle.parser.specs.Adds.{Adds}
+use Rattle.parser.specs.laws.Adds.{adds-none, adds-more}
 use Rattle.encoding.specs.Encodings.{Fresh, Encodes, refuses, Least}
 use Rattle.encoding.specs.laws.Answers.{encodes-by, refusal, Answered, answered}
 use Rattle.encoding.specs.laws.Labels.{starts-is, after, clone, clone-read}

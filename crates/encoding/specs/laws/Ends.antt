@@ -25,9 +25,10 @@ use Rattle.parser.specs.States.{peeked}
 use Rattle.grammar.specs.laws.Places.{rest-none}
 use Rattle.parser.specs.Holds.{mem, part, Refines, Puts, given-of}
 use Rattle.parser.specs.laws.Laws.{given-refines}
-use Rattle.parser.specs.Halves.{same-not}
-use Rattle.parser.specs.Adds.{Adds, adds-none, adds-more, stands-more}
-use Rattle.parser.specs.Wraps.{newest-text, picked-at, picked-none}
+use Rattle.parser.specs.laws.Halves.{same-not}
+use Rattle.parser.specs.Adds.{Adds}
+use Rattle.parser.specs.laws.Adds.{adds-none, adds-more, stands-more}
+use Rattle.parser.specs.laws.Wraps.{newest-text, picked-at, picked-none}
 use Rattle.encoding.specs.Encodings.{qualified-by, Qualifies, LoneVoid}
 
 -- ---------------------------------------------------------------- where a name ends

@@ -17,8 +17,8 @@ use Rattle.parser.specs.declared.state.Read.{Read}
 use Rattle.parser.specs.declared.state.Read.the-variants.{Text as read, Refused}
 use Rattle.parser.specs.Holds.{Memory, mem, window, Holds, Stands, Refines, refuses, Reads, Puts, Cuts, keep}
 use Rattle.parser.specs.laws.Laws.{by, less, Got, got, refused-on, holds-puts, stands}
-use Rattle.parser.specs.Halves.{give-short, give-long}
-use Rattle.parser.specs.Wraps.{holds-cuts, stands-puts}
+use Rattle.parser.specs.laws.Halves.{give-short, give-long}
+use Rattle.parser.specs.laws.Wraps.{holds-cuts, stands-puts}
 use Rattle.reader.specs.declared.lists.Kind.the-variants.{Parameters}
 use Rattle.reader.specs.declared.lists.Texts.{Texts}
 use Rattle.reader.specs.declared.lists.Texts.the-variants as items-as

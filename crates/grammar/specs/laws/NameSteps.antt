@@ -11,17 +11,7 @@ use lib.ListN.{drop}
 use Rattle.grammar.specs.Text.{Text, b, if_then_else_, choose, starts, holds, digit}
 use Rattle.grammar.specs.Tables.{operators}
 use Rattle.grammar.specs.Reader.{State, refused, onto, go-to, give, find, by-code, at-code, eat, need, first, any}
-use Rattle.grammar.specs.Grammar.{
-  ⟨name⟩,
-  ⟨nested-name⟩,
-  ⟨unqualified-name⟩,
-  ⟨source-name⟩,
-  ⟨operator-name⟩,
-  ⟨type⟩,
-  ⟨template-arg⟩,
-  ⟨expr-primary⟩,
-  reading,
-}
+use Rattle.grammar.specs.Grammar.{⟨name⟩, ⟨nested-name⟩, ⟨unqualified-name⟩, ⟨source-name⟩, ⟨operator-name⟩, ⟨type⟩, ⟨template-arg⟩, ⟨expr-primary⟩, reading}
 use Rattle.grammar.specs.Grammar as g
 use Rattle.grammar.specs.laws.Agree.{moved, coded, all-coded}
 use Rattle.grammar.specs.laws.Fuel.{reading-is}

@@ -11,26 +11,7 @@ use lib.Dec.{T, eqb, ltb}
 use lib.ListN.{length, drop, getD}
 use Rattle.grammar.specs.Text.{Text, b, if_then_else_, choose, same, starts, holds, run, past, between, digit, digit-value, number}
 use Rattle.grammar.specs.Tables.{Row, _⇒_, Table, letters, d-letters, wrappers}
-use Rattle.grammar.specs.Reader.{
-  State,
-  Result,
-  ok,
-  refused,
-  Reader,
-  onto,
-  ahead,
-  go-to,
-  set-depth,
-  give,
-  entered,
-  find,
-  word-for,
-  by-code,
-  at-code,
-  eat,
-  need,
-  every,
-}
+use Rattle.grammar.specs.Reader.{State, Result, ok, refused, Reader, onto, ahead, go-to, set-depth, give, entered, find, word-for, by-code, at-code, eat, need, every}
 use Rattle.grammar.specs.Grammar.{⟨source-name⟩, ⟨template-param⟩, reading}
 use Rattle.grammar.specs.Grammar as g
 use Rattle.grammar.specs.laws.Agree.{moved, coded, all-coded}

@@ -10,25 +10,9 @@ use lib.Dec.{eqb}
 use lib.ListN.{length, getElem?}
 use borrow.Author.Tests.{ne-eqb, leb-false}
 use Rattle.grammar.specs.Text.{if_then_else_, same}
-use Rattle.catalogue.specs.Bytes.{and-left, and-right, or-false, eqb-yes, eqb-eq, same-eq, same-yes}
-use Rattle.catalogue.specs.Tree.{
-  Letter,
-  Wrap,
-  Kind,
-  Ty,
-  w-p,
-  wR,
-  wO,
-  wK,
-  wV,
-  is-lit,
-  is-ref,
-  is-qual,
-  same-ty,
-  letter-code,
-  wrap-code,
-  kind-code,
-}
+use Rattle.catalogue.specs.Bytes.{and-left, and-right, eqb-yes, eqb-eq, same-eq, same-yes}
+use Rattle.catalogue.specs.laws.Bytes.{or-false}
+use Rattle.catalogue.specs.Tree.{Letter, Wrap, Kind, Ty, w-p, wR, wO, wK, wV, is-lit, is-ref, is-qual, same-ty, letter-code, wrap-code, kind-code}
 use Rattle.catalogue.specs.Class.{stands}
 use Rattle.catalogue.specs.Normal.{seek, later as next-place}
 use Rattle.catalogue.specs.laws.LowBytes.{letter-low, wrap-low, kind-low}

@@ -16,11 +16,12 @@ use Rattle.catalogue.specs.Tree.{Kind, Ty, lit, kind-code}
 use Rattle.catalogue.specs.Class.{word-byte, reserved, listed, name-ok, leading-zero, lit-ok}
 use Rattle.catalogue.specs.Recogniser.{Rd, rd, stop, if-next, cut, read-name, with-code, all-kinds}
 use Rattle.normal_walk.specs.Walk.{keep, name, capital, canonical, reference, value as value-at, literal as literal-at}
-use Rattle.normal_steps.specs.Parts.{part, part-more, run-is, past-is}
+use Rattle.normal_steps.specs.Parts.{part}
+use Rattle.normal_steps.specs.laws.Parts.{part-more, run-is, past-is}
 use Rattle.grammar.specs.laws.Places.{rest-some, rest-none, starts-inside}
 use Rattle.normal_steps.specs.laws.Tests.{next-here, next-not, first-zero, lt-or-le}
 use Rattle.normal_steps.specs.Answers.{RefAt, most-index, Value, ValueIs, LitIs, valid-by}
-use Rattle.normal_steps.specs.Leads.{coded}
+use Rattle.normal_steps.specs.laws.Leads.{coded}
 use Rattle.normal_steps.specs.declared.marks.Valued.{Valued}
 use Rattle.normal_steps.specs.declared.marks.Valued.the-variants.{To, Bad}
 

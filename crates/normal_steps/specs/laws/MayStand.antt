@@ -6,7 +6,8 @@ use Prim.Native.Nat.{ℕ}
 use Prim.Native.Char.{code}
 use borrow.Author.Tests.{eq-eqb, ne-eqb}
 use lib.Dec.{eqb}
-use Rattle.catalogue.specs.Bytes.{or-false, or-cases, eqb-eq}
+use Rattle.catalogue.specs.Bytes.{eqb-eq}
+use Rattle.catalogue.specs.laws.Bytes.{or-false, or-cases}
 use Rattle.normal_nodes.specs.Nodes.{a-ref, a-qual, may-stand}
 
 ref-no-qual : (q : ℕ) → a-ref q ≡ true → a-qual q ≡ false

@@ -12,33 +12,18 @@ use Rattle.store.specs.laws.Fronts.{front-less}
 use Rattle.store.specs.laws.Lists.{second-lent}
 use Rattle.catalogue.specs.Spelling.{ref-bytes}
 use Rattle.normal_walk.specs.laws.Sizes.{ref-length}
-use Rattle.normal_nodes.specs.Nodes.{
-  Node,
-  Notes,
-  Got,
-  notes,
-  got,
-  same-node,
-  seek-by,
-  node-place,
-  number-at,
-  number-of,
-  with-new,
-  with-node,
-  table-place,
-  firsts,
-  pushed,
-  replaced,
-  settled,
-}
+use Rattle.normal_nodes.specs.Nodes.{Node, Notes, Got, notes, got, same-node, seek-by, node-place, number-at, number-of, with-new, with-node, table-place, firsts, pushed, replaced, settled}
 use Rattle.normal_steps.specs.declared.state.Writer.{Writer}
 use Rattle.normal_steps.specs.declared.state.Told.the-variants.{Number}
 use Rattle.normal_steps.specs.States.{written-to, noted-to, entered-to}
-use Rattle.normal_steps.specs.Written.{Wrote, wrote-four}
+use Rattle.normal_steps.specs.Written.{Wrote}
+use Rattle.normal_steps.specs.laws.Written.{wrote-four}
 use Rattle.normal_steps.specs.Holds.{Row, node-in, nodes-in, flat, Inside, Noting, most-number, Holds, Room, Took, Went, Refines, tells, notes-node}
 use Rattle.normal_steps.specs.Seeks.{Sought}
-use Rattle.normal_steps.specs.Rows.{rows-of, rows-flat, flat-more, length-nodes}
-use Rattle.normal_steps.specs.Regions.{Regions, front-wrote, first-front, first-wrote, second-set, third-set}
+use Rattle.normal_steps.specs.Rows.{rows-of}
+use Rattle.normal_steps.specs.laws.Rows.{rows-flat, flat-more, length-nodes}
+use Rattle.normal_steps.specs.Regions.{Regions}
+use Rattle.normal_steps.specs.laws.Regions.{front-wrote, first-front, first-wrote, second-set, third-set}
 use Rattle.normal_steps.specs.laws.Entries.{firsts-known, firsts-new, firsts-length}
 use Rattle.normal_steps.specs.laws.Slices.{flat-size, firsts-most, notes-size, firsts-here, with-out, with-entry, with-row}
 

@@ -17,8 +17,8 @@ use Rattle.normal_steps.specs.declared.state.Writer.{Writer}
 use Rattle.normal_steps.specs.States.{written-to, noted-to, entered-to}
 use Rattle.normal_steps.specs.Written.{Wrote}
 use Rattle.normal_steps.specs.Holds.{Row, node-in, nodes-in, flat, Noting, most-number, Holds, Puts}
-use Rattle.normal_steps.specs.Rows.{length-flat, nodes-more, inside-more, tag-at, no-tag}
-use Rattle.normal_steps.specs.Regions.{front-wrote, first-front, second-at, regions-size}
+use Rattle.normal_steps.specs.laws.Rows.{length-flat, nodes-more, inside-more, tag-at, no-tag}
+use Rattle.normal_steps.specs.laws.Regions.{front-wrote, first-front, second-at, regions-size}
 use Rattle.normal_steps.specs.laws.Entries.{some-at, small-at, small-more, last-none, last-at}
 
 module _ {s o n : Text} {p : Writer} {σ : Notes} (h : Holds s o n p σ) where

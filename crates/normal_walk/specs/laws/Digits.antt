@@ -11,7 +11,8 @@ use borrow.Author.Tests.{ltb-true, ltb-false, leb-true, le-leb, lt-leb, lt-ltb, 
 use Rattle.grammar.specs.Text.{Text, if_then_else_, between, run, past, digit-value, digit, number, decimal}
 use Rattle.grammar.specs.laws.Laws.{decimal-last}
 use Rattle.grammar.specs.Grammar.{index}
-use Rattle.catalogue.specs.Bytes.{all, first, and-left, and-right, or-cases, or-true, not-true, all-append}
+use Rattle.catalogue.specs.Bytes.{all, first, and-left, and-right}
+use Rattle.catalogue.specs.laws.Bytes.{or-cases, or-true, not-true, all-append}
 use Rattle.catalogue.specs.laws.Numbers.{digit-low}
 use Rattle.catalogue.specs.Spelling.{digit-of, base36, ref-digits}
 use Rattle.catalogue.specs.Class.{leading-zero}

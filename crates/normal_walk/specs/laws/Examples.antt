@@ -14,18 +14,7 @@ use Rattle.catalogue.specs.Class.{word-byte, reserved, listed, name-ok, numeral
 use Rattle.catalogue.specs.Normal.{seek}
 use Rattle.catalogue.specs.Recogniser.{cut, read-name, with-code, lead}
 use Rattle.catalogue.specs.laws.Examples.{Rows, normals, inside, outside}
-use Rattle.normal_walk.specs.Walk.{
-  name,
-  reference,
-  literal,
-  add,
-  add-all,
-  wrote,
-  walkType,
-  walk-types,
-  walk-enc,
-  walk-sym,
-}
+use Rattle.normal_walk.specs.Walk.{name, reference, literal, add, add-all, wrote, walkType, walk-types, walk-enc, walk-sym}
 
 -- the walk writes the row's normal symbol
 abbrev is : Option Text → Text → Bool

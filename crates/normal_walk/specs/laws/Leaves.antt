@@ -11,7 +11,8 @@ use lib.ListN.{length, take, drop, length-take, take-append-drop}
 use borrow.Author.Tests.{leb-true}
 use Rattle.grammar.specs.Text.{Text, if_then_else_, choose, run, past, digit-value, digit, number}
 use Rattle.grammar.specs.Grammar.{index}
-use Rattle.catalogue.specs.Bytes.{first, not-true, eqb-eq, run-of, past-of}
+use Rattle.catalogue.specs.Bytes.{first, eqb-eq}
+use Rattle.catalogue.specs.laws.Bytes.{not-true, run-of, past-of}
 use Rattle.catalogue.specs.Tree.{Letter, Wrap, Kind, Ty, lit, letter-code, wrap-code, kind-code}
 use Rattle.catalogue.specs.Spelling.{ref-digits, length-digits, name-bytes, minus}
 use Rattle.catalogue.specs.Class.{name-ok, lit-ok}

@@ -13,17 +13,7 @@ use Rattle.catalogue.specs.Bytes.{eqb-eq}
 use Rattle.catalogue.specs.Tree.{Wrap, Ty, Args, letter, wrap, root, sub, app, one, also, is-class, is-bare, single, wrap-code, kind-code}
 use Rattle.catalogue.specs.Spelling.{Sp, Pre, SpArgs, s-letter, s-wrap, s-ref, plain, templ, retempl, nest-sub, nest-app, s-lit, p-ref, p-root, p-sub, p-app, s-one, s-also, ref-digits, name-bytes, minus, spell, spell-pre, spell-args}
 use Rattle.catalogue.specs.Class.{name-ok, stands, push, ok, resolve, resolve-pre, resolve-args, number, count, count-pre, count-args}
-use Rattle.catalogue.specs.Recogniser.{
-  Lead,
-  lead-letter,
-  lead-wrap,
-  lead-digit,
-  leadS,
-  leadN,
-  leadL,
-  leadNone,
-  lead,
-}
+use Rattle.catalogue.specs.Recogniser.{Lead, lead-letter, lead-wrap, lead-digit, leadS, leadN, leadL, leadNone, lead}
 use Rattle.catalogue.specs.laws.ReadsBack.{front, inner, inner′}
 use Rattle.normal_walk.specs.Walk.{Walker, name, reference, literal, enter-nested, at-lead, at-parts, at-more, at-arg, walkType, walk-parts, walk-more, walk-args}
 use Rattle.normal_walk.specs.laws.Holds.{Of, of-got, of-bad, of-when, of-with, of-then, of-next, of-choose}

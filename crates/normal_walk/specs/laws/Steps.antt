@@ -9,7 +9,8 @@ use native.Mathlib.Omega.{arith}
 use lib.Dec.{eqb}
 use lib.ListN.{length, getElem?}
 use Rattle.grammar.specs.Text.{Text, if_then_else_, choose, digit, digit-value}
-use Rattle.catalogue.specs.Bytes.{all, first, and-left, or-left}
+use Rattle.catalogue.specs.Bytes.{all, first, and-left}
+use Rattle.catalogue.specs.laws.Bytes.{or-left}
 use Rattle.catalogue.specs.Tree.{Letter, Wrap, Kind, Ty, Args, letter, wrap, root, sub, lit, is-class, is-bare, single, kind-code}
 use Rattle.catalogue.specs.Spelling.{ref-digits, ref-bytes, length-digits, name-bytes, minus}
 use Rattle.catalogue.specs.Class.{name-ok, lit-ok, stands, push}
@@ -20,20 +21,7 @@ use Rattle.normal_walk.specs.Walk.{Walk, got, bad, Walker, next, when, w
 use Rattle.normal_walk.specs.laws.Holds.{Of, of-got, of-when, of-with, of-then, of-next, of-map}
 use Rattle.normal_walk.specs.laws.Leaves.{name-spelled, ref-spelled, lit-spelled}
 use Rattle.normal_walk.specs.laws.Fewer.{Fewer, Shrinks, name-fewer, parts-fewer}
-use Rattle.normal_walk.specs.laws.Fuel.{
-  walked,
-  walked-parts,
-  walked-more,
-  walked-args,
-  walked-types,
-  walked-is,
-  parts-is,
-  more-is,
-  parts-fuel,
-  types-fuel,
-  next-agree,
-  if-agree,
-}
+use Rattle.normal_walk.specs.laws.Fuel.{walked, walked-parts, walked-more, walked-args, walked-types, walked-is, parts-is, more-is, parts-fuel, types-fuel, next-agree, if-agree}
 
 -- ---------------------------------------------------------------- by the first byte
 

@@ -10,7 +10,8 @@ use lib.Dec.{eqb, leb}
 use lib.ListN.{length}
 use borrow.Author.Tests.{leb-true}
 use Rattle.grammar.specs.Text.{Text, if_then_else_}
-use Rattle.catalogue.specs.Bytes.{eqb-eq, and-both, or-true}
+use Rattle.catalogue.specs.Bytes.{eqb-eq, and-both}
+use Rattle.catalogue.specs.laws.Bytes.{or-true}
 use Rattle.catalogue.specs.Tree.{Ty, Args, Enc, root, sub, app, enc, is-lit, is-bare}
 use Rattle.catalogue.specs.Spelling.{SpArgs, SpName, Sym, s-one, s-also, flat, scoped, symbol, name-bytes, const-byte, spell, spell-pre, spell-args, spell-name, spell-sym}
 use Rattle.catalogue.specs.Class.{name-ok, all-types, ok, resolve, resolve-args, resolve-name, resolve-params, resolve-sym, is-const, count, count-args, count-name, count-sym, most-arguments, Catalogue}

@@ -7,40 +7,11 @@ use Prim.Native.Nat.{ℕ, _+_}
 use native.Mathlib.Omega.{arith}
 use lib.ListN.{getElem?}
 use Rattle.grammar.specs.Text.{Text, if_then_else_}
-use Rattle.catalogue.specs.Bytes.{and-right, or-false}
+use Rattle.catalogue.specs.Bytes.{and-right}
+use Rattle.catalogue.specs.laws.Bytes.{or-false}
 use Rattle.catalogue.specs.Tree.{Letter, Wrap, Kind, Ty, Args, letter, wrap, root, sub, app, lit, same-ty, is-class, is-bare, single, one, also}
-use Rattle.catalogue.specs.Spelling.{
-  Sp,
-  Pre,
-  SpArgs,
-  s-letter,
-  s-wrap,
-  s-ref,
-  plain,
-  templ,
-  retempl,
-  nest-sub,
-  nest-app,
-  s-lit,
-  p-ref,
-  p-root,
-  p-sub,
-  p-app,
-  s-one,
-  s-also,
-}
-use Rattle.catalogue.specs.Class.{
-  name-ok,
-  lit-ok,
-  stands,
-  push,
-  last-is,
-  push-new,
-  entry,
-  resolve,
-  resolve-pre,
-  resolve-args,
-}
+use Rattle.catalogue.specs.Spelling.{Sp, Pre, SpArgs, s-letter, s-wrap, s-ref, plain, templ, retempl, nest-sub, nest-app, s-lit, p-ref, p-root, p-sub, p-app, s-one, s-also}
+use Rattle.catalogue.specs.Class.{name-ok, lit-ok, stands, push, last-is, push-new, entry, resolve, resolve-pre, resolve-args}
 use Rattle.catalogue.specs.Normal.{seek, known, after, after-pre, after-args}
 use Rattle.catalogue.specs.laws.WellFormed.{Wf, WfArgs, AllWf, Good, GoodPre, Post, post-ok, post-then, post-if, post-entry, post-both, post-map, wf-push, wf-push-new, bare-class, entry-wf}
 use Rattle.catalogue.specs.laws.Entries.{has, has-push, has-seek, at-has, seek-has, last-has, Known, Closed, after-same, after-pre-same, after-args-same, grown-has, after-closed, after-pre-closed}

@@ -12,19 +12,7 @@ use Rattle.catalogue.specs.Spelling.{Sp, Pre, SpArgs, s-wrap, plain, nest-sub, 
 use Rattle.catalogue.specs.Normal.{seek, ref-or, pre-or, templ-of, normal, normal-pre, normal-args}
 use Rattle.catalogue.specs.laws.Entries.{has, has-seek, at-has}
 use Rattle.normal_walk.specs.Walk.{distinct, wrote, in-brackets}
-use Rattle.normal_walk.specs.laws.Table.{
-  distinct-has,
-  Grows,
-  seek-grown,
-  self-grows,
-  wrap-grows,
-  sub-grows,
-  app-grows,
-  Kept,
-  Table,
-  TablePre,
-  TableArgs,
-}
+use Rattle.normal_walk.specs.laws.Table.{distinct-has, Grows, seek-grown, self-grows, wrap-grows, sub-grows, app-grows, Kept, Table, TablePre, TableArgs}
 
 ref-bytes-are : (o : Option ℕ) (s : Sp) → choose o ref-bytes (spell s) ≡ spell (ref-or o s)
 unfolding choose spell

@@ -10,48 +10,11 @@ use Rattle.grammar.specs.Text.{Text, if_then_else_, starts, run, past, number}
 use Rattle.catalogue.specs.Class.{name-ok}
 use Rattle.catalogue.specs.Recogniser.{Rd, rd, stop, cut, read-name, Lead, lead-letter, lead-wrap, lead-digit, leadS, leadN, leadL, leadNone, lead}
 use Rattle.normal_walk.specs.Walk.{name}
-use Rattle.normal_nodes.specs.Nodes.{
-  Notes,
-  Noter,
-  Got,
-  got,
-  next,
-  when,
-  with,
-  put,
-  go-to,
-  entered,
-  entered-nested,
-  tag-of,
-  a-bare,
-  a-class,
-  at-reference,
-  note-at-parts,
-  note-at-more,
-  note-end-or,
-  note-args,
-  note-parts,
-  note-more,
-}
+use Rattle.normal_nodes.specs.Nodes.{Notes, Noter, Got, got, next, when, with, put, go-to, entered, entered-nested, tag-of, a-bare, a-class, at-reference, note-at-parts, note-at-more, note-end-or, note-args, note-parts, note-more}
 use Rattle.grammar.specs.laws.Places.{starts-byte}
 use Rattle.normal_steps.specs.States.{moved-to}
 use Rattle.normal_steps.specs.Leads.{class}
-use Rattle.normal_steps.specs.Holds.{
-  Holds,
-  Ready,
-  Spent,
-  Refines,
-  tells,
-  refuses,
-  Reads,
-  Fueled,
-  Does,
-  Copies,
-  Tag,
-  most-number,
-  at-part,
-  closed,
-}
+use Rattle.normal_steps.specs.Holds.{Holds, Ready, Spent, Refines, tells, refuses, Reads, Fueled, Does, Copies, Tag, most-number, at-part, closed}
 use Rattle.normal_writer.specs.Cycle.{Leads}
 use Rattle.normal_steps.specs.laws.Told.{Answered, answered, refused, by, within}
 use Rattle.normal_steps.specs.laws.Steps.{on-got, on-bad}

@@ -14,31 +14,7 @@ use Rattle.store.specs.Table.{Front}
 use Rattle.catalogue.specs.Spelling.{name-bytes}
 use Rattle.catalogue.specs.Recogniser.{Rd, stop, if-next}
 use Rattle.normal_walk.specs.Walk.{name}
-use Rattle.normal_nodes.specs.Nodes.{
-  Notes,
-  notes,
-  Got,
-  got,
-  bad,
-  next,
-  when,
-  with,
-  begun,
-  a-bare,
-  a-lit,
-  note-add-all,
-  tag-of,
-  note-at-scoped,
-  at-function,
-  note-at-end,
-  note-at-params,
-  note-type,
-  note-types,
-  note-parts,
-  symbol-of,
-  note-encoding,
-  note-symbol,
-}
+use Rattle.normal_nodes.specs.Nodes.{Notes, notes, Got, got, bad, next, when, with, begun, a-bare, a-lit, note-add-all, tag-of, note-at-scoped, at-function, note-at-end, note-at-params, note-type, note-types, note-parts, symbol-of, note-encoding, note-symbol}
 use Rattle.normal_steps.specs.Parts.{part}
 use Rattle.grammar.specs.laws.Places.{rest-some, rest-none}
 use Rattle.normal_steps.specs.laws.Tests.{next-here, next-not}
@@ -47,7 +23,7 @@ use Rattle.normal_steps.specs.laws.Told.{Answered, answered, refused}
 use Rattle.normal_steps.specs.laws.Limits.{spent-room}
 use Rattle.normal_steps.specs.laws.LeafSteps.{name-size}
 use Rattle.normal_steps.specs.Answers.{NameAt}
-use Rattle.normal_steps.specs.Regions.{regions-none}
+use Rattle.normal_steps.specs.laws.Regions.{regions-none}
 use Rattle.normal_steps.specs.Holds.{nodes-in, flat, Inside, Holds, Ready, Spent, Room, Refines, Fueled, Does, Puts, Tag, closed}
 use Rattle.normal_writer.specs.Writes.{Writes, writes, outside, Heads, heads, nameless, Scoped, Plain, Functions, at-plain, Ended, ended, broken, Types}
 use Rattle.normal_steps.specs.declared.state.Writer.{Writer}

@@ -11,26 +11,7 @@ use Rattle.catalogue.specs.Tree.{Letter, Wrap}
 use Rattle.catalogue.specs.Recogniser.{if-next, Lead, lead-letter, lead-wrap, leadL, leadNone, lead}
 use Rattle.normal_nodes.specs.Nodes.{Notes, Noter, Got, got, next, when, put, go-to, entered, note-at-lead, note-at-name, at-reference, note-with-args, note-type, note-args, note-parts}
 use Rattle.normal_steps.specs.States.{moved-to}
-use Rattle.normal_steps.specs.Holds.{
-  Holds,
-  Ready,
-  Room,
-  Spent,
-  Refines,
-  tells,
-  refuses,
-  Reads,
-  Fueled,
-  Steps,
-  Does,
-  Copies,
-  Tag,
-  most-number,
-  at-literal,
-  counts-arg,
-  wraps,
-  closed,
-}
+use Rattle.normal_steps.specs.Holds.{Holds, Ready, Room, Spent, Refines, tells, refuses, Reads, Fueled, Steps, Does, Copies, Tag, most-number, at-literal, counts-arg, wraps, closed}
 use Rattle.normal_writer.specs.Cycle.{Leads, WithArgs}
 use Rattle.normal_steps.specs.laws.Told.{Answered, answered, refused, by, within}
 use Rattle.normal_steps.specs.laws.Steps.{on-got, on-bad}

@@ -10,22 +10,7 @@ use lib.Dec.{leb, ltb}
 use lib.ListN.{length, take, drop}
 use lib.Seq.{take-at}
 use Rattle.grammar.specs.Text.{Text, if_then_else_, choose}
-use Rattle.grammar.specs.Names.{
-  Answer,
-  named,
-  refusal,
-  high,
-  front,
-  mangled-name,
-  demangle,
-  within,
-  work-fits,
-  answer,
-  most-symbol-bytes,
-  number-of,
-  length-of,
-  written,
-}
+use Rattle.grammar.specs.Names.{Answer, named, refusal, high, front, mangled-name, demangle, within, work-fits, answer, most-symbol-bytes, number-of, length-of, written}
 use Rattle.grammar.specs.laws.Fuel.{never-0}
 use Rattle.catalogue.specs.Recogniser.{classify}
 use Rattle.catalogue.specs.Answer.{normal-in, normal-told, normal-after, normal-symbol, normal-answer, normal-work-fits}

@@ -17,9 +17,11 @@ use Rattle.parser.specs.declared.state.Read.the-variants.{Refused}
 use Rattle.parser.specs.States.{moved-to}
 use Rattle.parser.specs.Holds.{Memory, mem, part, Reads, refuses, Puts, given-of}
 use Rattle.parser.specs.laws.Laws.{by, holds-moved, given-refines}
-use Rattle.parser.specs.Halves.{part-size}
-use Rattle.parser.specs.Adds.{Adds, adds-none, adds-more, adds-adds, adds-moved, puts-from, stands-adds}
-use Rattle.parser.specs.Source.{identified, Located, identified-in, closers, length-closers, tagged, tags-start, tags-refused, tags-end, tags-more}
+use Rattle.parser.specs.laws.Halves.{part-size}
+use Rattle.parser.specs.Adds.{Adds}
+use Rattle.parser.specs.laws.Adds.{adds-none, adds-more, adds-adds, adds-moved, puts-from, stands-adds}
+use Rattle.parser.specs.Source.{identified, closers}
+use Rattle.parser.specs.laws.Source.{Located, identified-in, length-closers, tagged, tags-start, tags-refused, tags-end, tags-more}
 
 -- from p on the text `pre` was put, with so many tags open, and the next source name goes inside
 pub record Tagging (s text₀ text : Text) (p next : Parser) (n tags : ℕ) : Type 0 where

@@ -19,8 +19,8 @@ use Rattle.parser.specs.declared.state.Read.{Read}
 use Rattle.parser.specs.States.{peeked}
 use Rattle.parser.specs.Holds.{Memory, mem, part, Holds, Stands, Refines, Puts, given-of}
 use Rattle.parser.specs.laws.Laws.{given-refines}
-use Rattle.parser.specs.Literals.{stands-size, length-part}
-use Rattle.parser.specs.Wraps.{stands-puts}
+use Rattle.parser.specs.laws.Literals.{stands-size, length-part}
+use Rattle.parser.specs.laws.Wraps.{stands-puts}
 use Rattle.parser.specs.laws.Runs.{every-at, need-here, need-not, starts-one, starts-none, run-stops}
 use Rattle.reader.specs.laws.Items.{peek-end, byte-there, byte-within}
 

@@ -11,7 +11,7 @@ use lib.Seq.{getD-take, getD-drop, getD-append-add}
 use Rattle.grammar.specs.Text.{Text, b, if_then_else_, starts, ends, join}
 use Rattle.grammar.specs.Reader.{State, Result, ok, Reader, onto, return, refuse, give}
 use Rattle.grammar.specs.Grammar as g
-use Rattle.grammar.specs.Loops.{closed}
+use Rattle.grammar.specs.laws.Loops.{closed}
 use Rattle.grammar.specs.laws.Agree.{moved}
 use Rattle.grammar.specs.laws.Steps.{at-level}
 use Rattle.store.specs.Stack.{Tail}

@@ -14,7 +14,8 @@ use Rattle.grammar.specs.Grammar as g
 use Rattle.grammar.specs.laws.Agree.{moved, bind, push-arg-keeps}
 use Rattle.grammar.specs.laws.Agree as agree
 use Rattle.grammar.specs.laws.Fuel.{reading-ends, reading-is}
-use Rattle.grammar.specs.Loops.{argument, closed, up-to-E-is}
+use Rattle.grammar.specs.Loops.{argument}
+use Rattle.grammar.specs.laws.Loops.{closed, up-to-E-is}
 use Rattle.grammar.specs.laws.Steps.{at-level, entered-in, entered-8, need-yes, need-no, from-text, same-from}
 use Rattle.grammar.specs.laws.NameSteps.{starts-one, arg-L, arg-X, arg-J, arg-type}
 use Rattle.parser.specs.Holds.{Memory, Holds, Stands, Refines, refuses}

@@ -17,7 +17,7 @@ use Rattle.grammar.specs.laws.Steps.{no-word, type-heads}
 use Rattle.grammar.specs.Words.{Picks}
 use Rattle.grammar.specs.declared.codes.Picked.{Picked}
 use Rattle.grammar.specs.declared.codes.Picked.the-variants.{Nothing}
-use Rattle.parser.specs.Wraps.{picked-none}
+use Rattle.parser.specs.laws.Wraps.{picked-none}
 use Rattle.reader.specs.Cycle.{Wraps}
 
 -- ---------------------------------------------------------------- letters and wrappers

@@ -11,7 +11,8 @@ use Rattle.grammar.specs.Text.{Text, b, if_then_else_, same, starts, join}
 use Rattle.grammar.specs.Reader.{State, Result, ok, refused, Reader, onto, return, push-arg, while, one-more}
 use Rattle.grammar.specs.Grammar.{reading, ⟨type⟩, ⟨template-arg⟩, ended}
 use Rattle.grammar.specs.laws.Laws.{starts-nothing}
-use Rattle.grammar.specs.Loops.{Stepped, before-E, items-loop, args-loop}
+use Rattle.grammar.specs.Loops.{before-E}
+use Rattle.grammar.specs.laws.Loops.{Stepped, items-loop, args-loop}
 use Rattle.store.specs.Stack.{Stack}
 use Rattle.parser.specs.Holds.{Memory, mem, Holds, Wrote, Stands, Reads, Refines, reads, refuses, Puts, Pushes, pushed, full, window, keep}
 use Rattle.parser.specs.laws.Laws.{by, holds-puts, refused-on, Got, got}
@@ -24,7 +25,7 @@ use Rattle.reader.specs.declared.lists.Kind.{Kind}
 use Rattle.reader.specs.declared.lists.Kind.the-variants.{Parameters, Types, Arguments}
 use Rattle.reader.specs.declared.lists.Texts.{Texts}
 use Rattle.reader.specs.declared.lists.Texts.the-variants as items-as
-use Rattle.reader.specs.Separators.{join-more, before-size, puts-some, puts-none}
+use Rattle.reader.specs.laws.Separators.{join-more, before-size, puts-some, puts-none}
 use Rattle.reader.specs.laws.Standing.{same-sizes, stands-nothing, stands-sized, wrote-kept, wrote-behind}
 use Rattle.reader.specs.Lists.{goes-on, item-of, kept-by, stops-at, Lists, listed, unlisted, unlisted-of, before-text}
 

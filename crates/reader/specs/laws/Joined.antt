@@ -18,7 +18,7 @@ use Rattle.store.specs.laws.Entries.{bytes-append, bytes-one}
 use Rattle.store.specs.Stack.{Stack}
 use Rattle.store.specs.laws.Tails.{size}
 use Rattle.parser.specs.Holds.{Memory, mem, Holds, Wrote, Refines, refuses, Puts, Pushes, pushed, full, keep}
-use Rattle.parser.specs.Wraps.{puts-top}
+use Rattle.parser.specs.laws.Wraps.{puts-top}
 use Rattle.parser.specs.States.{subs-to}
 use Rattle.parser.specs.declared.state.Parser.{Parser}
 use Rattle.parser.specs.declared.state.Read.{Read}
@@ -26,7 +26,7 @@ use Rattle.parser.specs.declared.state.Read.the-variants.{Text as read, Refused
 use Rattle.reader.specs.declared.lists.Parts.{Parts}
 use Rattle.reader.specs.declared.lists.Prefix.{Prefix}
 use Rattle.reader.specs.declared.lists.Prefix.the-variants as prefix-as
-use Rattle.reader.specs.Separators.{join-more, before-size}
+use Rattle.reader.specs.laws.Separators.{join-more, before-size}
 use Rattle.reader.specs.laws.Standing.{parted-kept, stands-sized, wrote-behind, wrote-least}
 use Rattle.reader.specs.laws.Items.{one-byte}
 use Rattle.reader.specs.Lists.{Alike, same-text, both-long, Parted, Parting, parted, unparted, before-part, longer-of, unread-of, part-of}

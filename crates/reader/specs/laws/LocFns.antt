@@ -16,9 +16,9 @@ use Rattle.parser.specs.declared.state.Read.the-variants.{Text as read, Refused
 use Rattle.parser.specs.States.{moved-to}
 use Rattle.parser.specs.Holds.{Memory, mem, window, Holds, Stands, Refines, refuses, Reads, Puts, keep, given-of}
 use Rattle.parser.specs.laws.Laws.{by, answers, Got, got, refused-on, less, sooner, given-refines, holds-puts, stands, short-enough}
-use Rattle.parser.specs.Adds.{puts-from}
-use Rattle.parser.specs.Wraps.{stands-puts}
-use Rattle.parser.specs.Halves.{give-short, give-long}
+use Rattle.parser.specs.laws.Adds.{puts-from}
+use Rattle.parser.specs.laws.Wraps.{stands-puts}
+use Rattle.parser.specs.laws.Halves.{give-short, give-long}
 use Rattle.grammar.specs.laws.Places.{starts-inside}
 use Rattle.parser.specs.laws.Runs.{need-here, need-not}
 use Rattle.reader.specs.declared.lists.Kind.the-variants.{Types}

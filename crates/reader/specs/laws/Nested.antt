@@ -13,9 +13,10 @@ use Rattle.grammar.specs.Grammar.{reading, ⟨nested-name⟩, last, qualifier}
 use Rattle.grammar.specs.Grammar as g
 use Rattle.grammar.specs.laws.Agree.{moved, unread}
 use Rattle.grammar.specs.laws.Fuel.{reading-ends, reading-is, prefix-shrinks}
-use Rattle.grammar.specs.Loops.{closed, before-E, parts-loop, up-to-E-is}
+use Rattle.grammar.specs.Loops.{before-E}
+use Rattle.grammar.specs.laws.Loops.{closed, parts-loop, up-to-E-is}
 use Rattle.parser.specs.Holds.{Memory, part, Holds, Stands, Refines, refuses, window, keep, given-of}
-use Rattle.parser.specs.Halves.{give-long}
+use Rattle.parser.specs.laws.Halves.{give-long}
 use Rattle.parser.specs.laws.Laws.{by, with-cv, with-templated, holds-moved, holds-cv, holds-templated, given-refines, sooner}
 use Rattle.parser.specs.Leaves.{qualifies}
 use Rattle.parser.specs.laws.Runs.{every-at, need-here, need-not}

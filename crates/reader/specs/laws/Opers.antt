@@ -30,12 +30,12 @@ use Rattle.parser.specs.declared.state.Peeked.the-variants as peeked-as
 use Rattle.parser.specs.States.{moved-to, templated-to, peeked}
 use Rattle.parser.specs.Holds.{Memory, mem, window, Holds, Refines, refuses, Reads, Puts, keep, given-of}
 use Rattle.parser.specs.laws.Laws.{by, by-state, got, refused-on, less, sooner, holds-moved}
-use Rattle.parser.specs.Adds.{puts-from, reads-moved}
+use Rattle.parser.specs.laws.Adds.{puts-from, reads-moved}
 use Rattle.parser.specs.laws.Runs.{case-here, case-not, past-is, past-stops}
 use Rattle.grammar.specs.laws.Places.{rest-some, rest-none}
-use Rattle.parser.specs.Halves.{wrote-one}
-use Rattle.parser.specs.Leaves.{rest-two}
-use Rattle.parser.specs.Wraps.{picked-at, picked-none}
+use Rattle.parser.specs.laws.Halves.{wrote-one}
+use Rattle.parser.specs.laws.Leaves.{rest-two}
+use Rattle.parser.specs.laws.Wraps.{picked-at, picked-none}
 use Rattle.reader.specs.laws.Opens.{call-moved}
 use Rattle.reader.specs.laws.Standing.{stands-templated, given-as, fewer, word-holds, word-joined}
 use Rattle.reader.specs.laws.Items.{peek-end, byte-there, byte-within}

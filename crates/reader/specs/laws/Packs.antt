@@ -15,11 +15,12 @@ use Rattle.grammar.specs.Grammar as g
 use Rattle.grammar.specs.laws.Agree.{moved, bind}
 use Rattle.grammar.specs.laws.Agree as agree
 use Rattle.grammar.specs.laws.Fuel.{reading-ends}
-use Rattle.grammar.specs.Loops.{closed, before-E, items-loop, up-to-E-is}
+use Rattle.grammar.specs.Loops.{before-E}
+use Rattle.grammar.specs.laws.Loops.{closed, items-loop, up-to-E-is}
 use Rattle.store.specs.Stack.{Tail}
 use Rattle.store.specs.laws.Tails.{whole, both}
 use Rattle.parser.specs.Holds.{Memory, mem, Holds, Reads, Refines, reads, refuses, Puts, window, keep, given-of}
-use Rattle.parser.specs.Halves.{give-short, give-long}
+use Rattle.parser.specs.laws.Halves.{give-short, give-long}
 use Rattle.parser.specs.laws.Laws.{by, holds-moved, holds-puts, tail-puts, got}
 use Rattle.parser.specs.States.{peeked, moved-to}
 use Rattle.parser.specs.declared.state.Parser.{Parser}
@@ -27,7 +28,7 @@ use Rattle.parser.specs.declared.state.Peeked.the-variants as peeked-as
 use Rattle.parser.specs.declared.state.Read.{Read}
 use Rattle.parser.specs.declared.state.Read.the-variants.{Text as read, Refused}
 use Rattle.reader.specs.declared.lists.Kind.the-variants.{Types}
-use Rattle.reader.specs.Separators.{join-more, before-same}
+use Rattle.reader.specs.laws.Separators.{join-more, before-same}
 use Rattle.reader.specs.laws.Standing.{same-sizes}
 use Rattle.reader.specs.Lists.{before-text, ends-pack, opens-pack}
 use Rattle.reader.specs.laws.Items.{peek-byte, peek-end, one-byte, byte-within, while-stops, while-goes, ends-on, on-byte, refused-is}

@@ -13,9 +13,9 @@ use Rattle.store.specs.Stack.{Stack, Tail}
 use Rattle.store.specs.laws.Tails.{whole, both, weaken, size, top-size}
 use Rattle.parser.specs.Holds.{Memory, mem, window, Holds, Wrote, Stands, Refines, Puts, keep, given-of}
 use Rattle.parser.specs.laws.Laws.{by-state, with-templated, holds-moved, holds-templated, holds-puts, given-refines}
-use Rattle.parser.specs.Adds.{puts-from}
-use Rattle.parser.specs.Wraps.{stands-puts}
-use Rattle.parser.specs.Halves.{store-size, ends-size}
+use Rattle.parser.specs.laws.Adds.{puts-from}
+use Rattle.parser.specs.laws.Wraps.{stands-puts}
+use Rattle.parser.specs.laws.Halves.{store-size, ends-size}
 use Rattle.parser.specs.States.{moved-to, templated-to}
 use Rattle.parser.specs.declared.state.Parser.{Parser}
 use Rattle.parser.specs.declared.state.Read.{Read}

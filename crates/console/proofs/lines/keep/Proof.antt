@@ -4,7 +4,8 @@ use Prim.Native.Nat.{_-_}
 use native.Mathlib.Omega.{arith}
 use borrow.Author.Needs.{needs}
 use lib.ListN.{length}
-use Rattle.console.specs.Kept.{Begun, begin, begun-part, begun-feed, kept}
+use Rattle.console.specs.Kept.{Begun}
+use Rattle.console.specs.laws.Kept.{begin, begun-part, begun-feed, kept}
 use Rattle.console.proofs.lines.keep.Statement.{statement}
 use Rattle.console.proofs.lines.keep.Tie as tie
 

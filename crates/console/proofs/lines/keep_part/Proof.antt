@@ -4,7 +4,7 @@ use native.Mathlib.Omega.{arith}
 use borrow.Author.Needs.{needs}
 use lib.ListN.{take}
 use lib.Seq.{length-take-le, take-all}
-use Rattle.console.specs.Kept.{puts}
+use Rattle.console.specs.laws.Kept.{puts}
 use Rattle.console.proofs.lines.keep_part.Statement.{statement}
 use Rattle.console.proofs.lines.keep_part.Tie as tie
 

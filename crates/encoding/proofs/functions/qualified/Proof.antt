@@ -4,7 +4,7 @@ use Prim.Native.Nat.{_-_}
 use native.Mathlib.Omega.{arith}
 use borrow.Author.Needs.{needs}
 use Rattle.grammar.proofs.Lookups.{length-spelled}
-use Rattle.parser.specs.Wraps.{picked-at}
+use Rattle.parser.specs.laws.Wraps.{picked-at}
 use Rattle.encoding.specs.laws.Ends.{Qualifying, qualifying-start, qualifying-word, qualifying-nothing, qualifying-done}
 use Rattle.encoding.proofs.functions.qualified.Statement.{statement}
 use Rattle.encoding.proofs.functions.qualified.Tie as tie

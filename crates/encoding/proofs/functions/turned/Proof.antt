@@ -10,7 +10,7 @@ use Rattle.store.specs.Stack.{Stack}
 use Rattle.parser.specs.declared.state.Parser.{Parser}
 use Rattle.parser.specs.Holds.{Puts}
 use Rattle.parser.specs.laws.Laws.{holds-puts}
-use Rattle.parser.specs.Wraps.{holds-cuts, puts-top, stands-turned}
+use Rattle.parser.specs.laws.Wraps.{holds-cuts, puts-top, stands-turned}
 use borrow.Author.Needs.{needs}
 use Rattle.encoding.proofs.functions.turned.Statement.{statement}
 use Rattle.encoding.proofs.functions.turned.Tie as tie

@@ -5,7 +5,7 @@ use native.Mathlib.Omega.{arith}
 use Rattle.grammar.specs.Text.{b}
 use Rattle.grammar.specs.Words.{Picked-inside}
 use Rattle.grammar.proofs.Lookups.{length-spelled}
-use Rattle.parser.specs.Adds.{stack-by}
+use Rattle.parser.specs.laws.Adds.{stack-by}
 use Rattle.encoding.specs.laws.Specials.{fresh-holds, label-holds, label-refused, label-got, label-given, other-read}
 use borrow.Author.Needs.{needs}
 use Rattle.encoding.proofs.mangled.encoding.Statement.{statement}

@@ -6,7 +6,7 @@ use native.Mathlib.Omega.{arith}
 use lib.ListN.{length, length-drop}
 use Rattle.grammar.specs.Text.{b, starts}
 use Rattle.store.specs.laws.Lists.{second-lent}
-use Rattle.parser.specs.Adds.{stack-by}
+use Rattle.parser.specs.laws.Adds.{stack-by}
 use Rattle.encoding.specs.laws.Clones.{least-text, Clones, clones-start, clone-fits, clones-more, clones-fresh, clones-alone, clones-refused, clones-got, clones-given}
 use borrow.Author.Needs.{needs}
 use Rattle.encoding.proofs.mangled.mangled_name.Statement.{statement}

@@ -7,7 +7,8 @@ use Prim.Native.Nat.{ℕ, _+_, _-_, _≤_}
 use native.Mathlib.Omega.{arith}
 use borrow.Author.Needs.{needs}
 use Rattle.grammar.specs.Text.{if_then_else_}
-use Rattle.listing.specs.Lines.{feed-from, feed-here, feed-more}
+use Rattle.listing.specs.Lines.{feed-from}
+use Rattle.listing.specs.laws.Lines.{feed-here, feed-more}
 use Rattle.listing.proofs.feeds.no_feed.Statement.{statement}
 use Rattle.listing.proofs.feeds.no_feed.Tie as tie
 

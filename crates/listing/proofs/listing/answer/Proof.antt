@@ -1,6 +1,6 @@
 -- `listing::answer` meets its contract: the entry of its kind tells the answer. Assumes nothing.
 use borrow.Author.Needs.{needs}
-use Rattle.listing.specs.Kinds.{name-told, symbol-told}
+use Rattle.listing.specs.laws.Kinds.{name-told, symbol-told}
 use Rattle.listing.proofs.listing.answer.Statement.{statement}
 use Rattle.listing.proofs.listing.answer.Tie as tie
 

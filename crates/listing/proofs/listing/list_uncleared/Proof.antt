@@ -1,7 +1,7 @@
 -- `listing::list_uncleared` meets its contract: no line is taken, or `write_lines` takes them. Assumes nothing.
 use borrow.Author.Needs.{needs}
 use borrow.Author.Tests.{not-true, not-false}
-use Rattle.listing.specs.Entry.{least-lengths, goes-none, goes-some}
+use Rattle.listing.specs.laws.Entry.{least-lengths, goes-none, goes-some}
 use Rattle.listing.proofs.listing.list_uncleared.Statement.{statement}
 use Rattle.listing.proofs.listing.list_uncleared.Tie as tie
 

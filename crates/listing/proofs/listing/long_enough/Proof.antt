@@ -1,6 +1,6 @@
 -- `listing::long_enough` meets its contract, a way out for each length. Assumes nothing.
 use borrow.Author.Needs.{needs}
-use Rattle.listing.specs.Entry.{short-name, short-text, short-store, long-others}
+use Rattle.listing.specs.laws.Entry.{short-name, short-text, short-store, long-others}
 use Rattle.listing.proofs.listing.long_enough.Statement.{statement}
 use Rattle.listing.proofs.listing.long_enough.Tie as tie
 

@@ -4,7 +4,7 @@ use mathlib.Core.List.{[]}
 use native.Mathlib.Omega.{arith}
 use borrow.Author.Needs.{needs}
 use lib.ListN.{length-set}
-use Rattle.listing.specs.Printed.{not-printed, line-length, line-printed}
+use Rattle.listing.specs.laws.Printed.{not-printed, line-length, line-printed}
 use Rattle.listing.proofs.listing.print_line.Statement.{statement}
 use Rattle.listing.proofs.listing.print_line.Tie as tie
 

@@ -3,7 +3,8 @@
 use native.Mathlib.Nat.{mod-lt, div-lt-iff-lt-mul}
 use native.Mathlib.Omega.{arith}
 use lib.ListN.{length-set}
-use Rattle.listing.specs.Printed.{Begun, begin, begun-more, begun-done}
+use Rattle.listing.specs.Printed.{Begun}
+use Rattle.listing.specs.laws.Printed.{begin, begun-more, begun-done}
 use Rattle.listing.proofs.listing.write_decimal.Statement.{statement}
 use Rattle.listing.proofs.listing.write_decimal.Tie as tie
 

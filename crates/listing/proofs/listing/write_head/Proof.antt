@@ -4,7 +4,7 @@ use Prim.Native.Nat.{_-_}
 use native.Mathlib.Omega.{arith}
 use borrow.Author.Needs.{needs}
 use lib.ListN.{length, length-set}
-use Rattle.listing.specs.Printed.{heads}
+use Rattle.listing.specs.laws.Printed.{heads}
 use Rattle.listing.proofs.listing.write_head.Statement.{statement}
 use Rattle.listing.proofs.listing.write_head.Tie as tie
 

@@ -7,7 +7,7 @@ use Rattle.grammar.specs.Text.{Text}
 use Rattle.listing.specs.Listing.{listing-line}
 use Rattle.listing.specs.Printed.{Printed}
 use Rattle.listing.specs.laws.Answers.{line-is}
-use Rattle.listing.specs.Kinds.{short-answer-of}
+use Rattle.listing.specs.laws.Kinds.{short-answer-of}
 use Rattle.listing.proofs.listing.write_line.Statement.{statement}
 use Rattle.listing.proofs.listing.write_line.Tie as tie
 

@@ -5,7 +5,8 @@ use Prim.Native.Nat.{_-_}
 use native.Mathlib.Omega.{arith}
 use borrow.Author.Needs.{needs}
 use lib.ListN.{length}
-use Rattle.listing.specs.Lines.{Gone, gone-none, gone-end, gone-feed, gone-full, gone-more}
+use Rattle.listing.specs.Lines.{Gone}
+use Rattle.listing.specs.laws.Lines.{gone-none, gone-end, gone-feed, gone-full, gone-more}
 use Rattle.listing.proofs.listing.write_lines.Statement.{statement}
 use Rattle.listing.proofs.listing.write_lines.Tie as tie
 

@@ -3,7 +3,8 @@ use mathlib.Core.Path.{refl, sym, ap, _∙_}
 use borrow.Author.Tests.{eq-eqb, ne-eqb, lt-ltb, le-ltb}
 use Rattle.grammar.specs.Text.{if_then_else_, digit, digit-value}
 use Rattle.catalogue.specs.Recogniser.{lead}
-use Rattle.normal_steps.specs.Leads.{class, a-wrapper, no-wrapper, a-letter, no-letter}
+use Rattle.normal_steps.specs.Leads.{class}
+use Rattle.normal_steps.specs.laws.Leads.{a-wrapper, no-wrapper, a-letter, no-letter}
 use borrow.Author.Needs.{needs}
 use native.Mathlib.Omega.{arith}
 use Rattle.normal_steps.proofs.lead.lead_of.Statement.{statement}

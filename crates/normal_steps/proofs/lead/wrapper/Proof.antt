@@ -3,7 +3,8 @@ use mathlib.Core.Path.{refl, sym, ap}
 use Rattle.grammar.specs.Text.{if_then_else_}
 use Rattle.catalogue.specs.Tree.{wrap-code}
 use Rattle.catalogue.specs.Recogniser.{with-code, all-wraps}
-use Rattle.normal_steps.specs.Leads.{there, uncoded}
+use Rattle.normal_steps.specs.Leads.{there}
+use Rattle.normal_steps.specs.laws.Leads.{uncoded}
 use Rattle.normal_steps.proofs.lead.wrapper.Statement.{statement}
 use Rattle.normal_steps.proofs.lead.wrapper.Tie as tie
 

@@ -4,7 +4,8 @@ use Prim.Native.Nat.{_-_}
 use borrow.Author.Tests.{not-true, not-false}
 use Rattle.catalogue.specs.Bytes.{all}
 use Rattle.normal_walk.specs.Walk.{capital}
-use Rattle.normal_steps.specs.Parts.{part, part-none, all-more, all-stop}
+use Rattle.normal_steps.specs.Parts.{part}
+use Rattle.normal_steps.specs.laws.Parts.{part-none, all-more, all-stop}
 use borrow.Author.Needs.{needs}
 use native.Mathlib.Omega.{arith}
 use Rattle.normal_steps.proofs.marks.capitals.Statement.{statement}

@@ -1,7 +1,7 @@
 -- `normal_steps::marks::leading_zero` tells whether a zero stands before another byte. Assumes nothing.
 use mathlib.Core.Path.{refl}
 use Prim.Native.Nat.{_+_}
-use Rattle.normal_steps.specs.Parts.{part-none, part-more}
+use Rattle.normal_steps.specs.laws.Parts.{part-none, part-more}
 use borrow.Author.Needs.{needs}
 use native.Mathlib.Omega.{arith}
 use Rattle.normal_steps.proofs.marks.leading_zero.Statement.{statement}

@@ -2,7 +2,8 @@
 use mathlib.Core.Path.{refl, sym, ap, _∙_}
 use mathlib.Core.Bool.{not}
 use Rattle.catalogue.specs.Class.{numeral}
-use Rattle.normal_steps.specs.Parts.{part, part-none, part-length}
+use Rattle.normal_steps.specs.Parts.{part}
+use Rattle.normal_steps.specs.laws.Parts.{part-none, part-length}
 use Rattle.normal_steps.specs.laws.Tests.{numeral-is}
 use borrow.Author.Needs.{needs}
 use native.Mathlib.Omega.{arith}

@@ -3,7 +3,7 @@ use mathlib.Core.Path.{sym, ap, _∙_}
 use Rattle.grammar.specs.Text.{digit}
 use lib.ListN.{drop}
 use borrow.Author.Tests.{not-true, not-false}
-use Rattle.normal_steps.specs.Parts.{run-is}
+use Rattle.normal_steps.specs.laws.Parts.{run-is}
 use Rattle.normal_walk.specs.laws.Digits.{run-all}
 use Rattle.grammar.specs.laws.Places.{starts-inside}
 use Rattle.catalogue.specs.Bytes.{all}

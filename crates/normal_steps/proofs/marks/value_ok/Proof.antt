@@ -8,7 +8,7 @@ use Rattle.catalogue.specs.Class.{lit-ok}
 use Rattle.catalogue.specs.Recogniser.{with-code, all-kinds}
 use Rattle.normal_steps.specs.Parts.{part}
 use Rattle.normal_steps.specs.Answers.{valid-by}
-use Rattle.normal_steps.specs.Leads.{uncoded}
+use Rattle.normal_steps.specs.laws.Leads.{uncoded}
 use borrow.Author.Needs.{needs}
 use Rattle.normal_steps.proofs.marks.value_ok.Statement.{statement}
 use Rattle.normal_steps.proofs.marks.value_ok.Tie as tie

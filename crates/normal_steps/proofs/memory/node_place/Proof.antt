@@ -5,8 +5,10 @@ use Prim.Native.Nat.{ℕ, _-_, _≤_}
 use Rattle.normal_nodes.specs.Nodes.{node, same-node, seek-by}
 use Rattle.normal_steps.specs.Parts.{part}
 use Rattle.normal_steps.specs.Holds.{nodes-in}
-use Rattle.normal_steps.specs.Seeks.{seek-empty, sought-nowhere}
-use Rattle.normal_steps.specs.Rows.{rows-of, inside-at, node-here, node-past}
+use Rattle.normal_steps.specs.laws.Seeks.{seek-empty, sought-nowhere}
+use Rattle.normal_steps.specs.Rows.{rows-of}
+use Rattle.normal_steps.specs.laws.Rows.{node-here, node-past}
+use Rattle.normal_steps.specs.laws.Rows.{inside-at}
 use borrow.Author.Needs.{needs}
 use native.Mathlib.Omega.{arith}
 use Rattle.normal_steps.proofs.memory.node_place.Statement.{statement}

@@ -1,6 +1,7 @@
 -- `normal_steps::memory::put_part` writes a part of the symbol behind the others. Assumes nothing.
 use mathlib.Core.Path.{_∙_}
-use Rattle.normal_steps.specs.Parts.{part, part-length}
+use Rattle.normal_steps.specs.Parts.{part}
+use Rattle.normal_steps.specs.laws.Parts.{part-length}
 use Rattle.normal_steps.specs.laws.Slices.{puts-by, wrote-paste}
 use borrow.Author.Needs.{needs}
 use native.Mathlib.Omega.{arith}

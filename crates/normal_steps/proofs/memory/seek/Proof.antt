@@ -6,7 +6,7 @@ use borrow.Author.Tests.{eq-eqb, ne-eqb}
 use lib.Dec.{eqb}
 use lib.ListN.{take, getD}
 use Rattle.normal_nodes.specs.Nodes.{seek-by}
-use Rattle.normal_steps.specs.Seeks.{seek-empty, sought-nowhere, first-here, first-past}
+use Rattle.normal_steps.specs.laws.Seeks.{seek-empty, sought-nowhere, first-here, first-past}
 use borrow.Author.Needs.{needs}
 use native.Mathlib.Omega.{arith}
 use Rattle.normal_steps.proofs.memory.seek.Statement.{statement}

@@ -3,7 +3,7 @@ use mathlib.Core.Path.{sym, ap, _∙_}
 use Prim.Native.Nat.{ℕ}
 use lib.ListN.{take, drop, length-drop}
 use Rattle.grammar.specs.Text.{same}
-use Rattle.normal_steps.specs.Parts.{part-length}
+use Rattle.normal_steps.specs.laws.Parts.{part-length}
 use Rattle.normal_steps.specs.laws.Tests.{same-no, starts-same}
 use borrow.Author.Needs.{needs}
 use native.Mathlib.Omega.{arith}

@@ -1,7 +1,7 @@
 -- `normal_steps::words::listed_last` compares a part with the last seven reserved words. Assumes nothing.
 use mathlib.Core.Path.{refl, sym, _∙_}
 use Rattle.grammar.specs.Text.{b}
-use Rattle.catalogue.specs.Bytes.{or-false}
+use Rattle.catalogue.specs.laws.Bytes.{or-false}
 use Rattle.catalogue.specs.Class.{reserved, listed}
 use borrow.Author.Needs.{needs}
 use Rattle.normal_steps.proofs.words.listed_last.Statement.{statement}

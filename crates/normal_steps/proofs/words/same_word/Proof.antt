@@ -3,7 +3,8 @@ use mathlib.Core.Path.{sym, ap, _∙_}
 use Prim.Native.Nat.{ℕ, _-_}
 use lib.ListN.{take, drop}
 use Rattle.grammar.specs.Text.{same}
-use Rattle.normal_steps.specs.Parts.{part, part-length}
+use Rattle.normal_steps.specs.Parts.{part}
+use Rattle.normal_steps.specs.laws.Parts.{part-length}
 use Rattle.normal_steps.specs.laws.Tests.{same-no}
 use borrow.Author.Needs.{needs}
 use native.Mathlib.Omega.{arith}

@@ -2,7 +2,7 @@
 use mathlib.Core.Path.{refl, sym, _∙_}
 use Prim.Native.Nat.{_+_}
 use borrow.Author.Tests.{not-true, not-false}
-use Rattle.normal_steps.specs.Parts.{part-length}
+use Rattle.normal_steps.specs.laws.Parts.{part-length}
 use Rattle.normal_steps.specs.laws.Leaves.{name-zero, name-end, name-long, name-by, name-some}
 use borrow.Author.Needs.{needs}
 use native.Mathlib.Omega.{arith}

@@ -5,7 +5,7 @@ use lib.ListN.{getD}
 use borrow.Author.Tests.{lt-ltb, le-ltb, not-true, not-false}
 use Rattle.grammar.specs.Text.{digit, digit-value}
 use Rattle.catalogue.specs.Class.{name-ok}
-use Rattle.normal_steps.specs.Parts.{part-none}
+use Rattle.normal_steps.specs.laws.Parts.{part-none}
 use Rattle.normal_steps.specs.laws.Leaves.{name-rules}
 use borrow.Author.Needs.{needs}
 use native.Mathlib.Omega.{arith}

@@ -2,7 +2,8 @@
 use mathlib.Core.Path.{sym, ap}
 use Prim.Native.Nat.{_+_, _/_, _%_}
 use lib.ListN.{length, length-set}
-use Rattle.normal_steps.specs.Written.{wrote-as, wrote-one, wrote-two, wrote-three, wrote-four, decimal-one, decimal-two, decimal-three, decimal-four}
+use Rattle.normal_steps.specs.laws.Written.{wrote-three, wrote-four}
+use Rattle.normal_steps.specs.laws.Written.{wrote-as, wrote-one, wrote-two, decimal-one, decimal-two, decimal-three, decimal-four}
 use borrow.Author.Needs.{needs}
 use native.Mathlib.Omega.{arith}
 use Rattle.normal_steps.proofs.write.write_decimal.Statement.{statement}

@@ -5,16 +5,7 @@ use mathlib.Core.Path.{_≡_, sym, _∙_}
 use Prim.Native.Nat.{_<_}
 use lib.ListN.{length}
 use borrow.Author.Tests.{not-true, not-false}
-use Rattle.normal_writer.specs.laws.Symbols.{
-  outside-by,
-  symbol-not,
-  symbol-nameless,
-  symbol-headed,
-  symbol-alone,
-  symbol-broken,
-  symbol-many,
-  symbol-writes,
-}
+use Rattle.normal_writer.specs.laws.Symbols.{outside-by, symbol-not, symbol-nameless, symbol-headed, symbol-alone, symbol-broken, symbol-many, symbol-writes}
 use borrow.Author.Needs.{needs}
 use Rattle.normal_writer.proofs.symbol.write_symbol.Statement.{statement}
 use Rattle.normal_writer.proofs.symbol.write_symbol.Tie as tie

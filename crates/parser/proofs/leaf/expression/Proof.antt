@@ -6,7 +6,8 @@ use native.Mathlib.Omega.{arith}
 use borrow.Author.Needs.{needs}
 use lib.ListN.{length, drop, getD}
 use Rattle.grammar.specs.Grammar.{skipped}
-use Rattle.parser.specs.Leaves.{left-at, skipped-all, skipped-none, skipped-more, open-most}
+use Rattle.parser.specs.Leaves.{left-at}
+use Rattle.parser.specs.laws.Leaves.{skipped-all, skipped-none, skipped-more, open-most}
 use Rattle.parser.proofs.leaf.expression.Statement.{statement}
 use Rattle.parser.proofs.leaf.expression.Tie as tie
 

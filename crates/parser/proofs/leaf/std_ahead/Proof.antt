@@ -5,7 +5,7 @@ use native.Mathlib.Omega.{arith}
 use borrow.Author.Tests.{lt-ltb, le-ltb}
 use lib.ListN.{getD, length-drop}
 use Rattle.grammar.specs.Text.{digit, digit-value}
-use Rattle.parser.specs.Leaves.{std-short, std-other, std-second, std-third}
+use Rattle.parser.specs.laws.Leaves.{std-short, std-other, std-second, std-third}
 use borrow.Author.Needs.{needs}
 use Rattle.parser.proofs.leaf.std_ahead.Statement.{statement}
 use Rattle.parser.proofs.leaf.std_ahead.Tie as tie

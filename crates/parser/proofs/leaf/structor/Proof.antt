@@ -3,7 +3,7 @@ use mathlib.Core.Bool.{true, false}
 use mathlib.Core.Path.{sym, _∙_}
 use native.Mathlib.Omega.{arith}
 use lib.ListN.{length-drop}
-use Rattle.parser.specs.Leaves.{structor-short, structor-at}
+use Rattle.parser.specs.laws.Leaves.{structor-short, structor-at}
 use borrow.Author.Needs.{needs}
 use Rattle.parser.proofs.leaf.structor.Statement.{statement}
 use Rattle.parser.proofs.leaf.structor.Tie as tie

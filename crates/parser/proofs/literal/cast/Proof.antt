@@ -7,8 +7,9 @@ use Rattle.grammar.specs.Text.{b}
 use lib.ListN.{length, length-append}
 use Rattle.parser.specs.Holds.{part}
 use Rattle.parser.specs.laws.Laws.{less, given-refines}
-use Rattle.parser.specs.Adds.{stands-more}
-use Rattle.parser.specs.Literals.{signed, length-signed, length-part, stands-size}
+use Rattle.parser.specs.laws.Adds.{stands-more}
+use Rattle.parser.specs.Literals.{signed}
+use Rattle.parser.specs.laws.Literals.{length-signed, length-part, stands-size}
 use borrow.Author.Needs.{needs}
 use Rattle.parser.proofs.literal.cast.Statement.{statement}
 use Rattle.parser.proofs.literal.cast.Tie as tie

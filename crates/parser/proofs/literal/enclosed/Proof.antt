@@ -4,8 +4,8 @@ use native.Mathlib.Omega.{arith}
 use Prim.Native.Nat.{_+_}
 use lib.ListN.{length-append, length-take, length-drop}
 use Rattle.grammar.specs.Text.{b}
-use Rattle.parser.specs.Wraps.{stands-puts, puts-least}
-use Rattle.parser.specs.Literals.{stands-size, stands-turned}
+use Rattle.parser.specs.laws.Wraps.{stands-puts, puts-least}
+use Rattle.parser.specs.laws.Literals.{stands-size, stands-turned}
 use borrow.Author.Needs.{needs}
 use Rattle.parser.proofs.literal.enclosed.Statement.{statement}
 use Rattle.parser.proofs.literal.enclosed.Tie as tie

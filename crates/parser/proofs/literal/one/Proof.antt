@@ -1,7 +1,7 @@
 -- `parser::literal::one` tests the length and the byte. Assumes nothing.
 use mathlib.Core.Path.{sym, _∙_}
 use native.Mathlib.Omega.{arith}
-use Rattle.parser.specs.Literals.{length-part, one-other, one-single}
+use Rattle.parser.specs.laws.Literals.{length-part, one-other, one-single}
 use borrow.Author.Needs.{needs}
 use Rattle.parser.proofs.literal.one.Statement.{statement}
 use Rattle.parser.proofs.literal.one.Tie as tie

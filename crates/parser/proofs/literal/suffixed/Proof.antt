@@ -5,9 +5,9 @@ use lib.ListN.{length-append}
 use Rattle.grammar.specs.Text.{b}
 use Rattle.parser.specs.Holds.{part}
 use Rattle.parser.specs.laws.Laws.{given-refines}
-use Rattle.parser.specs.Wraps.{stands-puts}
-use Rattle.parser.specs.Adds.{stands-more}
-use Rattle.parser.specs.Literals.{length-signed, length-part, stands-bare, stands-size}
+use Rattle.parser.specs.laws.Wraps.{stands-puts}
+use Rattle.parser.specs.laws.Adds.{stands-more}
+use Rattle.parser.specs.laws.Literals.{length-signed, length-part, stands-bare, stands-size}
 use borrow.Author.Needs.{needs}
 use Rattle.parser.proofs.literal.suffixed.Statement.{statement}
 use Rattle.parser.proofs.literal.suffixed.Tie as tie

@@ -1,7 +1,7 @@
 -- `parser::literal::value` puts a value at once, or a - and what stands behind the n. Assumes nothing.
 use Rattle.grammar.specs.Text.{b}
-use Rattle.parser.specs.Adds.{adds-none, adds-one, adds-more, adds-by}
-use Rattle.parser.specs.Literals.{signed-none, signed-minus, signed-plain}
+use Rattle.parser.specs.laws.Adds.{adds-none, adds-one, adds-more, adds-by}
+use Rattle.parser.specs.laws.Literals.{signed-none, signed-minus, signed-plain}
 use borrow.Author.Needs.{needs}
 use Rattle.parser.proofs.literal.value.Statement.{statement}
 use Rattle.parser.proofs.literal.value.Tie as tie

@@ -3,7 +3,7 @@ use native.Mathlib.Omega.{arith}
 use borrow.Author.Needs.{needs}
 use Rattle.parser.specs.Holds.{refuses}
 use Rattle.parser.specs.laws.Laws.{by}
-use Rattle.parser.specs.Halves.{give-long, part-size, wrote-one}
+use Rattle.parser.specs.laws.Halves.{give-long, part-size, wrote-one}
 use Rattle.parser.proofs.memory.entry.Statement.{statement}
 use Rattle.parser.proofs.memory.entry.Tie as tie
 

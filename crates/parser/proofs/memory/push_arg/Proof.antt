@@ -4,7 +4,7 @@ use borrow.Author.Needs.{needs}
 use Rattle.store.specs.laws.Entries.{entries-sized, entries-as}
 use Rattle.store.specs.laws.Lists.{second-lent}
 use Rattle.parser.specs.Holds.{full, high-bytes, high-ends}
-use Rattle.parser.specs.Halves.{store-size, ends-size, fits-not, push-arg-no, pushes-by, pushes-arg}
+use Rattle.parser.specs.laws.Halves.{store-size, ends-size, fits-not, push-arg-no, pushes-by, pushes-arg}
 use Rattle.parser.proofs.memory.push_arg.Statement.{statement}
 use Rattle.parser.proofs.memory.push_arg.Tie as tie
 

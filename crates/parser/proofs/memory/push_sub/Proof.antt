@@ -5,7 +5,7 @@ use mathlib.Core.Path.{sym}
 use lib.Seq.{length-take-le}
 use Rattle.store.specs.laws.Entries.{entries-sized}
 use Rattle.parser.specs.Holds.{full, low-bytes, low-ends}
-use Rattle.parser.specs.Halves.{store-size, ends-size, fits-not, push-sub-no, pushes-by, pushes-sub}
+use Rattle.parser.specs.laws.Halves.{store-size, ends-size, fits-not, push-sub-no, pushes-by, pushes-sub}
 use Rattle.parser.proofs.memory.push_sub.Statement.{statement}
 use Rattle.parser.proofs.memory.push_sub.Tie as tie
 

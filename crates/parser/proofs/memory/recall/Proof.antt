@@ -5,7 +5,7 @@ use borrow.Author.Needs.{needs}
 use Rattle.grammar.specs.Reader.{refuse}
 use Rattle.parser.specs.Holds.{refuses, low-ends}
 use Rattle.parser.specs.laws.Laws.{by}
-use Rattle.parser.specs.Halves.{store-size, low-ends-size, none-given, sub-given, entry-size, entry-room}
+use Rattle.parser.specs.laws.Halves.{store-size, low-ends-size, none-given, sub-given, entry-size, entry-room}
 use Rattle.parser.proofs.memory.recall.Statement.{statement}
 use Rattle.parser.proofs.memory.recall.Tie as tie
 

@@ -5,7 +5,7 @@ use Rattle.store.specs.laws.Fronts.{front-as}
 use Rattle.store.specs.laws.Lists.{second-lent}
 use Rattle.parser.specs.Holds.{high-ends}
 use Rattle.parser.specs.laws.Laws.{by}
-use Rattle.parser.specs.Halves.{store-size, ends-size, high-ends-size, arg-given, entry-size, entry-room}
+use Rattle.parser.specs.laws.Halves.{store-size, ends-size, high-ends-size, arg-given, entry-size, entry-room}
 use Rattle.parser.proofs.memory.recall_arg.Statement.{statement}
 use Rattle.parser.proofs.memory.recall_arg.Tie as tie
 

@@ -1,6 +1,6 @@
 -- `parser::memory::recorded` pushes the text and returns it, as the definition does. Assumes nothing.
 use borrow.Author.Needs.{needs}
-use Rattle.parser.specs.Halves.{recorded-given, recorded-full}
+use Rattle.parser.specs.laws.Halves.{recorded-given, recorded-full}
 use Rattle.parser.proofs.memory.recorded.Statement.{statement}
 use Rattle.parser.proofs.memory.recorded.Tie as tie
 

@@ -4,8 +4,10 @@ use mathlib.Core.Path.{_≡_}
 use Prim.Native.Nat.{_-_, _≤_}
 use native.Mathlib.Omega.{arith}
 use borrow.Author.Needs.{needs}
-use Rattle.parser.specs.Adds.{Adds, adds-none, adds-more}
-use Rattle.parser.specs.Source.{closers, closers-more}
+use Rattle.parser.specs.Adds.{Adds}
+use Rattle.parser.specs.laws.Adds.{adds-none, adds-more}
+use Rattle.parser.specs.Source.{closers}
+use Rattle.parser.specs.laws.Source.{closers-more}
 use Rattle.parser.proofs.names.close_tags.Statement.{statement}
 use Rattle.parser.proofs.names.close_tags.Tie as tie
 

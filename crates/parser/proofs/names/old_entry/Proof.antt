@@ -4,10 +4,10 @@ use native.Mathlib.Omega.{arith}
 use borrow.Author.Tests.{not-true, not-false}
 use Rattle.parser.specs.Holds.{refuses}
 use Rattle.parser.specs.laws.Laws.{by}
-use Rattle.parser.specs.Halves.{none-given}
+use Rattle.parser.specs.laws.Halves.{none-given}
 use Rattle.grammar.specs.laws.Places.{starts-inside}
-use Rattle.parser.specs.Adds.{reads-moved, ready-moved}
-use Rattle.parser.specs.References.{index-none, index-some, entry-open, entry-is}
+use Rattle.parser.specs.laws.Adds.{reads-moved, ready-moved}
+use Rattle.parser.specs.laws.References.{index-none, index-some, entry-open, entry-is}
 use borrow.Author.Needs.{needs}
 use Rattle.parser.proofs.names.old_entry.Statement.{statement}
 use Rattle.parser.proofs.names.old_entry.Tie as tie

@@ -6,7 +6,7 @@ use native.Mathlib.Omega.{arith}
 use borrow.Author.Needs.{needs}
 use borrow.Author.Tests.{not-true, not-false}
 use lib.ListN.{length}
-use Rattle.parser.specs.Adds.{stack-by, puts-at}
+use Rattle.parser.specs.laws.Adds.{stack-by, puts-at}
 use Rattle.grammar.specs.laws.Places.{starts-inside}
 use Rattle.parser.specs.laws.Tags.{Tagging, tagging-start, tagging-refuses, located, tagging-ends, tagging-more}
 use Rattle.parser.proofs.names.source_name.Statement.{statement}

@@ -5,8 +5,8 @@ use borrow.Author.Tests.{not-true, not-false}
 use Rattle.grammar.specs.Words.{word-of, Picked-inside}
 use Rattle.parser.specs.Holds.{refuses}
 use Rattle.parser.specs.laws.Laws.{by}
-use Rattle.parser.specs.Adds.{stack-by, reads-moved, ready-moved}
-use Rattle.parser.specs.References.{sub-none, sub-end, sub-word, sub-entry}
+use Rattle.parser.specs.laws.Adds.{stack-by, reads-moved, ready-moved}
+use Rattle.parser.specs.laws.References.{sub-none, sub-end, sub-word, sub-entry}
 use borrow.Author.Needs.{needs}
 use Rattle.parser.proofs.names.substitution.Statement.{statement}
 use Rattle.parser.proofs.names.substitution.Tie as tie

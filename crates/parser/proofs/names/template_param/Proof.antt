@@ -5,8 +5,9 @@ use borrow.Author.Tests.{not-true, not-false}
 use Rattle.parser.specs.Holds.{refuses}
 use Rattle.parser.specs.laws.Laws.{by}
 use Rattle.grammar.specs.laws.Places.{starts-inside}
-use Rattle.parser.specs.Adds.{reads-moved, ready-moved}
-use Rattle.parser.specs.References.{index-none, index-some, param-none, param-open, param-past, param-given}
+use Rattle.parser.specs.laws.Adds.{reads-moved, ready-moved}
+use Rattle.parser.specs.laws.References.{param-past, param-given}
+use Rattle.parser.specs.laws.References.{index-none, index-some, param-none, param-open}
 use borrow.Author.Needs.{needs}
 use Rattle.parser.proofs.names.template_param.Statement.{statement}
 use Rattle.parser.proofs.names.template_param.Tie as tie

@@ -1,7 +1,7 @@
 -- `parser::names::word` puts a word of the tables, which is never too long. Assumes nothing.
 use native.Mathlib.Omega.{arith}
 use Rattle.grammar.proofs.Lookups.{length-spelled}
-use Rattle.parser.specs.Halves.{wrote-one}
+use Rattle.parser.specs.laws.Halves.{wrote-one}
 use borrow.Author.Needs.{needs}
 use Rattle.parser.proofs.names.word.Statement.{statement}
 use Rattle.parser.proofs.names.word.Tie as tie

@@ -11,7 +11,7 @@ use Rattle.store.specs.Stack.{Stack}
 use Rattle.parser.specs.declared.state.Parser.{Parser}
 use Rattle.parser.specs.Holds.{Puts}
 use Rattle.parser.specs.laws.Laws.{holds-puts}
-use Rattle.parser.specs.Wraps.{holds-cuts, puts-top, stands-puts, stands-turned}
+use Rattle.parser.specs.laws.Wraps.{holds-cuts, puts-top, stands-puts, stands-turned}
 use Rattle.parser.proofs.types.class_behind.Statement.{statement}
 use Rattle.parser.proofs.types.class_behind.Tie as tie
 

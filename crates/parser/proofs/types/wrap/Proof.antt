@@ -16,8 +16,9 @@ use Rattle.grammar.proofs.Lookups.{length-spelled}
 use Rattle.store.specs.Stack.{slots-in}
 use Rattle.store.specs.laws.Lists.{drop-take}
 use Rattle.parser.specs.laws.Laws.{by, holds-puts}
-use Rattle.parser.specs.Halves.{newest-part}
-use Rattle.parser.specs.Wraps.{Wrapper, picked-at, picked-none, some-is, some-not, puts-top, stands-puts, behind, inside}
+use Rattle.parser.specs.laws.Halves.{newest-part}
+use Rattle.parser.specs.Wraps.{Wrapper}
+use Rattle.parser.specs.laws.Wraps.{picked-at, picked-none, some-is, some-not, puts-top, stands-puts, behind, inside}
 use Rattle.parser.proofs.types.wrap.Statement.{statement}
 use Rattle.parser.proofs.types.wrap.Tie as tie
 

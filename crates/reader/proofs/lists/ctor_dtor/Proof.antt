@@ -6,11 +6,11 @@ use native.Mathlib.Omega.{arith}
 use mathlib.Core.Path.{_≡_, ap}
 use Prim.Native.Nat.{_+_, _-_, _*_, _≤_, min}
 use lib.ListN.{length}
-use Rattle.parser.specs.Wraps.{puts-top}
+use Rattle.parser.specs.laws.Wraps.{puts-top}
 use Rattle.reader.specs.declared.lists.Parts.{Parts}
 use Rattle.reader.specs.Lists.{before-part}
 use Rattle.reader.specs.laws.Joined.{colons-size}
-use Rattle.reader.specs.Structors.{tilde-size, structor-long, structor-named, exact, between, again-room}
+use Rattle.reader.specs.laws.Structors.{tilde-size, structor-long, structor-named, exact, between, again-room}
 
 returns : tie.Need-returns
 returns c s store ends base from ps σ x t e h =

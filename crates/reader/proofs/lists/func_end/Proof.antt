@@ -12,8 +12,9 @@ use Rattle.grammar.specs.Reader.{State, recorded}
 use Rattle.grammar.specs.Grammar.{only-void}
 use Rattle.parser.specs.Holds.{mem, Stands, keep}
 use Rattle.parser.specs.laws.Laws.{by, less, holds-puts}
-use Rattle.parser.specs.Wraps.{holds-cuts, puts-least, stands-puts}
-use Rattle.reader.specs.Funcs.{opening, function-listed, function-bare, only-one, not-only, newest-four, stands-without}
+use Rattle.parser.specs.laws.Wraps.{holds-cuts, puts-least, stands-puts}
+use Rattle.reader.specs.Funcs.{opening}
+use Rattle.reader.specs.laws.Funcs.{function-listed, function-bare, only-one, not-only, newest-four, stands-without}
 use Rattle.reader.proofs.lists.func_end.Statement.{statement}
 use Rattle.reader.proofs.lists.func_end.Tie as tie
 

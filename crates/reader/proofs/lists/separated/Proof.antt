@@ -2,7 +2,7 @@
 use borrow.Author.Needs.{needs}
 use native.Mathlib.Omega.{arith}
 use Rattle.grammar.specs.Text.{b}
-use Rattle.reader.specs.Separators.{puts-none, puts-some}
+use Rattle.reader.specs.laws.Separators.{puts-none, puts-some}
 use Rattle.reader.proofs.lists.separated.Statement.{statement}
 use Rattle.reader.proofs.lists.separated.Tie as tie
 

@@ -3,7 +3,7 @@ use borrow.Author.Needs.{needs}
 use Rattle.reader.proofs.lists.tilde.Statement.{statement}
 use Rattle.reader.proofs.lists.tilde.Tie as tie
 use native.Mathlib.Omega.{arith}
-use Rattle.reader.specs.Structors.{puts-tilde, puts-no-tilde}
+use Rattle.reader.specs.laws.Structors.{puts-tilde, puts-no-tilde}
 
 returns : tie.Need-returns
 returns c = puts-tilde (c .before .before .before .before .before .before .before .args .c) (omega arith) (c .before .before .put .ensures)

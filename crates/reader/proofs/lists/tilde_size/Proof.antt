@@ -4,7 +4,7 @@ use Rattle.reader.proofs.lists.tilde_size.Tie as tie
 use mathlib.Core.Path.{sym, ap}
 use native.Mathlib.Omega.{arith}
 use lib.ListN.{length}
-use Rattle.reader.specs.Structors.{tilde-at, tilde-none}
+use Rattle.reader.specs.laws.Structors.{tilde-at, tilde-none}
 
 returns : tie.Need-returns
 returns c = sym (ap length (tilde-at (c .before .args .c) (omega arith)))

@@ -8,7 +8,7 @@ use denote.Enum.Declared
 use lib.ListN.{getD}
 use Rattle.catalogue.specs.Recogniser.{lead}
 use types.Run
-use Rattle.normal_steps.specs.Leads.{lead-is}
+use Rattle.normal_steps.specs.laws.Leads.{lead-is}
 use Rattle.normal_steps.specs.laws.Moves.{moved-ready}
 use Rattle.normal_writer.specs.laws.Types.{by-name, by-reference, first-named, first-referred, first-next}
 use Rattle.normal_writer.specs.laws.Parts.{parts-end, parts-by, parts-other, parts-unnamed, parts-named, parts-unreferred, parts-barred, parts-referred}

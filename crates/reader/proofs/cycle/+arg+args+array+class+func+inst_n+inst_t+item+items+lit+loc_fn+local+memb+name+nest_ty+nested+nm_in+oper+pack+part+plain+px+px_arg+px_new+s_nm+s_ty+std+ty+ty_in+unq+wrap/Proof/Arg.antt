@@ -4,8 +4,8 @@ use Prim.Native.Nat.{ℕ}
 use Rattle.parser.specs.declared.state.Parser.{Parser}
 use Rattle.parser.specs.Holds.{refuses, keep}
 use Rattle.parser.specs.laws.Laws.{by, less, sooner, holds-moved}
-use Rattle.parser.specs.Adds.{ready-moved, puts-from, stack-by}
-use Rattle.parser.specs.Halves.{wrote-one}
+use Rattle.parser.specs.laws.Adds.{ready-moved, puts-from, stack-by}
+use Rattle.parser.specs.laws.Halves.{wrote-one}
 use Rattle.grammar.specs.laws.Places.{starts-inside}
 use Rattle.reader.specs.laws.Opens.{call-moved}
 use Rattle.reader.specs.laws.Closes.{ahead-is, arg-literal, arg-skipped, arg-open, arg-pack, arg-other, skips-to, skips-none}

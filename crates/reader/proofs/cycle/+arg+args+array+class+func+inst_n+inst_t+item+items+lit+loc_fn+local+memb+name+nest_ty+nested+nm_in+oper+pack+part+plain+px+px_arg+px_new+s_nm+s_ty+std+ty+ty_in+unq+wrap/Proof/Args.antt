@@ -5,8 +5,8 @@ use borrow.Author.Tests.{not-true, not-false}
 use Rattle.parser.specs.declared.state.Parser.{Parser}
 use Rattle.parser.specs.Holds.{refuses}
 use Rattle.parser.specs.laws.Laws.{by, holds-puts}
-use Rattle.parser.specs.Adds.{stack-by}
-use Rattle.parser.specs.Wraps.{stands-puts}
+use Rattle.parser.specs.laws.Adds.{stack-by}
+use Rattle.parser.specs.laws.Wraps.{stands-puts}
 use mathlib.Core.List.{[], _∷_}
 use lib.ListN.{length-append}
 use Rattle.grammar.specs.Text.{b, join}

@@ -8,7 +8,7 @@ use Rattle.grammar.specs.Reader.{State, ok, onto, push-sub, give, at-code}
 use Rattle.grammar.specs.Grammar.{reading, ⟨source-name⟩, class-type, type-instance}
 use Rattle.grammar.specs.laws.Steps.{at-code-yes, at-code-no}
 use Rattle.parser.specs.laws.Laws.{by, got, answers, refused-on, short-enough}
-use Rattle.parser.specs.Halves.{give-short}
+use Rattle.parser.specs.laws.Halves.{give-short}
 use Rattle.reader.proofs.cycle.+arg+args+array+class+func+inst_n+inst_t+item+items+lit+loc_fn+local+memb+name+nest_ty+nested+nm_in+oper+pack+part+plain+px+px_arg+px_new+s_nm+s_ty+std+ty+ty_in+unq+wrap.Proof.LawsJoin.{kept, push-refused, answer-as, narrow, stood, stands-top, instance-at}
 use Prim.Native.Nat.{ℕ}
 use borrow.Author.Needs.{needs}

@@ -12,7 +12,7 @@ use Rattle.parser.specs.laws.Laws.{by, got, refused-on, holds-puts}
 use Rattle.grammar.specs.laws.Places.{starts-inside}
 use Rattle.reader.specs.laws.Closes.{got-list, list-refused, refuses-list, closed-no, closed-yes, ahead-is, behind-is, then-refused, then-ok}
 use Rattle.reader.specs.laws.Standing.{stands-moved, stands-least}
-use Rattle.reader.specs.Funcs.{function-open, function-of, func-stands, func-ended}
+use Rattle.reader.specs.laws.Funcs.{function-open, function-of, func-stands, func-ended}
 use Rattle.reader.proofs.cycle.func.Reads as func
 use Rattle.reader.proofs.cycle.+arg+args+array+class+func+inst_n+inst_t+item+items+lit+loc_fn+local+memb+name+nest_ty+nested+nm_in+oper+pack+part+plain+px+px_arg+px_new+s_nm+s_ty+std+ty+ty_in+unq+wrap.Lts-func as lts
 use Rattle.reader.proofs.cycle.+arg+args+array+class+func+inst_n+inst_t+item+items+lit+loc_fn+local+memb+name+nest_ty+nested+nm_in+oper+pack+part+plain+px+px_arg+px_new+s_nm+s_ty+std+ty+ty_in+unq+wrap.Proof.Cycle.{func-at, func-calls}

@@ -6,7 +6,7 @@ use Prim.Native.Nat.{ℕ}
 use denote.Enum.Declared
 use types.Run
 use Rattle.reader.proofs.lists.Kind as kind-type
-use Rattle.parser.specs.Halves.{newest-part}
+use Rattle.parser.specs.laws.Halves.{newest-part}
 use Rattle.parser.specs.laws.Laws.{got, stands}
 use Rattle.reader.specs.declared.lists.Kind.{Kind}
 use Rattle.reader.specs.declared.lists.Kind.the-variants.{Parameters, Types, Arguments}

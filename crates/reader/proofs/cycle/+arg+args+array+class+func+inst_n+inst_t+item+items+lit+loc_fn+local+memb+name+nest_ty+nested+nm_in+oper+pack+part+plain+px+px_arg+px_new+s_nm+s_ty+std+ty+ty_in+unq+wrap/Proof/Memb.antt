@@ -5,7 +5,7 @@ use Rattle.parser.specs.Holds.{keep}
 use Rattle.parser.specs.laws.Laws.{by, got, refused-on}
 use Rattle.reader.specs.laws.Opens.{on-got, member-is}
 use Rattle.reader.specs.laws.Standing.{stands-both}
-use Rattle.parser.specs.Halves.{newest-part}
+use Rattle.parser.specs.laws.Halves.{newest-part}
 use lib.ListN.{length-append}
 use borrow.Author.Needs.{needs}
 use native.Mathlib.Omega.{arith}

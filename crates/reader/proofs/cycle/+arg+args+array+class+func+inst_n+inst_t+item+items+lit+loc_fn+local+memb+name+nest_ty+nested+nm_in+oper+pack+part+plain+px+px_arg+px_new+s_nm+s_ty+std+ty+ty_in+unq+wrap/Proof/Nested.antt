@@ -9,7 +9,7 @@ use Rattle.grammar.specs.Text.{starts}
 use Rattle.grammar.specs.Reader.{State, onto}
 use Rattle.grammar.specs.Grammar.{reading, ⟨nested-name⟩}
 use Rattle.grammar.specs.laws.Agree.{moved}
-use Rattle.grammar.specs.Loops.{closed}
+use Rattle.grammar.specs.laws.Loops.{closed}
 use Rattle.parser.specs.declared.state.Parser.{Parser}
 use Rattle.parser.specs.Holds.{mem, part, Holds, refuses, given-of}
 use Rattle.parser.specs.States.{cv-to, templated-to}

@@ -5,7 +5,7 @@ use Rattle.grammar.specs.laws.Steps.{from-text, same-from}
 use Rattle.grammar.specs.laws.NameSteps.{name-N, name-S, name-L, name-Z, name-other, name-end}
 use Rattle.parser.specs.Holds.{refuses, keep}
 use Rattle.parser.specs.laws.Laws.{by, less, sooner}
-use Rattle.parser.specs.Adds.{ready-moved}
+use Rattle.parser.specs.laws.Adds.{ready-moved}
 use Rattle.reader.specs.laws.Opens.{at-of, call-moved}
 use Rattle.reader.specs.laws.Arrays.{byte-at, byte-is, byte-inside, no-byte, no-name-code}
 use mathlib.Core.List.{[]}

@@ -3,8 +3,8 @@
 use Rattle.grammar.specs.Text.{b}
 use Rattle.parser.specs.Holds.{refuses}
 use Rattle.parser.specs.laws.Laws.{by, got}
-use Rattle.parser.specs.Adds.{stack-by, puts-at}
-use Rattle.parser.specs.Wraps.{picked-at, picked-none}
+use Rattle.parser.specs.laws.Adds.{stack-by, puts-at}
+use Rattle.parser.specs.laws.Wraps.{picked-at, picked-none}
 use Rattle.reader.specs.laws.Opers.{operator-short, operator-no-c, operator-no-v, oper-word, oper-holds, oper-refused, oper-typed}
 use Prim.Native.Nat.{ℕ}
 use borrow.Author.Needs.{needs}

@@ -1,0 +1,81 @@
+-- Laws of Kinds.antt. Assumes nothing.
+use mathlib.Core.Bool.{Bool, true, false, _&&_}
+use mathlib.Core.Option.{Option, none, some}
+use mathlib.Core.Path.{_≡_, refl, sym, ap, _∙_, subst}
+use Prim.Native.Nat.{_≤_, _<_}
+use native.Mathlib.Omega.{arith}
+use borrow.Author.Tests.{lt-ltb, le-leb, leb-true}
+use lib.Dec.{leb}
+use lib.ListN.{length}
+use Rattle.grammar.specs.Text.{Text, if_then_else_}
+use Rattle.grammar.specs.Names.{Answer, named, refusal, mangled-name, front, demangle, most-symbol-bytes, least-text, least-store, work-fits, within, answer, length-of}
+use Rattle.catalogue.specs.Recogniser.{classify}
+use Rattle.catalogue.specs.Answer.{normal-in, normal-told, normal-after, normal-symbol, normal-work-fits, normal-answer}
+use Rattle.demangle.specs.laws.Lengths.{short-answer, within-is, answer-is}
+use Rattle.demangle.specs.Outcome.{Slices, lent}
+use Rattle.demangle.specs.Printed.{Tells}
+use Rattle.demangle.specs.laws.Tells.{tells-as}
+use Rattle.demangle.specs.declared.entry.Answer.{Answer as Code}
+use Rattle.normalize.specs.laws.Runs.{normal-behind}
+use Rattle.listing.specs.Listing.{answer-of, least-ends-of}
+use Rattle.listing.specs.declared.listing.Kind.{Kind}
+use Rattle.listing.specs.declared.listing.Kind.the-variants.{Names, Symbols}
+use Rattle.listing.specs.Kinds.{Sized}
+
+-- ---------------------------------------------------------------- a normal symbol
+
+told-short : (w : Option Text) → length-of (normal-told w) ≤ 4096
+unfolding normal-told length-of if_then_else_
+told-short none = omega arith
+told-short (some t) = go (leb (length t) 4096) refl where
+  go : (q : Bool) → leb (length t) 4096 ≡ q → length-of (if q then named t else refusal 13) ≤ 4096
+  go true e = leb-true (length t) 4096 e
+  go false e = omega arith
+
+after-short : (s : Text) (a : Answer) → length-of (normal-after s a) ≤ 4096
+unfolding normal-after length-of
+after-short s (named x) = told-short (normal-in (classify s))
+after-short s (refusal r) = omega arith
+
+normal-is : (l : Slices) (s : Text) → 16384 ≤ length (l .out) → normal-work-fits (lent l) ≡ true → normal-answer (lent l) s ≡ normal-symbol s
+unfolding normal-answer normal-symbol demangle if_then_else_
+normal-is l s h k = ap (front most-symbol-bytes s) (λ i u. step u i) ∙ normal-behind s where
+  step : (u : Text) → (if normal-work-fits (lent l) then within (length (l .out)) (normal-after s (mangled-name u)) else refusal 14) ≡ normal-after s (mangled-name u)
+  step u =
+      let a = normal-after s (mangled-name u) in
+      ap (λ (q : Bool). if q then within (length (l .out)) a else refusal 14) k
+      ∙ within-is (length (l .out)) a (omega (arith, after-short s (mangled-name u)))
+
+-- ---------------------------------------------------------------- by what is listed
+
+pub short-answer-of : (kind : Kind) (s : Text) → length-of (answer-of kind s) ≤ 16384
+unfolding answer-of normal-symbol
+short-answer-of Names s = short-answer s
+short-answer-of Symbols s = omega (arith, after-short s (demangle most-symbol-bytes s))
+
+too-long-for-name : (s : Text) → 4096 < length s → demangle most-symbol-bytes s ≡ refusal 1
+unfolding demangle front if_then_else_
+too-long-for-name s h = rw (lt-ltb 4096 (length s) h)
+
+pub too-long : (kind : Kind) (s : Text) → 4096 < length s → answer-of kind s ≡ refusal 1
+unfolding answer-of normal-symbol normal-after
+too-long Names s h = too-long-for-name s h
+too-long Symbols s h = ap (normal-after s) (too-long-for-name s h)
+
+sized-fits : {kind : Kind} {l : Slices} → Sized kind l → leb least-text (length (l .text)) && leb least-store (length (l .store)) && leb (least-ends-of kind) (length (l .ends)) ≡ true
+sized-fits {kind} {l} h =
+    rw (le-leb least-text (length (l .text)) (h .text), le-leb least-store (length (l .store)) (h .store), le-leb (least-ends-of kind) (length (l .ends)) (h .ends))
+
+-- either entry tells the answer
+module _ {kind : Kind} {l : Slices} {out : Text} {r : Code} (s : Text) (h : Sized kind l) where
+  pub name-told : kind ≡ Names → Tells (answer most-symbol-bytes (lent l) s) (l .out) out r → Tells (answer-of kind s) (l .out) out r
+  unfolding answer-of work-fits
+  name-told e d =
+      let i : Sized Names l = subst (λ (k : Kind). Sized k l) e h in
+      tells-as (answer-is l s (i .name) (sized-fits i) ∙ ap (λ (k : Kind). answer-of k s) (sym e)) d
+
+  pub symbol-told : kind ≡ Symbols → Tells (normal-answer (lent l) s) (l .out) out r → Tells (answer-of kind s) (l .out) out r
+  unfolding answer-of normal-work-fits
+  symbol-told e d =
+      let i : Sized Symbols l = subst (λ (k : Kind). Sized k l) e h in
+      tells-as (normal-is l s (i .name) (sized-fits i) ∙ ap (λ (k : Kind). answer-of k s) (sym e)) d
