@@ -1,4 +1,5 @@
 // Names, types, template arguments and literals. Each reading falls with the bytes that are left.
+use crate::instances;
 use crate::lists;
 use crate::lists::Kind;
 use crate::lists::Parts;
@@ -22,7 +23,8 @@ ghost use Prim.Native.Nat.{ℕ, _+_, _-_, _≤_, _<_, min};
 ghost use lib.ListN.{drop};
 ghost use Rattle.grammar.specs.Grammar.{reading, ⟨type⟩, ⟨template-args⟩, ⟨template-arg⟩, ⟨expr-primary⟩, ⟨name⟩, ⟨nested-name⟩, ⟨unqualified-name⟩, ⟨operator-name⟩, type-inner, array-type, function-type, pointer-to-member-type, nested-type, class-type, s-type, name-inner, unscoped-name, std-ahead, std-name, s-name, local-name, local-encoding, prefix, prefix-args, pack};
 ghost use Rattle.parser.specs.Holds.{mem, Ready, Reads, keep};
-ghost use Rattle.reader.specs.Cycle.{ReadsWrapped, ReadsInstance, ReadsTypeInstance};
+ghost use Rattle.reader.specs.Cycle.{ReadsWrapped, Instance};
+ghost use Rattle.reader.specs.Instances.{instance-of, at-S-of};
 ghost use Rattle.reader.specs.Lists.{ReadsItems, ReadsItem, ReadsPart, ReadsNewPart, ReadsPartText};
 
 // <type>
@@ -35,14 +37,14 @@ pub fn ty(s: &[u8], text: &mut [u8], store: &mut [u8], ends: &mut [u16], p: Pars
     if Parser::DEPTH <= depth {
         return Read::Refused(8);
     }
-    let got = ty_in(s, text, store, ends, p.enter());
+    let got = ty_inner(s, text, store, ends, p.enter());
     let Read::Text(next, n) = got else {
         return got;
     };
     Read::Text(next.leave(depth), n)
 }
 
-pub fn ty_in(s: &[u8], text: &mut [u8], store: &mut [u8], ends: &mut [u16], p: Parser) -> Read
+pub fn ty_inner(s: &[u8], text: &mut [u8], store: &mut [u8], ends: &mut [u16], p: Parser) -> Read
     requires { ⌜ Ready (now s) (mem (now text) (now store) (now ends)) p ⌝ }
     ensures { λ r. ⌜ Reads (type-inner reading) (keep (p .depth)) (p .at + 1) (now (s .entry))
         (mem (now (text .entry)) (now (store .entry)) (now (ends .entry))) (mem (now (text .exit)) (now (store .exit)) (now (ends .exit))) p r ⌝ }
@@ -59,12 +61,12 @@ pub fn ty_in(s: &[u8], text: &mut [u8], store: &mut [u8], ends: &mut [u16], p: P
         b'P' | b'R' | b'O' | b'C' | b'K' | b'V' | b'r' => wrap(s, text, store, ends, behind, c),
         b'A' => array(s, text, store, ends, behind),
         b'F' => func(s, text, store, ends, behind),
-        b'M' => memb(s, text, store, ends, behind),
+        b'M' => member(s, text, store, ends, behind),
         b'D' => types::builtin_d(s, text, p),
         b'u' => names::source_name(s, text, behind),
         b'N' => nest_ty(s, text, store, ends, p),
         b'T' => names::template_param(s, text, store, ends, p),
-        b'S' => s_ty(s, text, store, ends, p),
+        b'S' => at_s(s, text, store, ends, p, false),
         b'0'..=b'9' => class(s, text, store, ends, p),
         _ => Read::Refused(4),
     }
@@ -128,7 +130,7 @@ fn func(s: &[u8], text: &mut [u8], store: &mut [u8], ends: &mut [u16], p: Parser
 }
 
 // <pointer-to-member-type> ::= M <type> <type>, behind M
-fn memb(s: &[u8], text: &mut [u8], store: &mut [u8], ends: &mut [u16], p: Parser) -> Read
+fn member(s: &[u8], text: &mut [u8], store: &mut [u8], ends: &mut [u16], p: Parser) -> Read
     requires { ⌜ Ready (now s) (mem (now text) (now store) (now ends)) p ⌝ }
     ensures { λ r. ⌜ Reads (pointer-to-member-type reading) (keep (p .depth)) (p .at + 1) (now (s .entry))
         (mem (now (text .entry)) (now (store .entry)) (now (ends .entry))) (mem (now (text .exit)) (now (store .exit)) (now (ends .exit))) p r ⌝ }
@@ -150,7 +152,7 @@ fn nest_ty(s: &[u8], text: &mut [u8], store: &mut [u8], ends: &mut [u16], p: Par
     ensures { λ r. ⌜ Reads (nested-type reading) (keep (p .depth)) (p .at + 1) (now (s .entry))
         (mem (now (text .entry)) (now (store .entry)) (now (ends .entry))) (mem (now (text .exit)) (now (store .exit)) (now (ends .exit))) p r ⌝ }
 {
-    let got = nested(s, text, store, ends, p);
+    let got = nested_name(s, text, store, ends, p);
     let Read::Text(next, n) = got else {
         return got;
     };
@@ -176,50 +178,9 @@ fn class(s: &[u8], text: &mut [u8], store: &mut [u8], ends: &mut [u16], p: Parse
     };
     let at = b.at;
     if names::here(s, at, b'I') {
-        return inst_t(s, text, store, ends, b, n);
+        return instance(s, text, store, ends, b, n, false);
     }
     kept
-}
-
-// a type with its arguments
-fn inst_t(
-    s: &[u8],
-    text: &mut [u8],
-    store: &mut [u8],
-    ends: &mut [u16],
-    p: Parser,
-    x: usize,
-) -> Read
-    requires { ⌜ (Ready (now s) (mem (now text) (now store) (now ends)) p) × ((x ≤ 32768) × (x ≤ p .top)) ⌝ }
-    ensures { λ r. ⌜ ReadsTypeInstance x (now (s .entry))
-        (mem (now (text .entry)) (now (store .entry)) (now (ends .entry))) (mem (now (text .exit)) (now (store .exit)) (now (ends .exit))) p r ⌝ }
-{
-    let got = args(s, text, store, ends, p);
-    let Read::Text(next, n) = got else {
-        return got;
-    };
-    memory::recorded(text, store, ends, next, x + n)
-}
-
-// <type> ::= <substitution> [<template-args>] | St <unqualified-name>, at S
-fn s_ty(s: &[u8], text: &mut [u8], store: &mut [u8], ends: &mut [u16], p: Parser) -> Read
-    requires { ⌜ Ready (now s) (mem (now text) (now store) (now ends)) p ⌝ }
-    ensures { λ r. ⌜ Reads (s-type reading) (keep (p .depth)) (p .at + 1) (now (s .entry))
-        (mem (now (text .entry)) (now (store .entry)) (now (ends .entry))) (mem (now (text .exit)) (now (store .exit)) (now (ends .exit))) p r ⌝ }
-{
-    let at = p.at;
-    if leaf::std_ahead(s, at) {
-        return std(s, text, store, ends, p);
-    }
-    let got = names::substitution(s, text, store, ends, p);
-    let Read::Text(next, n) = got else {
-        return got;
-    };
-    let end = next.at;
-    if names::here(s, end, b'I') {
-        return inst_t(s, text, store, ends, next, n);
-    }
-    got
 }
 
 // A list of types or of template arguments.
@@ -425,14 +386,14 @@ pub fn name(s: &[u8], text: &mut [u8], store: &mut [u8], ends: &mut [u16], p: Pa
     if Parser::DEPTH <= depth {
         return Read::Refused(8);
     }
-    let got = nm_in(s, text, store, ends, p.enter());
+    let got = name_inner(s, text, store, ends, p.enter());
     let Read::Text(next, n) = got else {
         return got;
     };
     Read::Text(next.leave(depth), n)
 }
 
-fn nm_in(s: &[u8], text: &mut [u8], store: &mut [u8], ends: &mut [u16], p: Parser) -> Read
+fn name_inner(s: &[u8], text: &mut [u8], store: &mut [u8], ends: &mut [u16], p: Parser) -> Read
     requires { ⌜ Ready (now s) (mem (now text) (now store) (now ends)) p ⌝ }
     ensures { λ r. ⌜ Reads (name-inner reading) (keep (p .depth)) (p .at + 1) (now (s .entry))
         (mem (now (text .entry)) (now (store .entry)) (now (ends .entry))) (mem (now (text .exit)) (now (store .exit)) (now (ends .exit))) p r ⌝ }
@@ -442,10 +403,10 @@ fn nm_in(s: &[u8], text: &mut [u8], store: &mut [u8], ends: &mut [u16], p: Parse
     };
     let at = p.at;
     match c {
-        b'N' => nested(s, text, store, ends, p),
-        b'S' => s_nm(s, text, store, ends, p),
+        b'N' => nested_name(s, text, store, ends, p),
+        b'S' => at_s(s, text, store, ends, p, true),
         b'L' => name(s, text, store, ends, p.moved(at + 1)),
-        b'Z' => local(s, text, store, ends, p),
+        b'Z' => local_name(s, text, store, ends, p),
         _ => plain(s, text, store, ends, p),
     }
 }
@@ -468,32 +429,34 @@ fn plain(s: &[u8], text: &mut [u8], store: &mut [u8], ends: &mut [u16], p: Parse
     let Read::Text(after, _) = kept else {
         return kept;
     };
-    inst_n(s, text, store, ends, after, n)
+    instance(s, text, store, ends, after, n, true)
 }
 
-// a name with its arguments, which replace those so far
-fn inst_n(
+// A name, or else a type, of x bytes with its arguments.
+fn instance(
     s: &[u8],
     text: &mut [u8],
     store: &mut [u8],
     ends: &mut [u16],
     p: Parser,
     x: usize,
+    named: bool,
 ) -> Read
     requires { ⌜ (Ready (now s) (mem (now text) (now store) (now ends)) p) × ((x ≤ 32768) × (x ≤ p .top)) ⌝ }
-    ensures { λ r. ⌜ ReadsInstance x (now (s .entry))
+    ensures { λ r. ⌜ Instance (instance-of named) x (now (s .entry))
         (mem (now (text .entry)) (now (store .entry)) (now (ends .entry))) (mem (now (text .exit)) (now (store .exit)) (now (ends .exit))) p r ⌝ }
 {
-    let bare = memory::clear_args(p);
+    let bare = instances::bare(p, named);
     let got = args(s, text, store, ends, bare);
     let Read::Text(next, n) = got else {
         return got;
     };
-    memory::recorded(text, store, ends, next.with_templated(true), x + n)
+    let marked = instances::marked(next, named);
+    memory::recorded(text, store, ends, marked, x + n)
 }
 
 // <unscoped-name> ::= St <unqualified-name>
-fn std(s: &[u8], text: &mut [u8], store: &mut [u8], ends: &mut [u16], p: Parser) -> Read
+fn std_prefixed(s: &[u8], text: &mut [u8], store: &mut [u8], ends: &mut [u16], p: Parser) -> Read
     requires { ⌜ (Ready (now s) (mem (now text) (now store) (now ends)) p) × (std-ahead (drop (p .at) (now s)) ≡ true) ⌝ }
     ensures { λ r. ⌜ Reads (std-name reading) (keep (p .depth)) (p .at + 1) (now (s .entry))
         (mem (now (text .entry)) (now (store .entry)) (now (ends .entry))) (mem (now (text .exit)) (now (store .exit)) (now (ends .exit))) p r ⌝ }
@@ -511,20 +474,27 @@ fn std(s: &[u8], text: &mut [u8], store: &mut [u8], ends: &mut [u16], p: Parser)
     };
     let end = after.at;
     if names::here(s, end, b'I') {
-        return inst_n(s, text, store, ends, after, n);
+        return instance(s, text, store, ends, after, n, true);
     }
     memory::given(after, n)
 }
 
-// <name> ::= <substitution> [<template-args>] | St <unqualified-name>, at S
-fn s_nm(s: &[u8], text: &mut [u8], store: &mut [u8], ends: &mut [u16], p: Parser) -> Read
+// <name> or else <type> ::= <substitution> [<template-args>] | St <unqualified-name>, at S
+fn at_s(
+    s: &[u8],
+    text: &mut [u8],
+    store: &mut [u8],
+    ends: &mut [u16],
+    p: Parser,
+    named: bool,
+) -> Read
     requires { ⌜ Ready (now s) (mem (now text) (now store) (now ends)) p ⌝ }
-    ensures { λ r. ⌜ Reads (s-name reading) (keep (p .depth)) (p .at + 1) (now (s .entry))
+    ensures { λ r. ⌜ Reads (at-S-of named) (keep (p .depth)) (p .at + 1) (now (s .entry))
         (mem (now (text .entry)) (now (store .entry)) (now (ends .entry))) (mem (now (text .exit)) (now (store .exit)) (now (ends .exit))) p r ⌝ }
 {
     let at = p.at;
     if leaf::std_ahead(s, at) {
-        return std(s, text, store, ends, p);
+        return std_prefixed(s, text, store, ends, p);
     }
     let got = names::substitution(s, text, store, ends, p);
     let Read::Text(next, n) = got else {
@@ -532,13 +502,13 @@ fn s_nm(s: &[u8], text: &mut [u8], store: &mut [u8], ends: &mut [u16], p: Parser
     };
     let end = next.at;
     if names::here(s, end, b'I') {
-        return inst_n(s, text, store, ends, next, n);
+        return instance(s, text, store, ends, next, n, named);
     }
     got
 }
 
 // <local-name> ::= Z <function encoding> E <entity name> | Z <function encoding> E s
-fn local(s: &[u8], text: &mut [u8], store: &mut [u8], ends: &mut [u16], p: Parser) -> Read
+fn local_name(s: &[u8], text: &mut [u8], store: &mut [u8], ends: &mut [u16], p: Parser) -> Read
     requires { ⌜ Ready (now s) (mem (now text) (now store) (now ends)) p ⌝ }
     ensures { λ r. ⌜ Reads (local-name reading) (keep (p .depth)) (p .at + 1) (now (s .entry))
         (mem (now (text .entry)) (now (store .entry)) (now (ends .entry))) (mem (now (text .exit)) (now (store .exit)) (now (ends .exit))) p r ⌝ }
@@ -595,7 +565,7 @@ fn loc_fn(s: &[u8], text: &mut [u8], store: &mut [u8], ends: &mut [u16], p: Pars
 }
 
 // <nested-name> ::= N [<CV-qualifiers>] [<ref-qualifier>] <prefix> <unqualified-name> E
-fn nested(s: &[u8], text: &mut [u8], store: &mut [u8], ends: &mut [u16], p: Parser) -> Read
+fn nested_name(s: &[u8], text: &mut [u8], store: &mut [u8], ends: &mut [u16], p: Parser) -> Read
     requires { ⌜ Ready (now s) (mem (now text) (now store) (now ends)) p ⌝ }
     ensures { λ r. ⌜ Reads (reading ⟨nested-name⟩) (keep (p .depth)) (p .at + 1) (now (s .entry))
         (mem (now (text .entry)) (now (store .entry)) (now (ends .entry))) (mem (now (text .exit)) (now (store .exit)) (now (ends .exit))) p r ⌝ }
@@ -780,12 +750,12 @@ fn unq(s: &[u8], text: &mut [u8], store: &mut [u8], ends: &mut [u16], p: Parser)
             Read::Text(memory::put(text, q.moved(at + 2), b"{dtor}"), 6)
         }
         b'U' => names::unnamed_type_name(s, text, q.moved(at + 1)),
-        _ => oper(s, text, store, ends, q),
+        _ => operator(s, text, store, ends, q),
     }
 }
 
 // <operator-name> ::= nw | .. | cv <type>
-fn oper(s: &[u8], text: &mut [u8], store: &mut [u8], ends: &mut [u16], p: Parser) -> Read
+fn operator(s: &[u8], text: &mut [u8], store: &mut [u8], ends: &mut [u16], p: Parser) -> Read
     requires { ⌜ Ready (now s) (mem (now text) (now store) (now ends)) p ⌝ }
     ensures { λ r. ⌜ Reads (reading ⟨operator-name⟩) (keep (p .depth)) (p .at + 1) (now (s .entry))
         (mem (now (text .entry)) (now (store .entry)) (now (ends .entry))) (mem (now (text .exit)) (now (store .exit)) (now (ends .exit))) p r ⌝ }
