@@ -40,7 +40,9 @@ same-length-3 t c = search needs
 pub returns : (t : ℕ) → lts.Need-returns (arg-calls t) (arg-at t) arg.Post
 returns t c =
     let at-start = c .before .before .before .before .before .before .before .before .before .before .before .before .before .before .before .before in
-    λ σ h. by (arg-literal (at-start .args .s .now) (at-start .args .p .at) σ (h .rest) (ahead-is _ _ _ (h .rest) (c .before .before .before .before .before .before .before .before .before .before .before .here .ensures) (c .before .before .before .before .before .before .before .before .before .before .if1 .taken))) (c .before .before .before .before .before .before .lit .ensures σ h)
+    λ σ h. by (arg-literal (at-start .args .s .now) (at-start .args .p .at) σ (h .rest)
+    (ahead-is _ _ _ (h .rest) (c .before .before .before .before .before .before .before .before .before .before .before .here .ensures)
+    (c .before .before .before .before .before .before .before .before .before .before .if1 .taken))) (c .before .before .before .before .before .before .lit .ensures σ h)
 
 pub here-requires-2 : (t : ℕ) → lts.Need-here-requires-2 (arg-calls t) (arg-at t) arg.Post
 here-requires-2 t c κs = search needs
@@ -83,7 +85,9 @@ returns-3 t c =
     let at-start = c .before .before .before .before .before .before .before .before .before .before .before .before .before .before .before .before .before .before in
     λ σ h.
     let k = skips-to (c .before .before .before .before .before .before .before .before .before .expression .ensures) (c .before .before .before .before .before .before .before .end .given .1) in
-    by (arg-skipped (at-start .args .s .now) (at-start .args .p .at) σ (h .rest) (ahead-is _ _ _ (h .rest) (c .before .before .before .before .before .before .before .before .before .before .before .here2 .ensures) (c .before .before .before .before .before .before .before .before .before .before .if2 .taken)) (k .0))
+    by (arg-skipped (at-start .args .s .now) (at-start .args .p .at) σ (h .rest)
+    (ahead-is _ _ _ (h .rest) (c .before .before .before .before .before .before .before .before .before .before .before .here2 .ensures)
+    (c .before .before .before .before .before .before .before .before .before .before .if2 .taken)) (k .0))
     (less (omega (arith, h .deep)) (wrote-one (holds-moved h _ (k .1 .1)) (puts-from (c .before .before .before .before .moved .ensures) (c .before .before .put .ensures)) refl (omega arith) (k .1 .0)))
 
 pub here-requires-3 : (t : ℕ) → lts.Need-here-requires-3 (arg-calls t) (arg-at t) arg.Post
@@ -117,7 +121,13 @@ returns-4 t c =
     let at-start = before-here3 t at-here3 in
     λ σ h.
     by (arg-pack (at-start .args .s .now) (at-start .args .p .at) σ (h .rest) (ahead-is _ _ _ (h .rest) (at-here3 .here3 .ensures) (c .before .before .before .before .before .before .before .before .before .before .before .if3 .taken)))
-    (sooner (omega arith) (call-moved keep (c .before .before .before .before .before .before .before .moved2 .ensures) (c .before .before .before .before .before .before .pack .ensures) h (omega (arith, starts-inside (at-start .args .s .now) (at-start .args .p .at) 74 (sym (at-here3 .here3 .ensures) ∙ c .before .before .before .before .before .before .before .before .before .before .before .if3 .taken)))))
+    (sooner (omega arith)
+    (call-moved keep (c .before .before .before .before .before .before .before .moved2 .ensures) (c .before .before .before .before .before .before .pack .ensures) h
+    (omega (
+      arith,
+      starts-inside (at-start .args .s .now) (at-start .args .p .at) 74
+          (sym (at-here3 .here3 .ensures) ∙ c .before .before .before .before .before .before .before .before .before .before .before .if3 .taken),
+    ))))
 
 pub ty-requires : (t : ℕ) → lts.Need-ty-requires (arg-calls t) (arg-at t) arg.Post
 ty-requires t c κs =
@@ -138,5 +148,7 @@ pub returns-5 : (t : ℕ) → lts.Need-returns-5 (arg-calls t) (arg-at t) arg.Po
 returns-5 t c =
     let at-here3 = c .before .before .before .before .before .before .before .before .before .before .before in
     λ σ h.
-    by (arg-other σ (ahead-is _ _ _ (h .rest) (at-here3 .before .before .before .before .here .ensures) (at-here3 .before .before .before .if1 .left)) (ahead-is _ _ _ (h .rest) (at-here3 .before .before .here2 .ensures) (at-here3 .before .if2 .left)) (ahead-is _ _ _ (h .rest) (at-here3 .here3 .ensures) (c .before .before .before .before .before .before .before .before .before .before .if3 .left)))
+    by (arg-other σ (ahead-is _ _ _ (h .rest) (at-here3 .before .before .before .before .here .ensures) (at-here3 .before .before .before .if1 .left))
+    (ahead-is _ _ _ (h .rest) (at-here3 .before .before .here2 .ensures) (at-here3 .before .if2 .left))
+    (ahead-is _ _ _ (h .rest) (at-here3 .here3 .ensures) (c .before .before .before .before .before .before .before .before .before .before .if3 .left)))
     (less (omega arith) (c .before .before .before .before .before .before .ty .ensures σ h))

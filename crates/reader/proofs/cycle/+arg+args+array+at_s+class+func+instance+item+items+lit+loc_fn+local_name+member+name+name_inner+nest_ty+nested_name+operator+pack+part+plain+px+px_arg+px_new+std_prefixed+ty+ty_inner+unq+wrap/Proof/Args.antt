@@ -83,7 +83,9 @@ module _ (t : ℕ) where
   -- what the list gave
   items : (c : Listed) {σ : State} → Starts (entry (opened c)) σ
       → GotList (keep (opened c .put .result .depth)) (opened c .put .result .depth) (text (entry (opened c))) (take (opened c .put .result .top) (opened c .put .last .0)) (opened c .put .result .at)
-      (mem (c .before .before .before .before .before .before .before .before .items .last .1 .0) (c .before .before .before .before .before .before .before .before .items .last .1 .1 .0) (c .before .before .before .before .before .before .before .before .items .last .1 .1 .1 .0)) (c .list .given .0 .0) (c .list .given .0 .1 .0) (c .list .given .0 .1 .1 .0)
+      (mem (c .before .before .before .before .before .before .before .before .items .last .1 .0)
+      (c .before .before .before .before .before .before .before .before .items .last .1 .1 .0)
+      (c .before .before .before .before .before .before .before .before .items .last .1 .1 .1 .0)) (c .list .given .0 .0) (c .list .given .0 .1 .0) (c .list .given .0 .1 .1 .0)
       (looped Arguments [] (behind (entry (opened c)) σ))
   items c h = got-list (c .list .given .1) (c .before .before .before .before .before .before .before .before .items .ensures _ (holds-puts (opened c .put .ensures) (entered (opened c) h)))
 
@@ -91,7 +93,9 @@ module _ (t : ℕ) where
   bracket : (c : Left) {σ : State} (h : Starts (entry (opened (listed c))) σ)
       → Stands (keep (entry (opened (listed c)) .args .p .depth + 1)) (entry (opened (listed c)) .args .p .depth) (text (entry (opened (listed c))))
       (take (entry (opened (listed c)) .args .p .top) (entry (opened (listed c)) .args .text .now)) (entry (opened (listed c)) .args .p .at + 1)
-      (mem (listed c .before .before .before .before .before .before .before .before .items .last .1 .0) (listed c .before .before .before .before .before .before .before .before .items .last .1 .1 .0) (listed c .before .before .before .before .before .before .before .before .items .last .1 .1 .1 .0)) (c .leave .result)
+      (mem (listed c .before .before .before .before .before .before .before .before .items .last .1 .0)
+      (listed c .before .before .before .before .before .before .before .before .items .last .1 .1 .0)
+      (listed c .before .before .before .before .before .before .before .before .items .last .1 .1 .1 .0)) (c .leave .result)
       (min (length (60 ∷ join (b ", ") (items (listed c) h .texts))) 65536) (60 ∷ join (b ", ") (items (listed c) h .texts))
       (at-level (entry (opened (listed c)) .args .p .depth) (moved (drop (listed c .list .given .0 .0 .at + 1) (text (entry (opened (listed c))))) (items (listed c) h .state)))
   bracket c h =
@@ -109,7 +113,9 @@ pub returns : (t : ℕ) → lts.Need-returns (args-calls t) (args-at t) args.Pos
 returns t c = λ σ h. by (args-no (c .before .before .before .before .before .before .args .s .now) (c .before .before .before .before .before .before .args .p .at) σ (h .rest) (ahead-is _ _ _ (h .rest) (c .before .here .ensures) (not-true _ (c .if1 .taken)))) refuses
 
 pub returns-2 : (t : ℕ) → lts.Need-returns-2 (args-calls t) (args-at t) args.Post
-returns-2 t c = λ σ h. by (args-8 (c .before .before .before .before .before .before .before .args .s .now) (c .before .before .before .before .before .before .before .args .p .at) σ (h .rest) (ahead-is _ _ _ (h .rest) (c .before .before .here .ensures) (not-false _ (c .before .if1 .left))) (omega (arith, h .depth, c .if2 .taken))) refuses
+returns-2 t c = λ σ h. by
+    (args-8 (c .before .before .before .before .before .before .before .args .s .now) (c .before .before .before .before .before .before .before .args .p .at) σ (h .rest)
+    (ahead-is _ _ _ (h .rest) (c .before .before .here .ensures) (not-false _ (c .before .if1 .left))) (omega (arith, h .depth, c .if2 .taken))) refuses
 
 pub add-moved : (t : ℕ) → lts.Need-add-moved (args-calls t) (args-at t) args.Post
 add-moved t c = search needs
@@ -205,13 +211,21 @@ pub put-requires-2 : (t : ℕ) → lts.Need-put-requires-2 (args-calls t) (args-
 put-requires-2 t c κs = (bracket t (c .before .before .before .before) (entry t (opened t (listed t (c .before .before .before .before))) .pre .1 .1) .holds .text, omega arith)
 
 pub sum-requires : (t : ℕ) → lts.Need-sum-requires (args-calls t) (args-at t) args.Post
-sum-requires t c κs = (omega (arith, items t (c .before .before .before .before .before .before .before .before .before .before .before .before) (entry t (opened t (c .before .before .before .before .before .before .before .before .before .before .before .before)) .pre .1 .1) .stands .size), omega arith)
+sum-requires t c κs = (
+  omega (
+    arith,
+    items t (c .before .before .before .before .before .before .before .before .before .before .before .before)
+        (entry t (opened t (c .before .before .before .before .before .before .before .before .before .before .before .before)) .pre .1 .1) .stands .size,
+  ),
+  omega arith,
+)
 
 pub given-requires : (t : ℕ) → lts.Need-given-requires (args-calls t) (args-at t) args.Post
 given-requires t c κs = search needs
 
 pub same-length-7 : (t : ℕ) → lts.Need-same-length-7 (args-calls t) (args-at t) args.Post
-same-length-7 t c = omega (arith, c .before .before .before .before .put2 .kept, c .before .before .before .before .before .before .before .before .before .before .before .before .before .before .before .before .before .before .before .before .before .before .items .kept, c .before .before .before .before .before .before .before .before .before .before .before .before .before .before .before .before .before .before .before .before .before .before .before .before .before .before .before .before .put .kept)
+same-length-7 t c = omega
+    (arith, c .before .before .before .before .put2 .kept, c .before .before .before .before .before .before .before .before .before .before .before .before .before .before .before .before .before .before .before .before .before .before .items .kept, c .before .before .before .before .before .before .before .before .before .before .before .before .before .before .before .before .before .before .before .before .before .before .before .before .before .before .before .before .put .kept)
 
 pub same-length-8 : (t : ℕ) → lts.Need-same-length-8 (args-calls t) (args-at t) args.Post
 same-length-8 t c = omega (arith, c .before .before .before .before .before .before .before .before .before .before .before .before .before .before .before .before .before .before .before .before .before .before .items .kept)
@@ -238,13 +252,21 @@ pub put-requires-3 : (t : ℕ) → lts.Need-put-requires-3 (args-calls t) (args-
 put-requires-3 t c κs = (bracket t (c .before .before .before .before) (entry t (opened t (listed t (c .before .before .before .before))) .pre .1 .1) .holds .text, omega arith)
 
 pub sum-requires-2 : (t : ℕ) → lts.Need-sum-requires-2 (args-calls t) (args-at t) args.Post
-sum-requires-2 t c κs = (omega (arith, items t (c .before .before .before .before .before .before .before .before .before .before .before .before) (entry t (opened t (c .before .before .before .before .before .before .before .before .before .before .before .before)) .pre .1 .1) .stands .size), omega arith)
+sum-requires-2 t c κs = (
+  omega (
+    arith,
+    items t (c .before .before .before .before .before .before .before .before .before .before .before .before)
+        (entry t (opened t (c .before .before .before .before .before .before .before .before .before .before .before .before)) .pre .1 .1) .stands .size,
+  ),
+  omega arith,
+)
 
 pub given-requires-2 : (t : ℕ) → lts.Need-given-requires-2 (args-calls t) (args-at t) args.Post
 given-requires-2 t c κs = search needs
 
 pub same-length-10 : (t : ℕ) → lts.Need-same-length-10 (args-calls t) (args-at t) args.Post
-same-length-10 t c = omega (arith, c .before .before .before .before .put3 .kept, c .before .before .before .before .before .before .before .before .before .before .before .before .before .before .before .before .before .before .before .before .before .before .items .kept, c .before .before .before .before .before .before .before .before .before .before .before .before .before .before .before .before .before .before .before .before .before .before .before .before .before .before .before .before .put .kept)
+same-length-10 t c = omega
+    (arith, c .before .before .before .before .put3 .kept, c .before .before .before .before .before .before .before .before .before .before .before .before .before .before .before .before .before .before .before .before .before .before .items .kept, c .before .before .before .before .before .before .before .before .before .before .before .before .before .before .before .before .before .before .before .before .before .before .before .before .before .before .before .before .put .kept)
 
 pub same-length-11 : (t : ℕ) → lts.Need-same-length-11 (args-calls t) (args-at t) args.Post
 same-length-11 t c = omega (arith, c .before .before .before .before .before .before .before .before .before .before .before .before .before .before .before .before .before .before .before .before .before .before .items .kept)

@@ -168,4 +168,6 @@ returns-3 t c =
     let w = got (at-got .got .given .1) (call-moved (λ d. keep (d + 1)) (at-ty .before .moved .ensures) (at-ty .ty .ensures) h (omega (arith, at-else1 .if1 .left))) in
     let l = part-size h _ (at-else1 .before .before2 .ensures .1) in
     by (array-in _ _ σ (h .rest) (at-else1 .before .before2 .ensures .0) (at-else1 .if1 .left) ∙ on-got _ w)
-    (array-given _ (stands-at _ _ (w .wrote) (omega arith) (omega (arith, at-else1 .before .before2 .ensures .0)) (omega arith) (omega (arith, h .deep))) (w .wrote .short) (omega (arith, l, at-else1 .if1 .left, h .source)) (at-put .put .ensures) (at-put-part .put-part .ensures) (c .before .before .before .put2 .ensures) (omega (arith, l)) (c .given .ensures))
+    (array-given _ (stands-at _ _ (w .wrote) (omega arith) (omega (arith, at-else1 .before .before2 .ensures .0)) (omega arith) (omega (arith, h .deep))) (w .wrote .short)
+    (omega (arith, l, at-else1 .if1 .left, h .source)) (at-put .put .ensures) (at-put-part .put-part .ensures) (c .before .before .before .put2 .ensures) (omega (arith, l))
+    (c .given .ensures))

@@ -50,7 +50,9 @@ pub returns : (t : ℕ) → lts.Need-returns (at-s-calls t) (at-s-at t) at-s.Pos
 returns t c =
     let at-std-ahead = c .before .before .before .before .before .before .before .before .before .before .before in
     let at-start = before-std-ahead t at-std-ahead in
-    λ σ h. by (s-std (at-S-of (at-start .args .named)) (instance-of (at-start .args .named)) (at-S-is (at-start .args .named)) σ (ap std-ahead (h .rest) ∙ sym (at-std-ahead .std-ahead .ensures) ∙ c .before .before .before .before .before .before .before .before .before .before .if1 .taken)) (c .before .before .before .before .before .before .std-prefixed .ensures σ h)
+    λ σ h. by (s-std (at-S-of (at-start .args .named)) (instance-of (at-start .args .named)) (at-S-is (at-start .args .named)) σ
+    (ap std-ahead (h .rest) ∙ sym (at-std-ahead .std-ahead .ensures) ∙ c .before .before .before .before .before .before .before .before .before .before .if1 .taken))
+    (c .before .before .before .before .before .before .std-prefixed .ensures σ h)
 
 pub substitution-requires : (t : ℕ) → lts.Need-substitution-requires (at-s-calls t) (at-s-at t) at-s.Post
 substitution-requires t c κs = search needs
@@ -76,7 +78,9 @@ returns-2 t c =
     let at-else1 = before-substitution t at-substitution in
     let at-std-ahead = before-else1 t at-else1 in
     let at-start = before-std-ahead t at-std-ahead in
-    λ σ h. by (s-sub (at-S-of (at-start .args .named)) (instance-of (at-start .args .named)) (at-S-is (at-start .args .named)) σ (ap std-ahead (h .rest) ∙ sym (at-std-ahead .std-ahead .ensures) ∙ at-else1 .if1 .left)) (refused-on _ (c .enum-told .given .1) (c .before .before .before .before .substitution .ensures σ h))
+    λ σ h. by (s-sub (at-S-of (at-start .args .named)) (instance-of (at-start .args .named)) (at-S-is (at-start .args .named)) σ
+    (ap std-ahead (h .rest) ∙ sym (at-std-ahead .std-ahead .ensures) ∙ at-else1 .if1 .left))
+    (refused-on _ (c .enum-told .given .1) (c .before .before .before .before .substitution .ensures σ h))
 
 pub here-requires : (t : ℕ) → lts.Need-here-requires (at-s-calls t) (at-s-at t) at-s.Post
 here-requires t c κs = search needs
@@ -108,7 +112,10 @@ returns-3 t c =
     let at-std-ahead = before-else1 t at-else1 in
     let at-start = before-std-ahead t at-std-ahead in
     λ σ h. let g = got (c .before .before .before .before .before .before .before .before .before .before .before .before .before .got .given .1) (narrow h (at-substitution .substitution .ensures σ h)) in
-    by (s-sub-read (at-S-of (at-start .args .named)) (instance-of (at-start .args .named)) (at-S-is (at-start .args .named)) σ (ap std-ahead (h .rest) ∙ sym (at-std-ahead .std-ahead .ensures) ∙ at-else1 .if1 .left) (g .is) ∙ at-code-yes "I" _ _ _ (ap (λ u. starts u (b "I")) (g .wrote .holds .rest) ∙ sym (c .before .before .before .before .before .before .before .before .before .before .before .here .ensures) ∙ c .before .before .before .before .before .before .before .before .before .before .if2 .taken))
+    by (s-sub-read (at-S-of (at-start .args .named)) (instance-of (at-start .args .named)) (at-S-is (at-start .args .named)) σ
+    (ap std-ahead (h .rest) ∙ sym (at-std-ahead .std-ahead .ensures) ∙ at-else1 .if1 .left) (g .is) ∙ at-code-yes "I" _ _ _
+    (ap (λ u. starts u (b "I")) (g .wrote .holds .rest) ∙ sym
+    (c .before .before .before .before .before .before .before .before .before .before .before .here .ensures) ∙ c .before .before .before .before .before .before .before .before .before .before .if2 .taken))
     (instance-at (c .before .before .before .before .before .before .instance .ensures) (stood (g .wrote)) (omega (arith, g .wrote .short)) (omega (arith, g .wrote .more)))
 
 pub same-length-10 : (t : ℕ) → lts.Need-same-length-10 (at-s-calls t) (at-s-at t) at-s.Post
@@ -128,5 +135,7 @@ returns-4 t c =
     let at-std-ahead = before-else1 t at-else1 in
     let at-start = before-std-ahead t at-std-ahead in
     λ σ h. let g = got (c .before .before .before .got .given .1) (narrow h (at-substitution .substitution .ensures σ h)) in
-    by (s-sub-read (at-S-of (at-start .args .named)) (instance-of (at-start .args .named)) (at-S-is (at-start .args .named)) σ (ap std-ahead (h .rest) ∙ sym (at-std-ahead .std-ahead .ensures) ∙ at-else1 .if1 .left) (g .is) ∙ at-code-no "I" _ _ _ (ap (λ u. starts u (b "I")) (g .wrote .holds .rest) ∙ sym (c .before .here .ensures) ∙ c .if2 .left))
+    by (s-sub-read (at-S-of (at-start .args .named)) (instance-of (at-start .args .named)) (at-S-is (at-start .args .named)) σ
+    (ap std-ahead (h .rest) ∙ sym (at-std-ahead .std-ahead .ensures) ∙ at-else1 .if1 .left) (g .is) ∙ at-code-no "I" _ _ _
+    (ap (λ u. starts u (b "I")) (g .wrote .holds .rest) ∙ sym (c .before .here .ensures) ∙ c .if2 .left))
     (reads (g .wrote))

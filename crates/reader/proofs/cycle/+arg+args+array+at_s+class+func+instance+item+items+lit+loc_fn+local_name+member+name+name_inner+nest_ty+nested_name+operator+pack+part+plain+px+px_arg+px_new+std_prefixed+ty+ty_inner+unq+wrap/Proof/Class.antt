@@ -117,7 +117,9 @@ returns-3 t c =
     let at-source-name = before-got t at-got in
     λ σ h. let g = got (at-got .got .given .1) (narrow h (at-source-name .source-name .ensures _ _ σ h)) in
     let v = kept (stood (g .wrote)) (c .before .before .before .before .before .before .before .before .before .before .before .before .before .kept .given .1) (at-push-sub .push-sub .ensures _ _ _ _ _ _ _ (stood (g .wrote))) in
-    by (class-step σ (g .is) (v .is) ∙ at-code-yes "I" _ _ _ (ap (λ u. starts u (b "I")) (v .stands .holds .rest) ∙ sym (c .before .before .before .before .before .before .before .before .before .before .before .here .ensures) ∙ c .before .before .before .before .before .before .before .before .before .before .if1 .taken))
+    by (class-step σ (g .is) (v .is) ∙ at-code-yes "I" _ _ _
+    (ap (λ u. starts u (b "I")) (v .stands .holds .rest) ∙ sym
+    (c .before .before .before .before .before .before .before .before .before .before .before .here .ensures) ∙ c .before .before .before .before .before .before .before .before .before .before .if1 .taken))
     (instance-at (c .before .before .before .before .before .before .instance .ensures) (v .stands) (omega (arith, g .wrote .short)) (omega (arith, v .stands .more)))
 
 pub same-length-8 : (t : ℕ) → lts.Need-same-length-8 (class-calls t) (class-at t) class.Post

@@ -225,6 +225,12 @@ returns-4 t c =
     λ σ h.
     let g = got (at-got .got .given .1) (at-ty .ty .ensures _ h) in
     let w = got-list (at-func-end .before .before .before .before .before .before .before .before .list .given .1) (at-items .items .ensures _ (holds-puts (at-put .put .ensures) (g .wrote .holds))) in
-    let i = starts-inside (at-start .args .s .now) (at-func-end .before .before .before .before .before .before .before .before .list .given .0 .0 .at) 69 (sym (at-func-end .before .before .before .before .before .before .here .ensures) ∙ not-false _ (at-func-end .before .before .before .before .before .if1 .left)) in
-    by (function-of σ (g .is) ∙ then-ok _ (closed-yes (w .is) (ahead-is _ _ _ (w .stands .holds .rest) (at-func-end .before .before .before .before .before .before .here .ensures) (not-false _ (at-func-end .before .before .before .before .before .if1 .left)))) ∙ ap (recorded _) (behind-is (at-start .args .s .now) (at-func-end .before .before .before .before .before .before .before .before .list .given .0 .0 .at) (w .state) (w .stands .holds .rest)))
-    (func-ended (g .said) (w .texts) (at-func-end .func-end .ensures) (stands-moved _ (at-func-end .before .before .before .before .moved .ensures) (func-stands (g .wrote) (at-put .put .ensures) (h .deep) (w .stands)) (omega arith) (omega (arith, i))) (g .wrote .size) (w .stands .size) (w .count-is))
+    let i = starts-inside (at-start .args .s .now) (at-func-end .before .before .before .before .before .before .before .before .list .given .0 .0 .at) 69
+    (sym (at-func-end .before .before .before .before .before .before .here .ensures) ∙ not-false _ (at-func-end .before .before .before .before .before .if1 .left)) in
+    by (function-of σ (g .is) ∙ then-ok _
+    (closed-yes (w .is) (ahead-is _ _ _ (w .stands .holds .rest) (at-func-end .before .before .before .before .before .before .here .ensures)
+    (not-false _ (at-func-end .before .before .before .before .before .if1 .left)))) ∙ ap (recorded _)
+    (behind-is (at-start .args .s .now) (at-func-end .before .before .before .before .before .before .before .before .list .given .0 .0 .at) (w .state) (w .stands .holds .rest)))
+    (func-ended (g .said) (w .texts) (at-func-end .func-end .ensures)
+    (stands-moved _ (at-func-end .before .before .before .before .moved .ensures) (func-stands (g .wrote) (at-put .put .ensures) (h .deep) (w .stands)) (omega arith)
+    (omega (arith, i))) (g .wrote .size) (w .stands .size) (w .count-is))

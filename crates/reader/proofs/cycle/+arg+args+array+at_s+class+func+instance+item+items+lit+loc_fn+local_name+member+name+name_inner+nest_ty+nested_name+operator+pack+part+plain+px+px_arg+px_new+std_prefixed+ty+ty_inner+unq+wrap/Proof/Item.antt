@@ -82,7 +82,9 @@ types-alone Arguments h = absurd (⊎-elim (λ e. omega arith) (λ e. omega arit
 pub returns-2 : (t : ℕ) → lts.Need-returns-2 (item-calls t) (item-at t) item.Post
 returns-2 t c =
     let at-start = c .before .before .before .before .before .before .before .before .before .before .before .before .before .before .before in
-    λ σ h. ⊎-elim (λ e. by-kind σ e (c .before .before .before .before .before .before .ty .ensures σ h)) (λ e. by-kind σ e (c .before .before .before .before .before .before .ty .ensures σ h)) (types-alone (at-start .args .kind) (c .before .before .before .before .before .before .before .before .before .before .match .keys1))
+    λ σ h. ⊎-elim (λ e. by-kind σ e (c .before .before .before .before .before .before .ty .ensures σ h))
+    (λ e. by-kind σ e (c .before .before .before .before .before .before .ty .ensures σ h))
+    (types-alone (at-start .args .kind) (c .before .before .before .before .before .before .before .before .before .before .match .keys1))
 
 pub same-length-7 : (t : ℕ) → lts.Need-same-length-7 (item-calls t) (item-at t) item.Post
 same-length-7 t c = search needs

@@ -86,11 +86,16 @@ sum-requires t c κs =
     (at-peek .before .loop .inv .small, omega arith)
 
 -- where the arms meet: a comma was put, if there was a text before
-spaced : (t : ℕ) (c : lts.Joined2 (items-calls t) (items-at t) items.Post Inv-loop μ-loop) → Spaced (c .before .before .before .before .before .before .before .loop .text) (c .if2 .text) (c .before .before .before .before .before .before .before .loop .next) (c .if2 .next) (c .before .before .before .before .before .before .before .loop .n) (c .if2 .n) (c .before .before .before .before .before .before .before .loop .count)
+spaced : (t : ℕ) (c : lts.Joined2 (items-calls t) (items-at t) items.Post Inv-loop μ-loop) → Spaced (c .before .before .before .before .before .before .before .loop .text)
+    (c .if2 .text) (c .before .before .before .before .before .before .before .loop .next) (c .if2 .next) (c .before .before .before .before .before .before .before .loop .n)
+    (c .if2 .n) (c .before .before .before .before .before .before .before .loop .count)
 spaced t c =
     ⊎-elim
     (λ w. spaced-some (omega (arith, w .0 .taken)) (w .3 .ensures) (w .6 .ensures) (w .7) (w .8) (w .9))
-    (λ w. spaced-none (omega (arith, w .0 .left)) (c .before .before .before .before .before .before .before .loop .inv .so-far _ (c .before .before .before .before .before .before .before .before .before .before .before .before .pre .1 .1) .stands .holds .text) (c .before .before .before .before .before .before .before .loop .inv .small) (w .1) (w .2) (w .3))
+    (λ w. spaced-none (omega (arith, w .0 .left))
+    (c .before .before .before .before .before .before .before .loop .inv .so-far _
+    (c .before .before .before .before .before .before .before .before .before .before .before .before .pre .1 .1) .stands .holds .text)
+    (c .before .before .before .before .before .before .before .loop .inv .small) (w .1) (w .2) (w .3))
     (c .if2 .came)
 
 pub item-requires : (t : ℕ) → lts.Need-item-requires (items-calls t) (items-at t) items.Post Inv-loop μ-loop

@@ -55,8 +55,14 @@ pub name-requires : (t : ℕ) → lts.Need-name-requires (lit-calls t) (lit-at t
 name-requires t c κs =
     let at-then2 = c .before .before .before .before in
     let at-here2 = before-then2 t at-then2 in
-    let at-start = before-here2 t at-here2 in
-    (omega (arith, at-start .pre .0, ap (λ (z : Parser). z .at) (c .moved .ensures)), (_, lit-name-ready (at-start .pre .1 .1) (sym (at-here2 .before .before .here .ensures) ∙ not-false _ (at-here2 .before .if1 .left)) (sym (at-here2 .here2 .ensures) ∙ c .before .before .before .before .if2 .taken) (c .moved .ensures)))
+    let at-start = before-here2 t at-here2 in (
+      omega (arith, at-start .pre .0, ap (λ (z : Parser). z .at) (c .moved .ensures)),
+      (
+        _,
+        lit-name-ready (at-start .pre .1 .1) (sym (at-here2 .before .before .here .ensures) ∙ not-false _ (at-here2 .before .if1 .left))
+            (sym (at-here2 .here2 .ensures) ∙ c .before .before .before .before .if2 .taken) (c .moved .ensures),
+      ),
+    )
 
 pub enum-known-got : (t : ℕ) → lts.Need-enum-known-got (lit-calls t) (lit-at t) lit.Post
 enum-known-got t c = search needs
@@ -108,7 +114,9 @@ returns-3 t c =
     let at-name = c .before .before .before .before .before .before .before .before .before .before .before .before in
     let at-then2 = before-name t at-name in
     let at-here2 = before-then2 t at-then2 in
-    λ σ h. lit-name-E h (sym (at-here2 .before .before .here .ensures) ∙ not-false _ (at-here2 .before .if1 .left)) (sym (at-here2 .here2 .ensures) ∙ at-then2 .if2 .taken) (at-name .before .moved .ensures) (at-name .name .ensures) (c .before .before .before .before .got .given .1) (sym (c .before .before .here3 .ensures) ∙ c .before .if3 .taken) (c .moved2 .ensures)
+    λ σ h. lit-name-E h (sym (at-here2 .before .before .here .ensures) ∙ not-false _ (at-here2 .before .if1 .left)) (sym (at-here2 .here2 .ensures) ∙ at-then2 .if2 .taken)
+    (at-name .before .moved .ensures) (at-name .name .ensures) (c .before .before .before .before .got .given .1) (sym (c .before .before .here3 .ensures) ∙ c .before .if3 .taken)
+    (c .moved2 .ensures)
 
 pub same-length-7 : (t : ℕ) → lts.Need-same-length-7 (lit-calls t) (lit-at t) lit.Post
 same-length-7 t c = search needs
@@ -124,7 +132,8 @@ returns-4 t c =
     let at-name = c .before .before .before .before .before .before .before .before .before .before .before in
     let at-then2 = before-name t at-name in
     let at-here2 = before-then2 t at-then2 in
-    λ σ h. lit-name-open h (sym (at-here2 .before .before .here .ensures) ∙ not-false _ (at-here2 .before .if1 .left)) (sym (at-here2 .here2 .ensures) ∙ at-then2 .if2 .taken) (at-name .before .moved .ensures) (at-name .name .ensures) (c .before .before .before .got .given .1) (sym (c .before .here3 .ensures) ∙ c .if3 .left)
+    λ σ h. lit-name-open h (sym (at-here2 .before .before .here .ensures) ∙ not-false _ (at-here2 .before .if1 .left)) (sym (at-here2 .here2 .ensures) ∙ at-then2 .if2 .taken)
+    (at-name .before .moved .ensures) (at-name .name .ensures) (c .before .before .before .got .given .1) (sym (c .before .here3 .ensures) ∙ c .if3 .left)
 
 pub moved-requires-3 : (t : ℕ) → lts.Need-moved-requires-3 (lit-calls t) (lit-at t) lit.Post
 moved-requires-3 t c κs = search needs
@@ -133,8 +142,14 @@ pub ty-requires : (t : ℕ) → lts.Need-ty-requires (lit-calls t) (lit-at t) li
 ty-requires t c κs =
     let at-else2 = c .before .before .before .before in
     let at-here2 = before-else2 t at-else2 in
-    let at-start = before-here2 t at-here2 in
-    (omega (arith, at-start .pre .0, ap (λ (z : Parser). z .at) (c .moved3 .ensures)), (_, lit-type-ready (at-start .pre .1 .1) (sym (at-here2 .before .before .here .ensures) ∙ not-false _ (at-here2 .before .if1 .left)) (sym (at-here2 .here2 .ensures) ∙ c .before .before .before .before .if2 .left) (c .moved3 .ensures)))
+    let at-start = before-here2 t at-here2 in (
+      omega (arith, at-start .pre .0, ap (λ (z : Parser). z .at) (c .moved3 .ensures)),
+      (
+        _,
+        lit-type-ready (at-start .pre .1 .1) (sym (at-here2 .before .before .here .ensures) ∙ not-false _ (at-here2 .before .if1 .left))
+            (sym (at-here2 .here2 .ensures) ∙ c .before .before .before .before .if2 .left) (c .moved3 .ensures),
+      ),
+    )
 
 pub enum-known-got-2 : (t : ℕ) → lts.Need-enum-known-got-2 (lit-calls t) (lit-at t) lit.Post
 enum-known-got-2 t c = search needs
@@ -180,7 +195,8 @@ returns-6 t c =
     let at-ty = c .before .before .before .before .before .before .before .before .before .before .before in
     let at-else2 = before-ty t at-ty in
     let at-here2 = before-else2 t at-else2 in
-    λ σ h. lit-open h (sym (at-here2 .before .before .here .ensures) ∙ not-false _ (at-here2 .before .if1 .left)) (sym (at-here2 .here2 .ensures) ∙ at-else2 .if2 .left) (at-ty .before .moved3 .ensures) (at-ty .ty .ensures) (c .before .before .before .got2 .given .1) (c .before .before2 .ensures) (c .if4 .taken)
+    λ σ h. lit-open h (sym (at-here2 .before .before .here .ensures) ∙ not-false _ (at-here2 .before .if1 .left)) (sym (at-here2 .here2 .ensures) ∙ at-else2 .if2 .left)
+    (at-ty .before .moved3 .ensures) (at-ty .ty .ensures) (c .before .before .before .got2 .given .1) (c .before .before2 .ensures) (c .if4 .taken)
 
 pub add-moved-3 : (t : ℕ) → lts.Need-add-moved-3 (lit-calls t) (lit-at t) lit.Post
 add-moved-3 t c =
@@ -199,7 +215,9 @@ literal-requires t c κs =
     let at-else2 = before-ty t at-ty in
     let at-here2 = before-else2 t at-else2 in
     let at-start = before-here2 t at-here2 in
-    lit-ready (at-start .pre .1 .1) (sym (at-here2 .before .before .here .ensures) ∙ not-false _ (at-here2 .before .if1 .left)) (sym (at-here2 .here2 .ensures) ∙ at-else2 .if2 .left) (at-ty .before .moved3 .ensures) (at-ty .ty .ensures) (c .before .before .before .before .before .got2 .given .1) (c .before .before .before .before2 .ensures) (c .before .before .if4 .left) (c .moved4 .ensures)
+    lit-ready (at-start .pre .1 .1) (sym (at-here2 .before .before .here .ensures) ∙ not-false _ (at-here2 .before .if1 .left))
+    (sym (at-here2 .here2 .ensures) ∙ at-else2 .if2 .left) (at-ty .before .moved3 .ensures) (at-ty .ty .ensures) (c .before .before .before .before .before .got2 .given .1)
+    (c .before .before .before .before2 .ensures) (c .before .before .if4 .left) (c .moved4 .ensures)
 
 pub same-length-16 : (t : ℕ) → lts.Need-same-length-16 (lit-calls t) (lit-at t) lit.Post
 same-length-16 t c = search needs
@@ -215,4 +233,7 @@ returns-7 t c =
     let at-ty = c .before .before .before .before .before .before .before .before .before .before .before .before .before .before .before .before in
     let at-else2 = before-ty t at-ty in
     let at-here2 = before-else2 t at-else2 in
-    λ σ h. lit-given h (sym (at-here2 .before .before .here .ensures) ∙ not-false _ (at-here2 .before .if1 .left)) (sym (at-here2 .here2 .ensures) ∙ at-else2 .if2 .left) (at-ty .before .moved3 .ensures) (at-ty .ty .ensures) (c .before .before .before .before .before .before .before .before .got2 .given .1) (c .before .before .before .before .before .before .before2 .ensures) (c .before .before .before .before .before .if4 .left) (c .before .before .before .moved4 .ensures) (c .before .before .literal .ensures)
+    λ σ h. lit-given h (sym (at-here2 .before .before .here .ensures) ∙ not-false _ (at-here2 .before .if1 .left)) (sym (at-here2 .here2 .ensures) ∙ at-else2 .if2 .left)
+    (at-ty .before .moved3 .ensures) (at-ty .ty .ensures) (c .before .before .before .before .before .before .before .before .got2 .given .1)
+    (c .before .before .before .before .before .before .before2 .ensures) (c .before .before .before .before .before .if4 .left) (c .before .before .before .moved4 .ensures)
+    (c .before .before .literal .ensures)

@@ -96,8 +96,14 @@ items-requires t c κs =
     let at-put = c .before .before .before .before .before in
     let at-name = before-put t at-put in
     let at-start = before-name t at-name in
-    let w = fn-got (at-start .pre .1 .1) (at-name .name .ensures) (at-put .before .before .before .before .before .before .got .given .1) .wrote in
-    (omega (arith, at-start .pre .0, ap (λ (z : Parser). z .at) (at-put .put .ensures .same), w .more, w .holds .place), (_, fn-items-ready (at-start .pre .1 .1) (at-name .name .ensures) (at-put .before .before .before .before .before .before .got .given .1) (sym (at-put .before .before .before .before .here .ensures) ∙ at-put .before .before .before .if1 .left) (at-put .put .ensures)))
+    let w = fn-got (at-start .pre .1 .1) (at-name .name .ensures) (at-put .before .before .before .before .before .before .got .given .1) .wrote in (
+      omega (arith, at-start .pre .0, ap (λ (z : Parser). z .at) (at-put .put .ensures .same), w .more, w .holds .place),
+      (
+        _,
+        fn-items-ready (at-start .pre .1 .1) (at-name .name .ensures) (at-put .before .before .before .before .before .before .got .given .1)
+            (sym (at-put .before .before .before .before .here .ensures) ∙ at-put .before .before .before .if1 .left) (at-put .put .ensures),
+      ),
+    )
 
 pub enum-known-list : (t : ℕ) → lts.Need-enum-known-list (loc-fn-calls t) (loc-fn-at t) loc-fn.Post
 enum-known-list t c = search needs
@@ -135,7 +141,9 @@ returns-3 t c =
     let at-items = c .before .before .before .before .before .before .before .before .before in
     let at-put = before-items t at-items in
     let at-name = before-put t at-put in
-    λ σ h. fn-items-refused h (at-name .name .ensures) (at-put .before .before .before .before .before .before .got .given .1) (sym (at-put .before .before .before .before .here .ensures) ∙ at-put .before .before .before .if1 .left) (at-put .put .ensures) (at-items .items .ensures) (c .before .enum-told2 .given .1) (c .refused .ensures)
+    λ σ h. fn-items-refused h (at-name .name .ensures) (at-put .before .before .before .before .before .before .got .given .1)
+    (sym (at-put .before .before .before .before .here .ensures) ∙ at-put .before .before .before .if1 .left) (at-put .put .ensures) (at-items .items .ensures)
+    (c .before .enum-told2 .given .1) (c .refused .ensures)
 
 pub same-length-10 : (t : ℕ) → lts.Need-same-length-10 (loc-fn-calls t) (loc-fn-at t) loc-fn.Post
 same-length-10 t c =
@@ -164,7 +172,9 @@ returns-4 t c =
     let at-items = c .before .before .before .before .before .before .before .before .before .before in
     let at-put = before-items t at-items in
     let at-name = before-put t at-put in
-    λ σ h. fn-long h (at-name .name .ensures) (at-put .before .before .before .before .before .before .got .given .1) (sym (at-put .before .before .before .before .here .ensures) ∙ at-put .before .before .before .if1 .left) (at-put .put .ensures) (at-items .items .ensures) (c .before .before .list .given .1) (c .if2 .taken)
+    λ σ h. fn-long h (at-name .name .ensures) (at-put .before .before .before .before .before .before .got .given .1)
+    (sym (at-put .before .before .before .before .here .ensures) ∙ at-put .before .before .before .if1 .left) (at-put .put .ensures) (at-items .items .ensures)
+    (c .before .before .list .given .1) (c .if2 .taken)
 
 pub here-requires-2 : (t : ℕ) → lts.Need-here-requires-2 (loc-fn-calls t) (loc-fn-at t) loc-fn.Post
 here-requires-2 t c κs = search needs
@@ -200,7 +210,9 @@ returns-5 t c =
     let at-items = before-else2 t at-else2 in
     let at-put = before-items t at-items in
     let at-name = before-put t at-put in
-    λ σ h. fn-open h (at-name .name .ensures) (at-put .before .before .before .before .before .before .got .given .1) (sym (at-put .before .before .before .before .here .ensures) ∙ at-put .before .before .before .if1 .left) (at-put .put .ensures) (at-items .items .ensures) (c .before .before .before .before .list .given .1) (c .before .before .if2 .left) (sym (c .before .here2 .ensures) ∙ not-true _ (c .if3 .taken))
+    λ σ h. fn-open h (at-name .name .ensures) (at-put .before .before .before .before .before .before .got .given .1)
+    (sym (at-put .before .before .before .before .here .ensures) ∙ at-put .before .before .before .if1 .left) (at-put .put .ensures) (at-items .items .ensures)
+    (c .before .before .before .before .list .given .1) (c .before .before .if2 .left) (sym (c .before .here2 .ensures) ∙ not-true _ (c .if3 .taken))
 
 pub add-moved-2 : (t : ℕ) → lts.Need-add-moved-2 (loc-fn-calls t) (loc-fn-at t) loc-fn.Post
 add-moved-2 t c =
@@ -224,8 +236,13 @@ put-requires-2 t c κs =
     let at-items = before-else2 t at-else2 in
     let at-put = before-items t at-items in
     let at-name = before-put t at-put in
-    let at-start = before-name t at-name in
-    (stack-by (c .before .moved2 .ensures) (fn-listing (at-start .pre .1 .1) (at-name .name .ensures) (at-put .before .before .before .before .before .before .got .given .1) (sym (at-put .before .before .before .before .here .ensures) ∙ at-put .before .before .before .if1 .left) (at-put .put .ensures) (at-items .items .ensures) (at-else2 .before .before .list .given .1) .stands .holds .text), omega arith)
+    let at-start = before-name t at-name in (
+      stack-by (c .before .moved2 .ensures)
+          (fn-listing (at-start .pre .1 .1) (at-name .name .ensures) (at-put .before .before .before .before .before .before .got .given .1)
+          (sym (at-put .before .before .before .before .here .ensures) ∙ at-put .before .before .before .if1 .left) (at-put .put .ensures) (at-items .items .ensures)
+          (at-else2 .before .before .list .given .1) .stands .holds .text),
+      omega arith,
+    )
 
 pub add-given : (t : ℕ) → lts.Need-add-given (loc-fn-calls t) (loc-fn-at t) loc-fn.Post
 unfolding b
@@ -283,4 +300,8 @@ returns-6 t c =
     let at-items = before-else2 t at-else2 in
     let at-put = before-items t at-items in
     let at-name = before-put t at-put in
-    λ σ h. fn-given h (at-name .name .ensures) (at-put .before .before .before .before .before .before .got .given .1) (sym (at-put .before .before .before .before .here .ensures) ∙ at-put .before .before .before .if1 .left) (at-put .put .ensures) (at-items .items .ensures) (at-else2 .before .before .list .given .1) (at-else2 .if2 .left) (sym (c .before .before .before .before .before .before .before .before .here2 .ensures) ∙ not-false _ (c .before .before .before .before .before .before .before .if3 .left)) (c .before .before .before .before .before .moved2 .ensures) (c .before .before .before .put2 .ensures) (c .given .ensures)
+    λ σ h. fn-given h (at-name .name .ensures) (at-put .before .before .before .before .before .before .got .given .1)
+    (sym (at-put .before .before .before .before .here .ensures) ∙ at-put .before .before .before .if1 .left) (at-put .put .ensures) (at-items .items .ensures)
+    (at-else2 .before .before .list .given .1) (at-else2 .if2 .left)
+    (sym (c .before .before .before .before .before .before .before .before .here2 .ensures) ∙ not-false _ (c .before .before .before .before .before .before .before .if3 .left))
+    (c .before .before .before .before .before .moved2 .ensures) (c .before .before .before .put2 .ensures) (c .given .ensures)

@@ -50,8 +50,16 @@ moved-requires t c κs = search needs
 pub loc-fn-requires : (t : ℕ) → lts.Need-loc-fn-requires (local-name-calls t) (local-name-at t) local-name.Post
 loc-fn-requires t c κs =
     let at-else1 = c .before .before .before .before in
-    let at-start = before-else1 t at-else1 in
-    (omega (arith, at-start .pre .0, ap (λ (z : Parser). z .at) (c .moved .ensures), starts-inside (at-start .args .s .now) (at-start .args .p .at) 90 (sym (at-else1 .before .here .ensures) ∙ not-false _ (c .before .before .before .before .if1 .left))), (_, local-ready (at-start .pre .1 .1) (sym (at-else1 .before .here .ensures) ∙ not-false _ (c .before .before .before .before .if1 .left)) (c .moved .ensures)))
+    let at-start = before-else1 t at-else1 in (
+      omega (
+        arith,
+        at-start .pre .0,
+        ap (λ (z : Parser). z .at) (c .moved .ensures),
+        starts-inside (at-start .args .s .now) (at-start .args .p .at) 90
+            (sym (at-else1 .before .here .ensures) ∙ not-false _ (c .before .before .before .before .if1 .left)),
+      ),
+      (_, local-ready (at-start .pre .1 .1) (sym (at-else1 .before .here .ensures) ∙ not-false _ (c .before .before .before .before .if1 .left)) (c .moved .ensures)),
+    )
 
 pub enum-known-got : (t : ℕ) → lts.Need-enum-known-got (local-name-calls t) (local-name-at t) local-name.Post
 enum-known-got t c = search needs
@@ -133,7 +141,9 @@ returns-3 t c =
     let at-here2 = c .before .before .before .before .before .before .before .before in
     let at-loc-fn = before-here2 t at-here2 in
     let at-else1 = before-loc-fn t at-loc-fn in
-    λ σ h. local-string h (sym (at-else1 .before .here .ensures) ∙ not-false _ (at-else1 .if1 .left)) (at-loc-fn .before .moved .ensures) (at-loc-fn .loc-fn .ensures) (at-here2 .before .before .got .given .1) (sym (at-here2 .here2 .ensures) ∙ c .before .before .before .before .before .before .before .if2 .taken) (c .before .before .before .before .before .moved2 .ensures) (c .before .before .before .put .ensures) (c .given .ensures)
+    λ σ h. local-string h (sym (at-else1 .before .here .ensures) ∙ not-false _ (at-else1 .if1 .left)) (at-loc-fn .before .moved .ensures) (at-loc-fn .loc-fn .ensures)
+    (at-here2 .before .before .got .given .1) (sym (at-here2 .here2 .ensures) ∙ c .before .before .before .before .before .before .before .if2 .taken)
+    (c .before .before .before .before .before .moved2 .ensures) (c .before .before .before .put .ensures) (c .given .ensures)
 
 pub slice-aggregate-put-2 : (t : ℕ) → lts.Need-slice-aggregate-put-2 (local-name-calls t) (local-name-at t) local-name.Post
 slice-aggregate-put-2 t c = search needs
@@ -155,8 +165,14 @@ name-requires t c κs =
     let at-loc-fn = before-here2 t at-here2 in
     let at-else1 = before-loc-fn t at-loc-fn in
     let at-start = before-else1 t at-else1 in
-    let y = local-got (at-start .pre .1 .1) (sym (at-else1 .before .here .ensures) ∙ not-false _ (at-else1 .if1 .left)) (at-loc-fn .before .moved .ensures) (at-loc-fn .loc-fn .ensures) (at-here2 .before .before .got .given .1) .wrote in
-    (omega (arith, at-start .pre .0, ap (λ (z : Parser). z .at) (at-put2 .put2 .ensures .same), y .more, y .holds .place), (_, local-name-ready (at-start .pre .1 .1) (sym (at-else1 .before .here .ensures) ∙ not-false _ (at-else1 .if1 .left)) (at-loc-fn .before .moved .ensures) (at-loc-fn .loc-fn .ensures) (at-here2 .before .before .got .given .1) (sym (at-here2 .here2 .ensures) ∙ at-put2 .before .before .before .if2 .left) (at-put2 .put2 .ensures)))
+    let y = local-got (at-start .pre .1 .1) (sym (at-else1 .before .here .ensures) ∙ not-false _ (at-else1 .if1 .left)) (at-loc-fn .before .moved .ensures) (at-loc-fn .loc-fn .ensures) (at-here2 .before .before .got .given .1) .wrote in (
+      omega (arith, at-start .pre .0, ap (λ (z : Parser). z .at) (at-put2 .put2 .ensures .same), y .more, y .holds .place),
+      (
+        _,
+        local-name-ready (at-start .pre .1 .1) (sym (at-else1 .before .here .ensures) ∙ not-false _ (at-else1 .if1 .left)) (at-loc-fn .before .moved .ensures)
+            (at-loc-fn .loc-fn .ensures) (at-here2 .before .before .got .given .1) (sym (at-here2 .here2 .ensures) ∙ at-put2 .before .before .before .if2 .left) (at-put2 .put2 .ensures),
+      ),
+    )
 
 pub enum-known-inner : (t : ℕ) → lts.Need-enum-known-inner (local-name-calls t) (local-name-at t) local-name.Post
 enum-known-inner t c = search needs
@@ -196,7 +212,9 @@ returns-4 t c =
     let at-here2 = before-put2 t at-put2 in
     let at-loc-fn = before-here2 t at-here2 in
     let at-else1 = before-loc-fn t at-loc-fn in
-    λ σ h. local-name-refused h (sym (at-else1 .before .here .ensures) ∙ not-false _ (at-else1 .if1 .left)) (at-loc-fn .before .moved .ensures) (at-loc-fn .loc-fn .ensures) (at-here2 .before .before .got .given .1) (sym (at-here2 .here2 .ensures) ∙ at-put2 .before .before .before .if2 .left) (at-put2 .put2 .ensures) (at-name .name .ensures) (c .enum-told2 .given .1)
+    λ σ h. local-name-refused h (sym (at-else1 .before .here .ensures) ∙ not-false _ (at-else1 .if1 .left)) (at-loc-fn .before .moved .ensures) (at-loc-fn .loc-fn .ensures)
+    (at-here2 .before .before .got .given .1) (sym (at-here2 .here2 .ensures) ∙ at-put2 .before .before .before .if2 .left) (at-put2 .put2 .ensures) (at-name .name .ensures)
+    (c .enum-told2 .given .1)
 
 pub add-given-2 : (t : ℕ) → lts.Need-add-given-2 (local-name-calls t) (local-name-at t) local-name.Post
 unfolding b
@@ -208,7 +226,9 @@ add-given-2 t c =
     let at-else1 = before-loc-fn t at-loc-fn in
     let at-start = before-else1 t at-else1 in
     let y = local-got (at-start .pre .1 .1) (sym (at-else1 .before .here .ensures) ∙ not-false _ (at-else1 .if1 .left)) (at-loc-fn .before .moved .ensures) (at-loc-fn .loc-fn .ensures) (at-here2 .before .before .got .given .1) .wrote in
-    let z = local-name-got (at-start .pre .1 .1) (sym (at-else1 .before .here .ensures) ∙ not-false _ (at-else1 .if1 .left)) (at-loc-fn .before .moved .ensures) (at-loc-fn .loc-fn .ensures) (at-here2 .before .before .got .given .1) (sym (at-here2 .here2 .ensures) ∙ at-put2 .before .before .before .if2 .left) (at-put2 .put2 .ensures) (at-name .name .ensures) (c .before .inner .given .1) .wrote in
+    let z = local-name-got (at-start .pre .1 .1) (sym (at-else1 .before .here .ensures) ∙ not-false _ (at-else1 .if1 .left)) (at-loc-fn .before .moved .ensures)
+    (at-loc-fn .loc-fn .ensures) (at-here2 .before .before .got .given .1) (sym (at-here2 .here2 .ensures) ∙ at-put2 .before .before .before .if2 .left) (at-put2 .put2 .ensures)
+    (at-name .name .ensures) (c .before .inner .given .1) .wrote in
     omega (arith, y .size, y .short, z .size, z .short)
 
 pub add-given-3 : (t : ℕ) → lts.Need-add-given-3 (local-name-calls t) (local-name-at t) local-name.Post
@@ -221,7 +241,9 @@ add-given-3 t c =
     let at-else1 = before-loc-fn t at-loc-fn in
     let at-start = before-else1 t at-else1 in
     let y = local-got (at-start .pre .1 .1) (sym (at-else1 .before .here .ensures) ∙ not-false _ (at-else1 .if1 .left)) (at-loc-fn .before .moved .ensures) (at-loc-fn .loc-fn .ensures) (at-here2 .before .before .got .given .1) .wrote in
-    let z = local-name-got (at-start .pre .1 .1) (sym (at-else1 .before .here .ensures) ∙ not-false _ (at-else1 .if1 .left)) (at-loc-fn .before .moved .ensures) (at-loc-fn .loc-fn .ensures) (at-here2 .before .before .got .given .1) (sym (at-here2 .here2 .ensures) ∙ at-put2 .before .before .before .if2 .left) (at-put2 .put2 .ensures) (at-name .name .ensures) (c .before .inner .given .1) .wrote in
+    let z = local-name-got (at-start .pre .1 .1) (sym (at-else1 .before .here .ensures) ∙ not-false _ (at-else1 .if1 .left)) (at-loc-fn .before .moved .ensures)
+    (at-loc-fn .loc-fn .ensures) (at-here2 .before .before .got .given .1) (sym (at-here2 .here2 .ensures) ∙ at-put2 .before .before .before .if2 .left) (at-put2 .put2 .ensures)
+    (at-name .name .ensures) (c .before .inner .given .1) .wrote in
     omega (arith, y .size, y .short, z .size, z .short)
 
 pub given-requires-2 : (t : ℕ) → lts.Need-given-requires-2 (local-name-calls t) (local-name-at t) local-name.Post
@@ -259,4 +281,6 @@ returns-5 t c =
     let at-here2 = before-put2 t at-put2 in
     let at-loc-fn = before-here2 t at-here2 in
     let at-else1 = before-loc-fn t at-loc-fn in
-    λ σ h. local-given h (sym (at-else1 .before .here .ensures) ∙ not-false _ (at-else1 .if1 .left)) (at-loc-fn .before .moved .ensures) (at-loc-fn .loc-fn .ensures) (at-here2 .before .before .got .given .1) (sym (at-here2 .here2 .ensures) ∙ at-put2 .before .before .before .if2 .left) (at-put2 .put2 .ensures) (at-name .name .ensures) (c .before .before .inner .given .1) (c .given2 .ensures)
+    λ σ h. local-given h (sym (at-else1 .before .here .ensures) ∙ not-false _ (at-else1 .if1 .left)) (at-loc-fn .before .moved .ensures) (at-loc-fn .loc-fn .ensures)
+    (at-here2 .before .before .got .given .1) (sym (at-here2 .here2 .ensures) ∙ at-put2 .before .before .before .if2 .left) (at-put2 .put2 .ensures) (at-name .name .ensures)
+    (c .before .before .inner .given .1) (c .given2 .ensures)

@@ -35,7 +35,10 @@ pub same-length-3 : (t : ℕ) → lts.Need-same-length-3 (name-calls t) (name-at
 same-length-3 t c = search needs
 
 pub returns-2 : (t : ℕ) → lts.Need-returns-2 (name-calls t) (name-at t) name.Post
-returns-2 t c = still-refused ⟨name⟩ (name-inner reading) name-opens (c .before .before .before .before .before .before .before .before .before .before .before .before .before .if1 .left) (c .before .before .before .before .before .before .before .before .before .enter .ensures) (c .before .before .before .before .before .before .before .before .name-inner .ensures) (c .enum-told .given .1)
+returns-2 t c = still-refused ⟨name⟩ (name-inner reading) name-opens
+    (c .before .before .before .before .before .before .before .before .before .before .before .before .before .if1 .left)
+    (c .before .before .before .before .before .before .before .before .before .enter .ensures)
+    (c .before .before .before .before .before .before .before .before .name-inner .ensures) (c .enum-told .given .1)
 
 pub leave-requires : (t : ℕ) → lts.Need-leave-requires (name-calls t) (name-at t) name.Post
 leave-requires t c κs = search needs
@@ -50,4 +53,7 @@ pub same-length-6 : (t : ℕ) → lts.Need-same-length-6 (name-calls t) (name-at
 same-length-6 t c = search needs
 
 pub returns-3 : (t : ℕ) → lts.Need-returns-3 (name-calls t) (name-at t) name.Post
-returns-3 t c = left-again ⟨name⟩ (name-inner reading) name-opens (c .before .before .before .before .before .before .before .before .before .before .before .before .before .before .before .if1 .left) (c .before .before .before .before .before .before .before .before .before .before .before .enter .ensures) (c .before .before .before .before .before .before .before .before .before .before .name-inner .ensures) (c .before .before .got .given .1) (c .leave .ensures)
+returns-3 t c = left-again ⟨name⟩ (name-inner reading) name-opens
+    (c .before .before .before .before .before .before .before .before .before .before .before .before .before .before .before .if1 .left)
+    (c .before .before .before .before .before .before .before .before .before .before .before .enter .ensures)
+    (c .before .before .before .before .before .before .before .before .before .before .name-inner .ensures) (c .before .before .got .given .1) (c .leave .ensures)

@@ -81,7 +81,9 @@ same-length-3 t c = search needs
 pub returns-2 : (t : ℕ) → lts.Need-returns-2 (name-inner-calls t) (name-inner-at t) name-inner.Post
 returns-2 t c =
     let at-c = c .before .before .before .before .before .before .before .before .before .before .before .before in
-    λ σ h. by (same-from (name-inner reading) (reading ⟨nested-name⟩) σ (byte-is h (at-c .before .before .peek .ensures) 78 (at-c .c .given .1) (c .before .before .before .before .before .before .before .before .before .before .match2 .keys1)) (name-N _ σ)) (c .before .before .before .before .before .before .nested-name .ensures σ h)
+    λ σ h. by (same-from (name-inner reading) (reading ⟨nested-name⟩) σ
+    (byte-is h (at-c .before .before .peek .ensures) 78 (at-c .c .given .1) (c .before .before .before .before .before .before .before .before .before .before .match2 .keys1))
+    (name-N _ σ)) (c .before .before .before .before .before .before .nested-name .ensures σ h)
 
 pub same-length-4 : (t : ℕ) → lts.Need-same-length-4 (name-inner-calls t) (name-inner-at t) name-inner.Post
 same-length-4 t c = search needs
@@ -95,7 +97,9 @@ same-length-6 t c = search needs
 pub returns-3 : (t : ℕ) → lts.Need-returns-3 (name-inner-calls t) (name-inner-at t) name-inner.Post
 returns-3 t c =
     let at-c = c .before .before .before .before .before .before .before .before .before .before .before .before in
-    λ σ h. by (same-from (name-inner reading) (s-name reading) σ (byte-is h (at-c .before .before .peek .ensures) 83 (at-c .c .given .1) (c .before .before .before .before .before .before .before .before .before .before .match2 .keys2)) (name-S _ σ)) (c .before .before .before .before .before .before .at-s .ensures σ h)
+    λ σ h. by (same-from (name-inner reading) (s-name reading) σ
+    (byte-is h (at-c .before .before .peek .ensures) 83 (at-c .c .given .1) (c .before .before .before .before .before .before .before .before .before .before .match2 .keys2))
+    (name-S _ σ)) (c .before .before .before .before .before .before .at-s .ensures σ h)
 
 pub same-length-7 : (t : ℕ) → lts.Need-same-length-7 (name-inner-calls t) (name-inner-at t) name-inner.Post
 same-length-7 t c = search needs
@@ -126,7 +130,9 @@ same-length-12 t c = search needs
 pub returns-5 : (t : ℕ) → lts.Need-returns-5 (name-inner-calls t) (name-inner-at t) name-inner.Post
 returns-5 t c =
     let at-c = c .before .before .before .before .before .before .before .before .before .before .before .before in
-    λ σ h. by (same-from (name-inner reading) (local-name reading) σ (byte-is h (at-c .before .before .peek .ensures) 90 (at-c .c .given .1) (c .before .before .before .before .before .before .before .before .before .before .match2 .keys4)) (name-Z _ σ)) (c .before .before .before .before .before .before .local-name .ensures σ h)
+    λ σ h. by (same-from (name-inner reading) (local-name reading) σ
+    (byte-is h (at-c .before .before .peek .ensures) 90 (at-c .c .given .1) (c .before .before .before .before .before .before .before .before .before .before .match2 .keys4))
+    (name-Z _ σ)) (c .before .before .before .before .before .before .local-name .ensures σ h)
 
 pub same-length-13 : (t : ℕ) → lts.Need-same-length-13 (name-inner-calls t) (name-inner-at t) name-inner.Post
 same-length-13 t c = search needs
@@ -140,4 +146,8 @@ same-length-15 t c = search needs
 pub returns-6 : (t : ℕ) → lts.Need-returns-6 (name-inner-calls t) (name-inner-at t) name-inner.Post
 returns-6 t c =
     let at-c = c .before .before .before .before .before .before .before .before .before .before .before .before in
-    λ σ h. by (same-from (name-inner reading) (unscoped-name reading) σ (byte-at h (at-c .before .before .peek .ensures) (at-c .c .given .1)) (name-other _ σ _ (no-name-code _ (c .before .before .before .before .before .before .before .before .before .before .match2 .rest .0 .0 .0 .1) (c .before .before .before .before .before .before .before .before .before .before .match2 .rest .0 .0 .1) (c .before .before .before .before .before .before .before .before .before .before .match2 .rest .0 .1) (c .before .before .before .before .before .before .before .before .before .before .match2 .rest .1)))) (c .before .before .before .before .before .before .plain .ensures σ h)
+    λ σ h. by (same-from (name-inner reading) (unscoped-name reading) σ (byte-at h (at-c .before .before .peek .ensures) (at-c .c .given .1))
+    (name-other _ σ _ (no-name-code _ (c .before .before .before .before .before .before .before .before .before .before .match2 .rest .0 .0 .0 .1)
+    (c .before .before .before .before .before .before .before .before .before .before .match2 .rest .0 .0 .1)
+    (c .before .before .before .before .before .before .before .before .before .before .match2 .rest .0 .1)
+    (c .before .before .before .before .before .before .before .before .before .before .match2 .rest .1)))) (c .before .before .before .before .before .before .plain .ensures σ h)

@@ -59,15 +59,29 @@ pub moved-requires : (t : ℕ) → lts.Need-moved-requires (nested-name-calls t)
 moved-requires t c κs = search needs
 
 -- behind N and the qualifiers
-at-N : (t : ℕ) (c : lts.After-moved (nested-name-calls t) (nested-name-at t) nested-name.Post Inv-loop μ-loop) → starts (drop (c .before .before .before .before .before .before .before .before .args .p .at) (c .before .before .before .before .before .before .before .before .args .s .now)) (78 ∷ []) ≡ true
+at-N : (t : ℕ) (c : lts.After-moved (nested-name-calls t) (nested-name-at t) nested-name.Post Inv-loop μ-loop) → starts
+    (drop (c .before .before .before .before .before .before .before .before .args .p .at) (c .before .before .before .before .before .before .before .before .args .s .now))
+    (78 ∷ []) ≡ true
 at-N t c = sym (c .before .before .before .here .ensures) ∙ not-false _ (c .before .before .if1 .left)
 
-start : (t : ℕ) (c : lts.After-moved (nested-name-calls t) (nested-name-at t) nested-name.Post Inv-loop μ-loop) (σ : State) → Holds (c .before .before .before .before .before .before .before .before .args .s .now) (mem (c .before .before .before .before .before .before .before .before .args .text .now) (c .before .before .before .before .before .before .before .before .args .store .now) (c .before .before .before .before .before .before .before .before .args .ends .now)) (c .before .before .before .before .before .before .before .before .args .p) σ →
-    Holds (c .before .before .before .before .before .before .before .before .args .s .now) (mem (c .before .before .before .before .before .before .before .before .args .text .now) (c .before .before .before .before .before .before .before .before .args .store .now) (c .before .before .before .before .before .before .before .before .args .ends .now)) (c .moved .result) (moved (drop (c .before .qualifiers .result) (c .before .before .before .before .before .before .before .before .args .s .now)) σ)
+start : (t : ℕ) (c : lts.After-moved (nested-name-calls t) (nested-name-at t) nested-name.Post Inv-loop μ-loop) (σ : State) → Holds
+    (c .before .before .before .before .before .before .before .before .args .s .now)
+    (mem (c .before .before .before .before .before .before .before .before .args .text .now) (c .before .before .before .before .before .before .before .before .args .store .now)
+    (c .before .before .before .before .before .before .before .before .args .ends .now)) (c .before .before .before .before .before .before .before .before .args .p) σ →
+    Holds (c .before .before .before .before .before .before .before .before .args .s .now)
+    (mem (c .before .before .before .before .before .before .before .before .args .text .now) (c .before .before .before .before .before .before .before .before .args .store .now)
+    (c .before .before .before .before .before .before .before .before .args .ends .now)) (c .moved .result)
+    (moved (drop (c .before .qualifiers .result) (c .before .before .before .before .before .before .before .before .args .s .now)) σ)
 start t c σ h = by-state (c .moved .ensures) (holds-moved h (c .before .qualifiers .result) (c .before .qualifiers .ensures .1))
 
-opens : (t : ℕ) (c : lts.After-moved (nested-name-calls t) (nested-name-at t) nested-name.Post Inv-loop μ-loop) (σ : State) → Holds (c .before .before .before .before .before .before .before .before .args .s .now) (mem (c .before .before .before .before .before .before .before .before .args .text .now) (c .before .before .before .before .before .before .before .before .args .store .now) (c .before .before .before .before .before .before .before .before .args .ends .now)) (c .before .before .before .before .before .before .before .before .args .p) σ →
-    reading ⟨nested-name⟩ σ ≡ onto (named (part (c .before .before .before .before .before .before .before .before .args .s .now) (c .before .before .before .before .before .before .before .before .args .p .at + 1) (c .before .qualifiers .result))) (onto closed (prefixes no-parts (moved (drop (c .before .qualifiers .result) (c .before .before .before .before .before .before .before .before .args .s .now)) σ)))
+opens : (t : ℕ) (c : lts.After-moved (nested-name-calls t) (nested-name-at t) nested-name.Post Inv-loop μ-loop) (σ : State) → Holds
+    (c .before .before .before .before .before .before .before .before .args .s .now)
+    (mem (c .before .before .before .before .before .before .before .before .args .text .now) (c .before .before .before .before .before .before .before .before .args .store .now)
+    (c .before .before .before .before .before .before .before .before .args .ends .now)) (c .before .before .before .before .before .before .before .before .args .p) σ →
+    reading ⟨nested-name⟩ σ ≡ onto
+    (named (part (c .before .before .before .before .before .before .before .before .args .s .now)
+    (c .before .before .before .before .before .before .before .before .args .p .at + 1) (c .before .qualifiers .result)))
+    (onto closed (prefixes no-parts (moved (drop (c .before .qualifiers .result) (c .before .before .before .before .before .before .before .before .args .s .now)) σ)))
 opens t c σ h = nested-open (c .before .before .before .before .before .before .before .before .args .s .now) (c .before .before .before .before .before .before .before .before .args .p .at) σ (h .rest) (at-N t c) (c .before .qualifiers .ensures .0)
 
 pub loop-holds : (t : ℕ) → lts.Need-loop-holds (nested-name-calls t) (nested-name-at t) nested-name.Post Inv-loop μ-loop
@@ -134,9 +148,14 @@ returns-3 t c =
     λ σ h.
     from-start (mem (at-start .args .text .now) (at-start .args .store .now) (at-start .args .ends .now)) (at-start .args .p) (at-c .before .before .before .before .moved .ensures) (omega (arith, at-c .before .before .before .before .before .qualifiers .ensures .0))
     (by (opens t (at-c .before .before .before .before) σ h)
-    (prefixed-E (at-c .before .before .before .loop .inv .so-far _ (start t (at-c .before .before .before .before) σ h)) (at-start .args .p .at + 1) (at-c .before .before .before .before .before .qualifiers .result) (omega (arith, at-c .before .before .before .before .before .qualifiers .ensures .0)) (at-c .before .before .before .before .before .qualifiers .ensures .1)
+    (prefixed-E (at-c .before .before .before .loop .inv .so-far _ (start t (at-c .before .before .before .before) σ h)) (at-start .args .p .at + 1)
+    (at-c .before .before .before .before .before .qualifiers .result) (omega (arith, at-c .before .before .before .before .before .qualifiers .ensures .0))
+    (at-c .before .before .before .before .before .qualifiers .ensures .1)
     (sym (at-c .before .before .peek .ensures) ∙ at-c .c .given .1) (c .before .before .before .before .before .if2 .taken) (c .before .before .if3 .taken)
-    (c .given .ensures ∙ ap (λ (p : Parser). given-of p (at-c .before .before .before .loop .parts .n)) (c .before .with-templated .ensures ∙ ap (λ (p : Parser). templated-to p false) (c .before .before .before .with-cv .ensures ∙ ap (λ (p : Parser). cv-to p (at-start .args .p .at + 1) (at-c .before .before .before .before .before .qualifiers .result)) (c .before .before .before .before .moved2 .ensures))))))
+    (c .given .ensures ∙ ap (λ (p : Parser). given-of p (at-c .before .before .before .loop .parts .n))
+    (c .before .with-templated .ensures ∙ ap (λ (p : Parser). templated-to p false)
+    (c .before .before .before .with-cv .ensures ∙ ap (λ (p : Parser). cv-to p (at-start .args .p .at + 1) (at-c .before .before .before .before .before .qualifiers .result))
+    (c .before .before .before .before .moved2 .ensures))))))
 
 pub given-requires-2 : (t : ℕ) → lts.Need-given-requires-2 (nested-name-calls t) (nested-name-at t) nested-name.Post Inv-loop μ-loop
 given-requires-2 t c κs = search needs
@@ -163,9 +182,13 @@ returns-4 t c =
     λ σ h.
     from-start (mem (at-start .args .text .now) (at-start .args .store .now) (at-start .args .ends .now)) (at-start .args .p) (at-c .before .before .before .before .moved .ensures) (omega (arith, at-c .before .before .before .before .before .qualifiers .ensures .0))
     (by (opens t (at-c .before .before .before .before) σ h)
-    (prefixed-E (at-c .before .before .before .loop .inv .so-far _ (start t (at-c .before .before .before .before) σ h)) (at-start .args .p .at + 1) (at-c .before .before .before .before .before .qualifiers .result) (omega (arith, at-c .before .before .before .before .before .qualifiers .ensures .0)) (at-c .before .before .before .before .before .qualifiers .ensures .1)
+    (prefixed-E (at-c .before .before .before .loop .inv .so-far _ (start t (at-c .before .before .before .before) σ h)) (at-start .args .p .at + 1)
+    (at-c .before .before .before .before .before .qualifiers .result) (omega (arith, at-c .before .before .before .before .before .qualifiers .ensures .0))
+    (at-c .before .before .before .before .before .qualifiers .ensures .1)
     (sym (at-c .before .before .peek .ensures) ∙ at-c .c .given .1) (c .before .before .before .before .if2 .taken) (c .before .if3 .left)
-    (c .given2 .ensures ∙ ap (λ (p : Parser). given-of p (at-c .before .before .before .loop .parts .n)) (c .before .before .with-cv .ensures ∙ ap (λ (p : Parser). cv-to p (at-start .args .p .at + 1) (at-c .before .before .before .before .before .qualifiers .result)) (c .before .before .before .moved2 .ensures)))))
+    (c .given2 .ensures ∙ ap (λ (p : Parser). given-of p (at-c .before .before .before .loop .parts .n))
+    (c .before .before .with-cv .ensures ∙ ap (λ (p : Parser). cv-to p (at-start .args .p .at + 1) (at-c .before .before .before .before .before .qualifiers .result))
+    (c .before .before .before .moved2 .ensures)))))
 
 pub px-requires : (t : ℕ) → lts.Need-px-requires (nested-name-calls t) (nested-name-at t) nested-name.Post Inv-loop μ-loop
 px-requires t c κs =
@@ -212,7 +235,9 @@ returns-5 t c =
     let at-c = before-else2 t at-else2 in
     λ σ h.
     by (opens t (at-c .before .before .before .before) σ h)
-    (prefixed-refuses (at-c .before .before .before .loop .inv .so-far _ (start t (at-c .before .before .before .before) σ h)) (sym (at-c .before .before .peek .ensures) ∙ at-c .c .given .1) (λ e. omega (arith, e, at-else2 .if2 .left)) (at-px .px .ensures) _ (c .before .enum-told2 .given .1) (c .unprefixed .ensures))
+    (prefixed-refuses (at-c .before .before .before .loop .inv .so-far _ (start t (at-c .before .before .before .before) σ h))
+    (sym (at-c .before .before .peek .ensures) ∙ at-c .c .given .1) (λ e. omega (arith, e, at-else2 .if2 .left)) (at-px .px .ensures) _ (c .before .enum-told2 .given .1)
+    (c .unprefixed .ensures))
 
 pub loop-less : (t : ℕ) → lts.Need-loop-less (nested-name-calls t) (nested-name-at t) nested-name.Post Inv-loop μ-loop
 loop-less t c =

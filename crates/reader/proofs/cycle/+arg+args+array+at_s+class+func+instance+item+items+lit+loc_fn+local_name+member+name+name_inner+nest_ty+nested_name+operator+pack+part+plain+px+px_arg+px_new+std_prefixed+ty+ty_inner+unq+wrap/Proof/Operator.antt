@@ -90,8 +90,14 @@ unfolding b
 ty-requires t c κs =
     let at-put = c .before .before .before .before .before in
     let at-operator-name = before-put t at-put in
-    let at-start = before-operator-name t at-operator-name in
-    (omega (arith, at-start .pre .0, puts-at (at-operator-name .before .moved .ensures) (at-put .put .ensures), at-operator-name .before .before .before .before .if1 .left), (_, oper-holds (at-start .pre .1 .1) (at-operator-name .before .before .before .before .if1 .left) (at-operator-name .before .moved .ensures) (at-operator-name .operator-name .ensures) (at-put .put .ensures)))
+    let at-start = before-operator-name t at-operator-name in (
+      omega (arith, at-start .pre .0, puts-at (at-operator-name .before .moved .ensures) (at-put .put .ensures), at-operator-name .before .before .before .before .if1 .left),
+      (
+        _,
+        oper-holds (at-start .pre .1 .1) (at-operator-name .before .before .before .before .if1 .left) (at-operator-name .before .moved .ensures)
+            (at-operator-name .operator-name .ensures) (at-put .put .ensures),
+      ),
+    )
 
 pub enum-known-got : (t : ℕ) → lts.Need-enum-known-got (operator-calls t) (operator-at t) operator.Post
 enum-known-got t c = search needs
@@ -114,7 +120,9 @@ returns-5 t c =
     let at-ty = c .before .before .before .before .before .before .before .before in
     let at-put = before-ty t at-ty in
     let at-operator-name = before-put t at-put in
-    λ σ h. oper-refused h (at-operator-name .before .before .before .before .if1 .left) (at-operator-name .before .moved .ensures) (at-operator-name .operator-name .ensures) (at-put .put .ensures) (at-put .before .before .before .before .before .enum-told .given .1) (at-put .before .before .before .before .if2 .left) (at-put .before .before .before .if3 .left) (at-ty .ty .ensures) (c .enum-told2 .given .1)
+    λ σ h. oper-refused h (at-operator-name .before .before .before .before .if1 .left) (at-operator-name .before .moved .ensures) (at-operator-name .operator-name .ensures)
+    (at-put .put .ensures) (at-put .before .before .before .before .before .enum-told .given .1) (at-put .before .before .before .before .if2 .left)
+    (at-put .before .before .before .if3 .left) (at-ty .ty .ensures) (c .enum-told2 .given .1)
 
 pub with-templated-requires : (t : ℕ) → lts.Need-with-templated-requires (operator-calls t) (operator-at t) operator.Post
 with-templated-requires t c κs = search needs
@@ -151,7 +159,9 @@ returns-6 t c =
     let at-ty = c .before .before .before .before .before .before .before .before .before .before .before in
     let at-put = before-ty t at-ty in
     let at-operator-name = before-put t at-put in
-    λ σ h. oper-typed h (at-operator-name .before .before .before .before .if1 .left) (at-operator-name .before .moved .ensures) (at-operator-name .operator-name .ensures) (at-put .put .ensures) (at-put .before .before .before .before .before .enum-told .given .1) (at-put .before .before .before .before .if2 .left) (at-put .before .before .before .if3 .left) (at-ty .ty .ensures) (c .before .before .before .got .given .1) (c .before .with-templated .ensures) (c .given .ensures)
+    λ σ h. oper-typed h (at-operator-name .before .before .before .before .if1 .left) (at-operator-name .before .moved .ensures) (at-operator-name .operator-name .ensures)
+    (at-put .put .ensures) (at-put .before .before .before .before .before .enum-told .given .1) (at-put .before .before .before .before .if2 .left)
+    (at-put .before .before .before .if3 .left) (at-ty .ty .ensures) (c .before .before .before .got .given .1) (c .before .with-templated .ensures) (c .given .ensures)
 
 pub enum-told : (t : ℕ) → lts.Need-enum-told (operator-calls t) (operator-at t) operator.Post
 enum-told t c = search needs

@@ -103,7 +103,9 @@ pub returns-2 : (t : ℕ) → lts.Need-returns-2 (pack-calls t) (pack-at t) pack
 returns-2 t c =
     let at-known-told = c .before .before .before .before .before .before in
     let at-loop = before-known-told t at-known-told in
-    λ σ h. packed-ends (at-loop .loop .inv .so-far σ h) (looked t (at-known-told)) (c .before .before .before .before .before .if1 .taken) (sym (c .before .before .before .pack-ends .ensures) ∙ c .before .before .if2 .taken) (c .before .before .before .before .moved .ensures) (c .before .joined-size .ensures) (c .given .ensures)
+    λ σ h. packed-ends (at-loop .loop .inv .so-far σ h) (looked t (at-known-told)) (c .before .before .before .before .before .if1 .taken)
+    (sym (c .before .before .before .pack-ends .ensures) ∙ c .before .before .if2 .taken) (c .before .before .before .before .moved .ensures) (c .before .joined-size .ensures)
+    (c .given .ensures)
 
 pub sub-level : (t : ℕ) → lts.Need-sub-level (pack-calls t) (pack-at t) pack.Post Inv-loop μ-loop
 sub-level t c =
@@ -137,7 +139,11 @@ sum-requires t c κs =
     let at-known-told = c .before .before .before .before .before in
     let at-loop = before-known-told t at-known-told in
     let at-start = before-at-loop t at-loop in
-    let f = inner-E (at-loop .loop .level) (at-loop .loop .n) (sym (c .before .before .pack-ends .ensures) ∙ c .before .if2 .left) in (outer-small (at-loop .loop .inv .so-far _ (at-start .pre .1 .1)) (looked t (at-known-told)) (c .before .before .before .before .if1 .taken) (f .0), omega (arith, c .joined-size2 .ensures, f .1))
+    let f = inner-E (at-loop .loop .level) (at-loop .loop .n) (sym (c .before .before .pack-ends .ensures) ∙ c .before .if2 .left) in (
+      outer-small (at-loop .loop .inv .so-far _ (at-start .pre .1 .1)) (looked t (at-known-told)) (c .before .before .before .before .if1 .taken) (f .0),
+      omega
+          (arith, c .joined-size2 .ensures, f .1),
+    )
 
 pub loop-less : (t : ℕ) → lts.Need-loop-less (pack-calls t) (pack-at t) pack.Post Inv-loop μ-loop
 loop-less t c =
@@ -151,7 +157,10 @@ loop-again t c =
     let at-known-told = c .before .before .before .before .before .before in
     let at-loop = before-known-told t at-known-told in
     let at-start = before-at-loop t at-loop in
-    packing (at-start .pre .1 .1) (at-loop .loop .inv .room) (omega (arith, at-loop .loop .inv .deep)) (λ σ h. packed-closes (at-loop .loop .inv .so-far σ h) (looked t (at-known-told)) (c .before .before .before .before .before .if1 .taken) (sym (c .before .before .before .pack-ends .ensures) ∙ c .before .before .if2 .left) (c .before .before .before .before .moved .ensures) (c .sum .ensures ∙ ap (λ (x : ℕ). min (getD (at-loop .loop .outer) (at-loop .loop .level - 1) 0 + (x + 2)) 65536) (c .before .joined-size2 .ensures)))
+    packing (at-start .pre .1 .1) (at-loop .loop .inv .room) (omega (arith, at-loop .loop .inv .deep))
+    (λ σ h. packed-closes (at-loop .loop .inv .so-far σ h) (looked t (at-known-told)) (c .before .before .before .before .before .if1 .taken)
+    (sym (c .before .before .before .pack-ends .ensures) ∙ c .before .before .if2 .left) (c .before .before .before .before .moved .ensures)
+    (c .sum .ensures ∙ ap (λ (x : ℕ). min (getD (at-loop .loop .outer) (at-loop .loop .level - 1) 0 + (x + 2)) 65536) (c .before .joined-size2 .ensures)))
 
 pub comma-requires : (t : ℕ) → lts.Need-comma-requires (pack-calls t) (pack-at t) pack.Post Inv-loop μ-loop
 comma-requires t c κs =
@@ -209,7 +218,10 @@ loop-again-2 t c =
     let at-known-told = before-comma t at-comma in
     let at-loop = before-known-told t at-known-told in
     let at-start = before-at-loop t at-loop in
-    packing (at-start .pre .1 .1) (length-set (at-loop .loop .outer) (at-loop .loop .level) (at-loop .loop .n) ∙ at-loop .loop .inv .room) (omega (arith, opens-J (at-loop .loop .level) (at-known-told .before .c .given .0 .0) (sym (c .before .before .pack-opens .ensures) ∙ c .before .if3 .taken) .1)) (λ σ h. packed-opens (at-loop .loop .inv .so-far σ h) (looked t (at-known-told)) (at-comma .comma .ensures) (sym (c .before .before .pack-opens .ensures) ∙ c .before .if3 .taken) (at-loop .loop .inv .room) (c .moved2 .ensures))
+    packing (at-start .pre .1 .1) (length-set (at-loop .loop .outer) (at-loop .loop .level) (at-loop .loop .n) ∙ at-loop .loop .inv .room)
+    (omega (arith, opens-J (at-loop .loop .level) (at-known-told .before .c .given .0 .0) (sym (c .before .before .pack-opens .ensures) ∙ c .before .if3 .taken) .1))
+    (λ σ h. packed-opens (at-loop .loop .inv .so-far σ h) (looked t (at-known-told)) (at-comma .comma .ensures)
+    (sym (c .before .before .pack-opens .ensures) ∙ c .before .if3 .taken) (at-loop .loop .inv .room) (c .moved2 .ensures))
 
 pub arg-requires : (t : ℕ) → lts.Need-arg-requires (pack-calls t) (pack-at t) pack.Post Inv-loop μ-loop
 arg-requires t c κs =
@@ -283,7 +295,12 @@ loop-less-3 t c =
     let at-known-told = before-comma t at-comma in
     let at-loop = before-known-told t at-known-told in
     let at-start = before-at-loop t at-loop in
-    let l = at-loop .loop .inv .so-far _ (at-start .pre .1 .1) in omega (arith, inside l (looked t (at-known-told)), text-further l (looked t (at-known-told)) (λ e. omega (arith, e, at-comma .before .before .if1 .left)) (at-comma .comma .ensures) (at-arg .arg .ensures) (c .before .before .got .given .1))
+    let l = at-loop .loop .inv .so-far _ (at-start .pre .1 .1) in omega (
+      arith,
+      inside l (looked t (at-known-told)),
+      text-further l (looked t (at-known-told)) (λ e. omega (arith, e, at-comma .before .before .if1 .left)) (at-comma .comma .ensures)
+          (at-arg .arg .ensures) (c .before .before .got .given .1),
+    )
 
 pub loop-again-3 : (t : ℕ) → lts.Need-loop-again-3 (pack-calls t) (pack-at t) pack.Post Inv-loop μ-loop
 loop-again-3 t c =
@@ -292,4 +309,6 @@ loop-again-3 t c =
     let at-known-told = before-comma t at-comma in
     let at-loop = before-known-told t at-known-told in
     let at-start = before-at-loop t at-loop in
-    packing (at-start .pre .1 .1) (at-loop .loop .inv .room) (at-loop .loop .inv .deep) (λ σ h. packed-more (at-loop .loop .inv .so-far σ h) (looked t (at-known-told)) (λ e. omega (arith, e, at-comma .before .before .if1 .left)) (at-comma .comma .ensures) (at-arg .arg .ensures) (c .before .before .got .given .1) (c .sum2 .ensures))
+    packing (at-start .pre .1 .1) (at-loop .loop .inv .room) (at-loop .loop .inv .deep)
+    (λ σ h. packed-more (at-loop .loop .inv .so-far σ h) (looked t (at-known-told)) (λ e. omega (arith, e, at-comma .before .before .if1 .left)) (at-comma .comma .ensures)
+    (at-arg .arg .ensures) (c .before .before .got .given .1) (c .sum2 .ensures))

@@ -124,7 +124,9 @@ pub returns-3 : (t : ℕ) → lts.Need-returns-3 (px-calls t) (px-at t) px.Post
 returns-3 t c rest e base from ps σ h =
     let at-else1 = c .before .before .before .before .before .before .before .before .before .before .before in
     let at-structor = before-else1 t at-else1 in
-    parts-by (prefix-I ps σ (ap structor-ahead (h .stands .holds .rest) ∙ sym (at-structor .structor .ensures) ∙ at-else1 .if1 .left) (h .stands .holds .rest ∙ e) (c .before .before .before .before .before .before .before .before .before .before .match .keys1)) (c .before .before .before .before .before .before .px-arg .ensures base from ps σ h)
+    parts-by (prefix-I ps σ (ap structor-ahead (h .stands .holds .rest) ∙ sym (at-structor .structor .ensures) ∙ at-else1 .if1 .left) (h .stands .holds .rest ∙ e)
+    (c .before .before .before .before .before .before .before .before .before .before .match .keys1))
+    (c .before .before .before .before .before .before .px-arg .ensures base from ps σ h)
 
 pub same-length-8 : (t : ℕ) → lts.Need-same-length-8 (px-calls t) (px-at t) px.Post
 same-length-8 t c = search needs
@@ -159,4 +161,7 @@ pub returns-5 : (t : ℕ) → lts.Need-returns-5 (px-calls t) (px-at t) px.Post
 returns-5 t c rest e base from ps σ h =
     let at-else1 = c .before .before .before .before .before .before .before .before .before .before .before in
     let at-structor = before-else1 t at-else1 in
-    parts-by (prefix-new ps σ (ap structor-ahead (h .stands .holds .rest) ∙ sym (at-structor .structor .ensures) ∙ at-else1 .if1 .left) (h .stands .holds .rest ∙ e) (c .before .before .before .before .before .before .before .before .before .before .match .rest .0 .1) (c .before .before .before .before .before .before .before .before .before .before .match .rest .1)) (c .before .before .before .before .before .before .px-new .ensures base from ps σ h)
+    parts-by (prefix-new ps σ (ap structor-ahead (h .stands .holds .rest) ∙ sym (at-structor .structor .ensures) ∙ at-else1 .if1 .left) (h .stands .holds .rest ∙ e)
+    (c .before .before .before .before .before .before .before .before .before .before .match .rest .0 .1)
+    (c .before .before .before .before .before .before .before .before .before .before .match .rest .1))
+    (c .before .before .before .before .before .before .px-new .ensures base from ps σ h)

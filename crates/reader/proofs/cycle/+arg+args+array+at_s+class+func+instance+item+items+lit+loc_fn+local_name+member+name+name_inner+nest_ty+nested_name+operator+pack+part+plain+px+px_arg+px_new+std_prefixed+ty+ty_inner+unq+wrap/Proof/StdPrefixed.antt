@@ -228,7 +228,9 @@ returns-3 t c =
     let w = g .wrote in
     let u = word-joined (at-put .before .before .moved .ensures) (at-put .put .ensures) h l (omega arith) (omega arith) refl w in
     let v = kept u (at-instance .before .before .before .before .before .before .before .kept .given .1) (at-push-sub .push-sub .ensures _ _ _ _ _ _ _ u) in
-    by (std-open (at-start .args .s .now) (at-start .args .p .at) σ (h .rest) (at-start .pre .1 .1) ∙ ap (onto std-rest) (g .is) ∙ ap (onto _) (v .is) ∙ at-code-yes "I" _ _ _ (ap (λ y. starts y (b "I")) (v .stands .holds .rest) ∙ sym (at-instance .before .before .before .before .before .here .ensures) ∙ at-instance .before .before .before .before .if1 .taken))
+    by (std-open (at-start .args .s .now) (at-start .args .p .at) σ (h .rest) (at-start .pre .1 .1) ∙ ap (onto std-rest) (g .is) ∙ ap (onto _) (v .is) ∙ at-code-yes "I" _ _ _
+    (ap (λ y. starts y (b "I")) (v .stands .holds .rest) ∙ sym
+    (at-instance .before .before .before .before .before .here .ensures) ∙ at-instance .before .before .before .before .if1 .taken))
     (instance-at (at-instance .instance .ensures) (v .stands) (omega (arith, u .size, w .size, w .short)) (omega (arith, v .stands .more)))
 
 pub given-requires : (t : ℕ) → lts.Need-given-requires (std-prefixed-calls t) (std-prefixed-at t) std-prefixed.Post

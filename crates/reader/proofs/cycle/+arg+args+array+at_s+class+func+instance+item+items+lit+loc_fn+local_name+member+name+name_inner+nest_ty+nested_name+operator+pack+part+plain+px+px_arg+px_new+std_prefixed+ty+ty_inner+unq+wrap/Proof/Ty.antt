@@ -35,7 +35,10 @@ pub same-length-3 : (t : ℕ) → lts.Need-same-length-3 (ty-calls t) (ty-at t) 
 same-length-3 t c = search needs
 
 pub returns-2 : (t : ℕ) → lts.Need-returns-2 (ty-calls t) (ty-at t) ty.Post
-returns-2 t c = still-refused ⟨type⟩ (type-inner reading) type-opens (c .before .before .before .before .before .before .before .before .before .before .before .before .before .if1 .left) (c .before .before .before .before .before .before .before .before .before .enter .ensures) (c .before .before .before .before .before .before .before .before .ty-inner .ensures) (c .enum-told .given .1)
+returns-2 t c = still-refused ⟨type⟩ (type-inner reading) type-opens
+    (c .before .before .before .before .before .before .before .before .before .before .before .before .before .if1 .left)
+    (c .before .before .before .before .before .before .before .before .before .enter .ensures)
+    (c .before .before .before .before .before .before .before .before .ty-inner .ensures) (c .enum-told .given .1)
 
 pub leave-requires : (t : ℕ) → lts.Need-leave-requires (ty-calls t) (ty-at t) ty.Post
 leave-requires t c κs = search needs
@@ -50,4 +53,7 @@ pub same-length-6 : (t : ℕ) → lts.Need-same-length-6 (ty-calls t) (ty-at t) 
 same-length-6 t c = search needs
 
 pub returns-3 : (t : ℕ) → lts.Need-returns-3 (ty-calls t) (ty-at t) ty.Post
-returns-3 t c = left-again ⟨type⟩ (type-inner reading) type-opens (c .before .before .before .before .before .before .before .before .before .before .before .before .before .before .before .if1 .left) (c .before .before .before .before .before .before .before .before .before .before .before .enter .ensures) (c .before .before .before .before .before .before .before .before .before .before .ty-inner .ensures) (c .before .before .got .given .1) (c .leave .ensures)
+returns-3 t c = left-again ⟨type⟩ (type-inner reading) type-opens
+    (c .before .before .before .before .before .before .before .before .before .before .before .before .before .before .before .if1 .left)
+    (c .before .before .before .before .before .before .before .before .before .before .before .enter .ensures)
+    (c .before .before .before .before .before .before .before .before .before .before .ty-inner .ensures) (c .before .before .got .given .1) (c .leave .ensures)

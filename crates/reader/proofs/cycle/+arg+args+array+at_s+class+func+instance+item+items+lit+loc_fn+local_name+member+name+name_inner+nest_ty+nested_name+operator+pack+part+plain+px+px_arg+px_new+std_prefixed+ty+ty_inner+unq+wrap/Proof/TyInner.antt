@@ -231,7 +231,10 @@ pub returns-8 : (t : ℕ) → lts.Need-returns-8 (ty-inner-calls t) (ty-inner-at
 returns-8 t c =
     let at-enum-told2 = c .before .before .before .before .before .before .before .before .before .before .before in
     let at-builtin = before-enum-told2 t at-enum-told2 in
-    λ σ h. by (same-from (type-inner reading) (nested-type reading) σ (byte-is h (at-builtin .before .before .before .before .before .peek .ensures) 78 (at-builtin .before .before .before .c .given .1) (c .before .before .before .before .before .before .before .before .before .before .match3 .keys7)) (inner-N _ σ)) (c .before .before .before .before .before .before .nest-ty .ensures σ h)
+    λ σ h. by (same-from (type-inner reading) (nested-type reading) σ
+    (byte-is h (at-builtin .before .before .before .before .before .peek .ensures) 78 (at-builtin .before .before .before .c .given .1)
+    (c .before .before .before .before .before .before .before .before .before .before .match3 .keys7)) (inner-N _ σ))
+    (c .before .before .before .before .before .before .nest-ty .ensures σ h)
 
 pub same-length-16 : (t : ℕ) → lts.Need-same-length-16 (ty-inner-calls t) (ty-inner-at t) ty-inner.Post
 same-length-16 t c = search needs
@@ -246,7 +249,9 @@ pub returns-9 : (t : ℕ) → lts.Need-returns-9 (ty-inner-calls t) (ty-inner-at
 returns-9 t c =
     let at-enum-told2 = c .before .before .before .before .before .before .before in
     let at-builtin = before-enum-told2 t at-enum-told2 in
-    λ σ h. by (same-from (type-inner reading) (reading ⟨template-param⟩) σ (byte-is h (at-builtin .before .before .before .before .before .peek .ensures) 84 (at-builtin .before .before .before .c .given .1) (c .before .before .before .before .before .before .match3 .keys8)) (inner-T _ σ)) (less (omega (arith, h .deep)) (c .before .before .template-param .ensures σ h))
+    λ σ h. by (same-from (type-inner reading) (reading ⟨template-param⟩) σ
+    (byte-is h (at-builtin .before .before .before .before .before .peek .ensures) 84 (at-builtin .before .before .before .c .given .1)
+    (c .before .before .before .before .before .before .match3 .keys8)) (inner-T _ σ)) (less (omega (arith, h .deep)) (c .before .before .template-param .ensures σ h))
 
 pub same-length-19 : (t : ℕ) → lts.Need-same-length-19 (ty-inner-calls t) (ty-inner-at t) ty-inner.Post
 same-length-19 t c = search needs
@@ -261,7 +266,10 @@ pub returns-10 : (t : ℕ) → lts.Need-returns-10 (ty-inner-calls t) (ty-inner-
 returns-10 t c =
     let at-enum-told2 = c .before .before .before .before .before .before .before .before .before .before .before in
     let at-builtin = before-enum-told2 t at-enum-told2 in
-    λ σ h. by (same-from (type-inner reading) (s-type reading) σ (byte-is h (at-builtin .before .before .before .before .before .peek .ensures) 83 (at-builtin .before .before .before .c .given .1) (c .before .before .before .before .before .before .before .before .before .before .match3 .keys9)) (inner-S _ σ)) (c .before .before .before .before .before .before .at-s .ensures σ h)
+    λ σ h. by (same-from (type-inner reading) (s-type reading) σ
+    (byte-is h (at-builtin .before .before .before .before .before .peek .ensures) 83 (at-builtin .before .before .before .c .given .1)
+    (c .before .before .before .before .before .before .before .before .before .before .match3 .keys9)) (inner-S _ σ))
+    (c .before .before .before .before .before .before .at-s .ensures σ h)
 
 pub same-length-22 : (t : ℕ) → lts.Need-same-length-22 (ty-inner-calls t) (ty-inner-at t) ty-inner.Post
 same-length-22 t c = search needs
@@ -276,25 +284,40 @@ pub returns-11 : (t : ℕ) → lts.Need-returns-11 (ty-inner-calls t) (ty-inner-
 returns-11 t c =
     let at-enum-told2 = c .before .before .before .before .before .before .before .before .before .before .before .before .before in
     let at-builtin = before-enum-told2 t at-enum-told2 in
-    λ σ h. by (same-from (type-inner reading) (class-type reading) σ (byte-at h (at-builtin .before .before .before .before .before .peek .ensures) (at-builtin .before .before .before .c .given .1)) (inner-class _ _ σ (no-letter _ _ (at-builtin .builtin .ensures) (at-enum-told2 .enum-told2 .given .1)) (no-head _ (c .before .before .before .before .before .before .before .before .before .before .before .before .match3 .rest) (λ e. omega (arith, e, c .before .before .before .before .before .before .before .before .before .before .if2 .taken)) (λ e. omega (arith, e, c .before .before .before .before .before .before .before .before .before .before .if2 .taken))))) (c .before .before .before .before .before .before .class .ensures σ h)
+    λ σ h. by (same-from (type-inner reading) (class-type reading) σ
+    (byte-at h (at-builtin .before .before .before .before .before .peek .ensures) (at-builtin .before .before .before .c .given .1))
+    (inner-class _ _ σ (no-letter _ _ (at-builtin .builtin .ensures) (at-enum-told2 .enum-told2 .given .1))
+    (no-head _ (c .before .before .before .before .before .before .before .before .before .before .before .before .match3 .rest)
+    (λ e. omega (arith, e, c .before .before .before .before .before .before .before .before .before .before .if2 .taken))
+    (λ e. omega (arith, e, c .before .before .before .before .before .before .before .before .before .before .if2 .taken)))))
+    (c .before .before .before .before .before .before .class .ensures σ h)
 
 pub returns-12 : (t : ℕ) → lts.Need-returns-12 (ty-inner-calls t) (ty-inner-at t) ty-inner.Post
 returns-12 t c =
     let at-enum-told2 = c .before .before in
     let at-builtin = before-enum-told2 t at-enum-told2 in
-    λ σ h. by (from-text (type-inner reading) σ (byte-at h (at-builtin .before .before .before .before .before .peek .ensures) (at-builtin .before .before .before .c .given .1)) (inner-4 _ _ σ (no-letter _ _ (c .before .before .before .before .builtin .ensures) (c .before .before .enum-told2 .given .1)) (no-head _ (c .before .match3 .rest) (λ e. omega (arith, e, c .if1 .taken)) (λ e. omega (arith, e, c .if1 .taken))) (digit-not _ (λ i. absurd (omega (arith, i, c .if1 .taken)))))) refuses
+    λ σ h. by (from-text (type-inner reading) σ (byte-at h (at-builtin .before .before .before .before .before .peek .ensures) (at-builtin .before .before .before .c .given .1))
+    (inner-4 _ _ σ (no-letter _ _ (c .before .before .before .before .builtin .ensures) (c .before .before .enum-told2 .given .1))
+    (no-head _ (c .before .match3 .rest) (λ e. omega (arith, e, c .if1 .taken)) (λ e. omega (arith, e, c .if1 .taken)))
+    (digit-not _ (λ i. absurd (omega (arith, i, c .if1 .taken)))))) refuses
 
 pub returns-13 : (t : ℕ) → lts.Need-returns-13 (ty-inner-calls t) (ty-inner-at t) ty-inner.Post
 returns-13 t c =
     let at-enum-told2 = c .before .before .before .before in
     let at-builtin = before-enum-told2 t at-enum-told2 in
-    λ σ h. by (from-text (type-inner reading) σ (byte-at h (at-builtin .before .before .before .before .before .peek .ensures) (at-builtin .before .before .before .c .given .1)) (inner-4 _ _ σ (no-letter _ _ (at-builtin .builtin .ensures) (c .before .before .before .before .enum-told2 .given .1)) (no-head _ (c .before .before .before .match3 .rest) (λ e. omega (arith, e, c .if3 .taken)) (λ e. omega (arith, e, c .if3 .taken))) (digit-not _ (λ i. c .before .if2 .left)))) refuses
+    λ σ h. by (from-text (type-inner reading) σ (byte-at h (at-builtin .before .before .before .before .before .peek .ensures) (at-builtin .before .before .before .c .given .1))
+    (inner-4 _ _ σ (no-letter _ _ (at-builtin .builtin .ensures) (c .before .before .before .before .enum-told2 .given .1))
+    (no-head _ (c .before .before .before .match3 .rest) (λ e. omega (arith, e, c .if3 .taken)) (λ e. omega (arith, e, c .if3 .taken)))
+    (digit-not _ (λ i. c .before .if2 .left)))) refuses
 
 pub returns-14 : (t : ℕ) → lts.Need-returns-14 (ty-inner-calls t) (ty-inner-at t) ty-inner.Post
 returns-14 t c =
     let at-enum-told2 = c .before .before .before .before .before in
     let at-builtin = before-enum-told2 t at-enum-told2 in
-    λ σ h. by (from-text (type-inner reading) σ (byte-at h (at-builtin .before .before .before .before .before .peek .ensures) (at-builtin .before .before .before .c .given .1)) (inner-4 _ _ σ (no-letter _ _ (at-builtin .builtin .ensures) (at-enum-told2 .enum-told2 .given .1)) (no-head _ (c .before .before .before .before .match3 .rest) (λ e. omega (arith, e, c .if4 .left)) (λ e. omega (arith, e, c .if4 .left))) (digit-not _ (λ i. c .before .before .if2 .left)))) refuses
+    λ σ h. by (from-text (type-inner reading) σ (byte-at h (at-builtin .before .before .before .before .before .peek .ensures) (at-builtin .before .before .before .c .given .1))
+    (inner-4 _ _ σ (no-letter _ _ (at-builtin .builtin .ensures) (at-enum-told2 .enum-told2 .given .1))
+    (no-head _ (c .before .before .before .before .match3 .rest) (λ e. omega (arith, e, c .if4 .left)) (λ e. omega (arith, e, c .if4 .left)))
+    (digit-not _ (λ i. c .before .before .if2 .left)))) refuses
 
 pub same-length-25 : (t : ℕ) → lts.Need-same-length-25 (ty-inner-calls t) (ty-inner-at t) ty-inner.Post
 same-length-25 t c = search needs
@@ -312,7 +335,8 @@ returns-15 t c =
     λ σ h.
     let l = byte-inside h (at-builtin .before .before .before .before .before .peek .ensures) (at-builtin .before .before .before .c .given .1) in
     let v = either (c .before .before .before .before .before .before .before .before .before .before .match3 .came) (λ x. lettered-row _ (x .keys1)) (λ y. between-row _ (y .0 .rest .0 .0 .0 .0 .0 .1) (y .0 .rest .0 .0 .1) (y .3 .left) (y .4 .taken)) in
-    by (from-text (type-inner reading) σ (byte-at h (at-builtin .before .before .before .before .before .peek .ensures) (at-builtin .before .before .before .c .given .1)) (inner-wrapper _ _ σ (v .0) (no-letter _ _ (at-builtin .builtin .ensures) (at-enum-told2 .enum-told2 .given .1)) (v .1 .1) (v .1 .0 _)))
+    by (from-text (type-inner reading) σ (byte-at h (at-builtin .before .before .before .before .before .peek .ensures) (at-builtin .before .before .before .c .given .1))
+    (inner-wrapper _ _ σ (v .0) (no-letter _ _ (at-builtin .builtin .ensures) (at-enum-told2 .enum-told2 .given .1)) (v .1 .1) (v .1 .0 _)))
     (sooner (omega arith) (call-moved keep (at-builtin .before .moved .ensures) (c .before .before .before .before .before .before .wrap .ensures (v .0) (v .1 .0)) h (omega (arith, l))))
 
 pub enum-told-2 : (t : ℕ) → lts.Need-enum-told-2 (ty-inner-calls t) (ty-inner-at t) ty-inner.Post

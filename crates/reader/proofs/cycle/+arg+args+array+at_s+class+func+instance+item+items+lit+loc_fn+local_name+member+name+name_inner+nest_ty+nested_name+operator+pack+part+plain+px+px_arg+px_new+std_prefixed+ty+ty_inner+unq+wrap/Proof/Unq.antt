@@ -107,8 +107,10 @@ source-name-requires t c κs =
 pub operator-requires : (t : ℕ) → lts.Need-operator-requires (unq-calls t) (unq-at t) unq.Post
 operator-requires t c κs =
     let at-c = c .before .before .before .before .before .before in
-    let at-start = before-c t at-c in
-    (omega (arith, at-start .pre .0, ap (λ (z : Parser). z .at) (at-c .before .before .before .moved .ensures), at-c .before .before .before .before .behind .ensures .0), (_, unq-ready (at-start .pre .1 .1) (at-c .before .before .before .before .behind .ensures) (at-c .before .before .before .moved .ensures)))
+    let at-start = before-c t at-c in (
+      omega (arith, at-start .pre .0, ap (λ (z : Parser). z .at) (at-c .before .before .before .moved .ensures), at-c .before .before .before .before .behind .ensures .0),
+      (_, unq-ready (at-start .pre .1 .1) (at-c .before .before .before .before .behind .ensures) (at-c .before .before .before .moved .ensures)),
+    )
 
 pub same-length : (t : ℕ) → lts.Need-same-length (unq-calls t) (unq-at t) unq.Post
 same-length t c = search needs
@@ -117,7 +119,9 @@ pub returns-4 : (t : ℕ) → lts.Need-returns-4 (unq-calls t) (unq-at t) unq.Po
 unfolding b
 returns-4 t c =
     let at-c = c .before .before .before .before .before .before .before .before .before in
-    λ σ h. unq-structor h (at-c .before .before .before .before .behind .ensures) (at-c .before .before .before .moved .ensures) (at-c .before .before .peek .ensures) (at-c .c .given .1) (c .before .before .before .before .before .before .if1 .left) (c .before .before .before .before .moved2 .ensures) 67 refl (λ u. unqualified-C u σ) (c .before .before .before .before .before .before .before .match2 .keys1) (c .before .before .put .ensures)
+    λ σ h. unq-structor h (at-c .before .before .before .before .behind .ensures) (at-c .before .before .before .moved .ensures) (at-c .before .before .peek .ensures)
+    (at-c .c .given .1) (c .before .before .before .before .before .before .if1 .left) (c .before .before .before .before .moved2 .ensures) 67 refl (λ u. unqualified-C u σ)
+    (c .before .before .before .before .before .before .before .match2 .keys1) (c .before .before .put .ensures)
 
 pub same-length-2 : (t : ℕ) → lts.Need-same-length-2 (unq-calls t) (unq-at t) unq.Post
 same-length-2 t c = search needs
@@ -126,7 +130,9 @@ pub returns-5 : (t : ℕ) → lts.Need-returns-5 (unq-calls t) (unq-at t) unq.Po
 unfolding b
 returns-5 t c =
     let at-c = c .before .before .before .before .before .before .before .before .before in
-    λ σ h. unq-structor h (at-c .before .before .before .before .behind .ensures) (at-c .before .before .before .moved .ensures) (at-c .before .before .peek .ensures) (at-c .c .given .1) (c .before .before .before .before .before .before .if2 .left) (c .before .before .before .before .moved3 .ensures) 68 refl (λ u. unqualified-D u σ) (c .before .before .before .before .before .before .before .match2 .keys2) (c .before .before .put2 .ensures)
+    λ σ h. unq-structor h (at-c .before .before .before .before .behind .ensures) (at-c .before .before .before .moved .ensures) (at-c .before .before .peek .ensures)
+    (at-c .c .given .1) (c .before .before .before .before .before .before .if2 .left) (c .before .before .before .before .moved3 .ensures) 68 refl (λ u. unqualified-D u σ)
+    (c .before .before .before .before .before .before .before .match2 .keys2) (c .before .before .put2 .ensures)
 
 pub same-length-3 : (t : ℕ) → lts.Need-same-length-3 (unq-calls t) (unq-at t) unq.Post
 same-length-3 t c = search needs
@@ -134,7 +140,8 @@ same-length-3 t c = search needs
 pub returns-6 : (t : ℕ) → lts.Need-returns-6 (unq-calls t) (unq-at t) unq.Post
 returns-6 t c =
     let at-c = c .before .before .before .before .before .before .before in
-    λ σ h. unq-U h (at-c .before .before .before .before .behind .ensures) (at-c .before .before .before .moved .ensures) (at-c .before .before .peek .ensures) (at-c .c .given .1) (c .before .before .before .before .before .match2 .keys3) (c .before .before .before .moved4 .ensures) (c .before .before .unnamed-type-name .ensures _ _)
+    λ σ h. unq-U h (at-c .before .before .before .before .behind .ensures) (at-c .before .before .before .moved .ensures) (at-c .before .before .peek .ensures) (at-c .c .given .1)
+    (c .before .before .before .before .before .match2 .keys3) (c .before .before .before .moved4 .ensures) (c .before .before .unnamed-type-name .ensures _ _)
 
 pub same-length-4 : (t : ℕ) → lts.Need-same-length-4 (unq-calls t) (unq-at t) unq.Post
 same-length-4 t c = search needs
@@ -142,7 +149,10 @@ same-length-4 t c = search needs
 pub returns-7 : (t : ℕ) → lts.Need-returns-7 (unq-calls t) (unq-at t) unq.Post
 returns-7 t c =
     let at-c = c .before .before .before .before .before .before .before .before in
-    λ σ h. unq-digit h (at-c .before .before .before .before .behind .ensures) (at-c .before .before .before .moved .ensures) (at-c .before .before .peek .ensures) (at-c .c .given .1) (c .before .before .before .before .before .before .match2 .rest .0 .0 .1) (c .before .before .before .before .before .before .match2 .rest .0 .1) (c .before .before .before .before .before .before .match2 .rest .1) (digit-in _ (c .before .before .before .before .before .if3 .left) (c .before .before .before .before .if4 .taken)) (c .before .before .source-name .ensures _ _)
+    λ σ h. unq-digit h (at-c .before .before .before .before .behind .ensures) (at-c .before .before .before .moved .ensures) (at-c .before .before .peek .ensures)
+    (at-c .c .given .1) (c .before .before .before .before .before .before .match2 .rest .0 .0 .1) (c .before .before .before .before .before .before .match2 .rest .0 .1)
+    (c .before .before .before .before .before .before .match2 .rest .1)
+    (digit-in _ (c .before .before .before .before .before .if3 .left) (c .before .before .before .before .if4 .taken)) (c .before .before .source-name .ensures _ _)
 
 pub same-length-5 : (t : ℕ) → lts.Need-same-length-5 (unq-calls t) (unq-at t) unq.Post
 same-length-5 t c = search needs
@@ -156,4 +166,9 @@ same-length-7 t c = search needs
 pub returns-8 : (t : ℕ) → lts.Need-returns-8 (unq-calls t) (unq-at t) unq.Post
 returns-8 t c =
     let at-c = c .before .before .before .before .before .before .before .before .before .before .before .before .before in
-    λ σ h. unq-operator h (at-c .before .before .before .before .behind .ensures) (at-c .before .before .before .moved .ensures) (at-c .before .before .peek .ensures) (at-c .c .given .1) (c .before .before .before .before .before .before .before .before .before .before .before .match2 .rest .0 .0 .1) (c .before .before .before .before .before .before .before .before .before .before .before .match2 .rest .0 .1) (c .before .before .before .before .before .before .before .before .before .before .before .match2 .rest .1) (either (c .before .before .before .before .before .before .before .before .before .before .if3 .came) (λ x. digit-not _ (λ i. omega (arith, i, x .taken))) (λ x. digit-not _ (λ i. x .1 .left))) (c .before .before .before .before .before .before .operator .ensures)
+    λ σ h. unq-operator h (at-c .before .before .before .before .behind .ensures) (at-c .before .before .before .moved .ensures) (at-c .before .before .peek .ensures)
+    (at-c .c .given .1) (c .before .before .before .before .before .before .before .before .before .before .before .match2 .rest .0 .0 .1)
+    (c .before .before .before .before .before .before .before .before .before .before .before .match2 .rest .0 .1)
+    (c .before .before .before .before .before .before .before .before .before .before .before .match2 .rest .1)
+    (either (c .before .before .before .before .before .before .before .before .before .before .if3 .came) (λ x. digit-not _ (λ i. omega (arith, i, x .taken)))
+    (λ x. digit-not _ (λ i. x .1 .left))) (c .before .before .before .before .before .before .operator .ensures)
