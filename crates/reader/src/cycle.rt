@@ -1,4 +1,16 @@
-// Names, types, template arguments and literals. Each reading falls with the bytes that are left.
+// Names, types, template arguments and literals. Each reading falls with the bytes that are left. The order is Grammar.antt's.
+// A file's name has at most 255 bytes, and the proof's folder bears the names of all members; so some are not the Rust's:
+//
+//   instance, at_s               shared by name_inner, std_prefixed and ty_inner: with arguments, at S
+//   plain                        name_inner, elsewhere than at N, S, L and Z
+//   loc_fn                       mangled_name_until_e, params_until_e
+//   px, px_arg, px_new, part     the loop of nested_name: a prefix, its arguments, a part that is an entry, a part's text
+//   unq, operator                unqualified_name, operator_name
+//   wrap, func, array, member    ty_inner: P R O C K V r, F, A, M
+//   nest_ty, class               ty_inner: N, a digit
+//   items, item                  the loops of template_args, params and params_until_e
+//   args, arg, pack              template_args, template_arg, J in template_arg
+//   lit                          expr_primary
 use crate::instances;
 use crate::lists;
 use crate::lists::Kind;
@@ -26,411 +38,6 @@ ghost use Rattle.parser.specs.Holds.{mem, Ready, Reads, keep};
 ghost use Rattle.reader.specs.Cycle.{ReadsWrapped, Instance};
 ghost use Rattle.reader.specs.Instances.{instance-of, at-S-of};
 ghost use Rattle.reader.specs.Lists.{ReadsItems, ReadsItem, ReadsPart, ReadsNewPart, ReadsPartText};
-
-// <type>
-pub fn ty(s: &[u8], text: &mut [u8], store: &mut [u8], ends: &mut [u16], p: Parser) -> Read
-    requires { ⌜ Ready (now s) (mem (now text) (now store) (now ends)) p ⌝ }
-    ensures { λ r. ⌜ Reads (reading ⟨type⟩) (keep (p .depth + 1)) (p .at + 1) (now (s .entry))
-        (mem (now (text .entry)) (now (store .entry)) (now (ends .entry))) (mem (now (text .exit)) (now (store .exit)) (now (ends .exit))) p r ⌝ }
-{
-    let depth = p.depth;
-    if Parser::DEPTH <= depth {
-        return Read::Refused(8);
-    }
-    let got = ty_inner(s, text, store, ends, p.enter());
-    let Read::Text(next, n) = got else {
-        return got;
-    };
-    Read::Text(next.leave(depth), n)
-}
-
-pub fn ty_inner(s: &[u8], text: &mut [u8], store: &mut [u8], ends: &mut [u16], p: Parser) -> Read
-    requires { ⌜ Ready (now s) (mem (now text) (now store) (now ends)) p ⌝ }
-    ensures { λ r. ⌜ Reads (type-inner reading) (keep (p .depth)) (p .at + 1) (now (s .entry))
-        (mem (now (text .entry)) (now (store .entry)) (now (ends .entry))) (mem (now (text .exit)) (now (store .exit)) (now (ends .exit))) p r ⌝ }
-{
-    let Peeked::Byte(c) = p.peek(s) else {
-        return Read::Refused(4);
-    };
-    let at = p.at;
-    let behind = p.moved(at + 1);
-    if let Picked::At(w) = codes::builtin(c) {
-        return names::word(text, behind, w);
-    }
-    match c {
-        b'P' | b'R' | b'O' | b'C' | b'K' | b'V' | b'r' => wrap(s, text, store, ends, behind, c),
-        b'A' => array(s, text, store, ends, behind),
-        b'F' => func(s, text, store, ends, behind),
-        b'M' => member(s, text, store, ends, behind),
-        b'D' => types::builtin_d(s, text, p),
-        b'u' => names::source_name(s, text, behind),
-        b'N' => nest_ty(s, text, store, ends, p),
-        b'T' => names::template_param(s, text, store, ends, p),
-        b'S' => at_s(s, text, store, ends, p, false),
-        b'0'..=b'9' => class(s, text, store, ends, p),
-        _ => Read::Refused(4),
-    }
-}
-
-// P R O C K V r <type>, behind the letter
-fn wrap(s: &[u8], text: &mut [u8], store: &mut [u8], ends: &mut [u16], p: Parser, c: u8) -> Read
-    requires { ⌜ Ready (now s) (mem (now text) (now store) (now ends)) p ⌝ }
-    ensures { λ r. ⌜ ReadsWrapped c (now (s .entry))
-        (mem (now (text .entry)) (now (store .entry)) (now (ends .entry))) (mem (now (text .exit)) (now (store .exit)) (now (ends .exit))) p r ⌝ }
-{
-    let got = ty(s, text, store, ends, p);
-    let Read::Text(next, n) = got else {
-        return got;
-    };
-    types::wrap(text, store, ends, next, n, c)
-}
-
-// <array-type> ::= A [<dimension>] _ <type>, behind A
-fn array(s: &[u8], text: &mut [u8], store: &mut [u8], ends: &mut [u16], p: Parser) -> Read
-    requires { ⌜ Ready (now s) (mem (now text) (now store) (now ends)) p ⌝ }
-    ensures { λ r. ⌜ Reads (array-type reading) (keep (p .depth)) (p .at + 1) (now (s .entry))
-        (mem (now (text .entry)) (now (store .entry)) (now (ends .entry))) (mem (now (text .exit)) (now (store .exit)) (now (ends .exit))) p r ⌝ }
-{
-    let from = p.at;
-    let to = names::before(s, from, b'_');
-    if s.len() <= to {
-        return Read::Refused(4);
-    }
-    let got = ty(s, text, store, ends, p.moved(to + 1));
-    let Read::Text(next, n) = got else {
-        return got;
-    };
-    let open = memory::put(text, next, b" [");
-    let bound = memory::put_part(s, text, open, from, to);
-    let close = memory::put(text, bound, b"]");
-    memory::given(close, n + 3 + (to - from))
-}
-
-// <function-type> ::= F <type> <type>* E, behind F
-fn func(s: &[u8], text: &mut [u8], store: &mut [u8], ends: &mut [u16], p: Parser) -> Read
-    requires { ⌜ Ready (now s) (mem (now text) (now store) (now ends)) p ⌝ }
-    ensures { λ r. ⌜ Reads (function-type reading) (keep (p .depth)) (p .at + 1) (now (s .entry))
-        (mem (now (text .entry)) (now (store .entry)) (now (ends .entry))) (mem (now (text .exit)) (now (store .exit)) (now (ends .exit))) p r ⌝ }
-{
-    let got = ty(s, text, store, ends, p);
-    let Read::Text(returned, r) = got else {
-        return got;
-    };
-    let open = memory::put(text, returned, b" (\x01)(");
-    let list = items(s, text, store, ends, open, Kind::Types);
-    let Texts::Listed(last, n, count) = list else {
-        return lists::refused(list);
-    };
-    let at = last.at;
-    if !names::here(s, at, b'E') {
-        return Read::Refused(4);
-    }
-    let next = last.moved(at + 1);
-    lists::func_end(text, store, ends, next, r, n, count)
-}
-
-// <pointer-to-member-type> ::= M <type> <type>, behind M
-fn member(s: &[u8], text: &mut [u8], store: &mut [u8], ends: &mut [u16], p: Parser) -> Read
-    requires { ⌜ Ready (now s) (mem (now text) (now store) (now ends)) p ⌝ }
-    ensures { λ r. ⌜ Reads (pointer-to-member-type reading) (keep (p .depth)) (p .at + 1) (now (s .entry))
-        (mem (now (text .entry)) (now (store .entry)) (now (ends .entry))) (mem (now (text .exit)) (now (store .exit)) (now (ends .exit))) p r ⌝ }
-{
-    let class = ty(s, text, store, ends, p);
-    let Read::Text(a, c) = class else {
-        return class;
-    };
-    let got = ty(s, text, store, ends, a);
-    let Read::Text(b, m) = got else {
-        return got;
-    };
-    types::wrap_member(text, store, ends, b, c, m)
-}
-
-// <class-enum-type> ::= <nested-name>
-fn nest_ty(s: &[u8], text: &mut [u8], store: &mut [u8], ends: &mut [u16], p: Parser) -> Read
-    requires { ⌜ Ready (now s) (mem (now text) (now store) (now ends)) p ⌝ }
-    ensures { λ r. ⌜ Reads (nested-type reading) (keep (p .depth)) (p .at + 1) (now (s .entry))
-        (mem (now (text .entry)) (now (store .entry)) (now (ends .entry))) (mem (now (text .exit)) (now (store .exit)) (now (ends .exit))) p r ⌝ }
-{
-    let got = nested_name(s, text, store, ends, p);
-    let Read::Text(next, n) = got else {
-        return got;
-    };
-    if memory::newest_entry(text, store, ends, next, n) {
-        return got;
-    }
-    memory::recorded(text, store, ends, next, n)
-}
-
-// <class-enum-type> ::= <source-name> [<template-args>]
-fn class(s: &[u8], text: &mut [u8], store: &mut [u8], ends: &mut [u16], p: Parser) -> Read
-    requires { ⌜ Ready (now s) (mem (now text) (now store) (now ends)) p ⌝ }
-    ensures { λ r. ⌜ Reads (class-type reading) (keep (p .depth)) (p .at + 1) (now (s .entry))
-        (mem (now (text .entry)) (now (store .entry)) (now (ends .entry))) (mem (now (text .exit)) (now (store .exit)) (now (ends .exit))) p r ⌝ }
-{
-    let got = names::source_name(s, text, p);
-    let Read::Text(a, n) = got else {
-        return got;
-    };
-    let kept = memory::push_sub(text, store, ends, a, n);
-    let Read::Text(b, _) = kept else {
-        return kept;
-    };
-    let at = b.at;
-    if names::here(s, at, b'I') {
-        return instance(s, text, store, ends, b, n, false);
-    }
-    kept
-}
-
-// A list of types or of template arguments.
-pub fn items(
-    s: &[u8],
-    text: &mut [u8],
-    store: &mut [u8],
-    ends: &mut [u16],
-    p: Parser,
-    kind: Kind,
-) -> Texts
-    requires { ⌜ Ready (now s) (mem (now text) (now store) (now ends)) p ⌝ }
-    ensures { λ r. ⌜ ReadsItems kind (now (s .entry))
-        (mem (now (text .entry)) (now (store .entry)) (now (ends .entry))) (mem (now (text .exit)) (now (store .exit)) (now (ends .exit))) p r ⌝ }
-{
-    let mut next = p;
-    let mut n: usize = 0;
-    let mut count: usize = 0;
-    loop {
-        let Peeked::Byte(c) = next.peek(s) else {
-            return Texts::Listed(next, n, count);
-        };
-        if lists::stops(kind, c) {
-            return Texts::Listed(next, n, count);
-        }
-        if 0 < count {
-            next = memory::put(text, next, b", ");
-            n = memory::sum(n, 2);
-        }
-        let got = item(s, text, store, ends, next, kind);
-        let Read::Text(after, m) = got else {
-            return lists::unlisted(got);
-        };
-        next = after;
-        n = memory::sum(n, m);
-        count += 1;
-    }
-}
-
-// One text of a list, which begins with c.
-fn item(
-    s: &[u8],
-    text: &mut [u8],
-    store: &mut [u8],
-    ends: &mut [u16],
-    p: Parser,
-    kind: Kind,
-) -> Read
-    requires { ⌜ Ready (now s) (mem (now text) (now store) (now ends)) p ⌝ }
-    ensures { λ r. ⌜ ReadsItem kind (now (s .entry))
-        (mem (now (text .entry)) (now (store .entry)) (now (ends .entry))) (mem (now (text .exit)) (now (store .exit)) (now (ends .exit))) p r ⌝ }
-{
-    match kind {
-        Kind::Parameters | Kind::Types => ty(s, text, store, ends, p),
-        Kind::Arguments => {
-            let got = arg(s, text, store, ends, p);
-            let Read::Text(next, n) = got else {
-                return got;
-            };
-            memory::push_arg(text, store, ends, next, n)
-        }
-    }
-}
-
-// <template-args> ::= I <template-arg>* E
-pub fn args(s: &[u8], text: &mut [u8], store: &mut [u8], ends: &mut [u16], p: Parser) -> Read
-    requires { ⌜ Ready (now s) (mem (now text) (now store) (now ends)) p ⌝ }
-    ensures { λ r. ⌜ Reads (reading ⟨template-args⟩) (keep (p .depth + 1)) (p .at + 1) (now (s .entry))
-        (mem (now (text .entry)) (now (store .entry)) (now (ends .entry))) (mem (now (text .exit)) (now (store .exit)) (now (ends .exit))) p r ⌝ }
-{
-    let at = p.at;
-    if !names::here(s, at, b'I') {
-        return Read::Refused(4);
-    }
-    let depth = p.depth;
-    if depth >= Parser::DEPTH {
-        return Read::Refused(8);
-    }
-    let open = memory::put(text, p.moved(at + 1).enter(), b"<");
-    let list = items(s, text, store, ends, open, Kind::Arguments);
-    let Texts::Listed(last, n, _) = list else {
-        return lists::refused(list);
-    };
-    let end = last.at;
-    if !names::here(s, end, b'E') {
-        return Read::Refused(4);
-    }
-    let next = last.moved(end + 1).leave(depth);
-    let top = next.top;
-    if text[top - 1] == b'>' {
-        let close = memory::put(text, next, b" >");
-        return memory::given(close, memory::sum(n, 3));
-    }
-    let close = memory::put(text, next, b">");
-    memory::given(close, memory::sum(n, 2))
-}
-
-// <template-arg> ::= <type> | X <expression> E | <expr-primary> | J <template-arg>* E
-pub fn arg(s: &[u8], text: &mut [u8], store: &mut [u8], ends: &mut [u16], p: Parser) -> Read
-    requires { ⌜ Ready (now s) (mem (now text) (now store) (now ends)) p ⌝ }
-    ensures { λ r. ⌜ Reads (reading ⟨template-arg⟩) (keep (p .depth)) (p .at + 1) (now (s .entry))
-        (mem (now (text .entry)) (now (store .entry)) (now (ends .entry))) (mem (now (text .exit)) (now (store .exit)) (now (ends .exit))) p r ⌝ }
-{
-    let at = p.at;
-    if names::here(s, at, b'L') {
-        return lit(s, text, store, ends, p);
-    }
-    if names::here(s, at, b'X') {
-        let Skipped::To(end) = leaf::expression(s, at + 1) else {
-            return Read::Refused(4);
-        };
-        return Read::Text(memory::put(text, p.moved(end), b"..."), 3);
-    }
-    if names::here(s, at, b'J') {
-        return pack(s, text, store, ends, p.moved(at + 1));
-    }
-    ty(s, text, store, ends, p)
-}
-
-// J <template-arg>* E, behind J. Packs inside one another are read in one loop, up to 64 in the outermost: `outer` has, for
-// each that is open around the innermost, what n has for that: the bytes of its texts so far, with two more for each text.
-fn pack(s: &[u8], text: &mut [u8], store: &mut [u8], ends: &mut [u16], p: Parser) -> Read
-    requires { ⌜ Ready (now s) (mem (now text) (now store) (now ends)) p ⌝ }
-    ensures { λ r. ⌜ Reads (pack reading) (keep (p .depth)) (p .at + 1) (now (s .entry))
-        (mem (now (text .entry)) (now (store .entry)) (now (ends .entry))) (mem (now (text .exit)) (now (store .exit)) (now (ends .exit))) p r ⌝ }
-{
-    let mut next = p;
-    let mut outer = [0usize; 64];
-    let mut level: usize = 0;
-    let mut n: usize = 0;
-    loop {
-        let Peeked::Byte(c) = next.peek(s) else {
-            return Read::Refused(4);
-        };
-        let at = next.at;
-        if c == b'E' {
-            next = next.moved(at + 1);
-            if lists::pack_ends(level, n) {
-                return memory::given(next, lists::joined_size(n));
-            }
-            level -= 1;
-            n = memory::sum(outer[level], lists::joined_size(n) + 2);
-            continue;
-        }
-        next = lists::comma(text, next, n);
-        if lists::pack_opens(level, c) {
-            outer[level] = n;
-            level += 1;
-            n = 0;
-            next = next.moved(at + 1);
-            continue;
-        }
-        let got = arg(s, text, store, ends, next);
-        let Read::Text(after, m) = got else {
-            return got;
-        };
-        next = after;
-        n = memory::sum(n, m + 2);
-    }
-}
-
-// <expr-primary> ::= L <type> <value number> E | L _ <name> E
-fn lit(s: &[u8], text: &mut [u8], store: &mut [u8], ends: &mut [u16], p: Parser) -> Read
-    requires { ⌜ Ready (now s) (mem (now text) (now store) (now ends)) p ⌝ }
-    ensures { λ r. ⌜ Reads (reading ⟨expr-primary⟩) (keep (p .depth)) (p .at + 1) (now (s .entry))
-        (mem (now (text .entry)) (now (store .entry)) (now (ends .entry))) (mem (now (text .exit)) (now (store .exit)) (now (ends .exit))) p r ⌝ }
-{
-    let first = p.at;
-    if !names::here(s, first, b'L') {
-        return Read::Refused(4);
-    }
-    let at = first + 1;
-    if names::here(s, at, b'_') {
-        let got = name(s, text, store, ends, p.moved(at + 1));
-        let Read::Text(next, n) = got else {
-            return got;
-        };
-        let end = next.at;
-        if names::here(s, end, b'E') {
-            return Read::Text(next.moved(end + 1), n);
-        }
-        return got;
-    }
-    let got = ty(s, text, store, ends, p.moved(at));
-    let Read::Text(next, n) = got else {
-        return got;
-    };
-    let from = next.at;
-    let to = names::before(s, from, b'E');
-    if s.len() <= to {
-        return Read::Refused(4);
-    }
-    literal::literal(s, text, next.moved(to + 1), n, from, to)
-}
-
-// <name>
-pub fn name(s: &[u8], text: &mut [u8], store: &mut [u8], ends: &mut [u16], p: Parser) -> Read
-    requires { ⌜ Ready (now s) (mem (now text) (now store) (now ends)) p ⌝ }
-    ensures { λ r. ⌜ Reads (reading ⟨name⟩) (keep (p .depth + 1)) (p .at + 1) (now (s .entry))
-        (mem (now (text .entry)) (now (store .entry)) (now (ends .entry))) (mem (now (text .exit)) (now (store .exit)) (now (ends .exit))) p r ⌝ }
-{
-    let depth = p.depth;
-    if Parser::DEPTH <= depth {
-        return Read::Refused(8);
-    }
-    let got = name_inner(s, text, store, ends, p.enter());
-    let Read::Text(next, n) = got else {
-        return got;
-    };
-    Read::Text(next.leave(depth), n)
-}
-
-fn name_inner(s: &[u8], text: &mut [u8], store: &mut [u8], ends: &mut [u16], p: Parser) -> Read
-    requires { ⌜ Ready (now s) (mem (now text) (now store) (now ends)) p ⌝ }
-    ensures { λ r. ⌜ Reads (name-inner reading) (keep (p .depth)) (p .at + 1) (now (s .entry))
-        (mem (now (text .entry)) (now (store .entry)) (now (ends .entry))) (mem (now (text .exit)) (now (store .exit)) (now (ends .exit))) p r ⌝ }
-{
-    let Peeked::Byte(c) = p.peek(s) else {
-        return Read::Refused(4);
-    };
-    let at = p.at;
-    match c {
-        b'N' => nested_name(s, text, store, ends, p),
-        b'S' => at_s(s, text, store, ends, p, true),
-        b'L' => name(s, text, store, ends, p.moved(at + 1)),
-        b'Z' => local_name(s, text, store, ends, p),
-        _ => plain(s, text, store, ends, p),
-    }
-}
-
-// <name> ::= <unscoped-name> [<template-args>]
-fn plain(s: &[u8], text: &mut [u8], store: &mut [u8], ends: &mut [u16], p: Parser) -> Read
-    requires { ⌜ Ready (now s) (mem (now text) (now store) (now ends)) p ⌝ }
-    ensures { λ r. ⌜ Reads (unscoped-name reading) (keep (p .depth)) (p .at + 1) (now (s .entry))
-        (mem (now (text .entry)) (now (store .entry)) (now (ends .entry))) (mem (now (text .exit)) (now (store .exit)) (now (ends .exit))) p r ⌝ }
-{
-    let got = unq(s, text, store, ends, p);
-    let Read::Text(next, n) = got else {
-        return got;
-    };
-    let end = next.at;
-    if !names::here(s, end, b'I') {
-        return got;
-    }
-    let kept = memory::push_sub(text, store, ends, next, n);
-    let Read::Text(after, _) = kept else {
-        return kept;
-    };
-    instance(s, text, store, ends, after, n, true)
-}
 
 // A name, or else a type, of x bytes with its arguments.
 fn instance(
@@ -507,31 +114,25 @@ fn at_s(
     got
 }
 
-// <local-name> ::= Z <function encoding> E <entity name> | Z <function encoding> E s
-fn local_name(s: &[u8], text: &mut [u8], store: &mut [u8], ends: &mut [u16], p: Parser) -> Read
+// <name> ::= <unscoped-name> [<template-args>]
+fn plain(s: &[u8], text: &mut [u8], store: &mut [u8], ends: &mut [u16], p: Parser) -> Read
     requires { ⌜ Ready (now s) (mem (now text) (now store) (now ends)) p ⌝ }
-    ensures { λ r. ⌜ Reads (local-name reading) (keep (p .depth)) (p .at + 1) (now (s .entry))
+    ensures { λ r. ⌜ Reads (unscoped-name reading) (keep (p .depth)) (p .at + 1) (now (s .entry))
         (mem (now (text .entry)) (now (store .entry)) (now (ends .entry))) (mem (now (text .exit)) (now (store .exit)) (now (ends .exit))) p r ⌝ }
 {
-    let at = p.at;
-    if !names::here(s, at, b'Z') {
-        return Read::Refused(4);
-    }
-    let got = loc_fn(s, text, store, ends, p.moved(at + 1));
-    let Read::Text(outer, n) = got else {
+    let got = unq(s, text, store, ends, p);
+    let Read::Text(next, n) = got else {
         return got;
     };
-    let end = outer.at;
-    if names::here(s, end, b's') {
-        let next = memory::put(text, outer.moved(end + 1), b"::string literal");
-        return memory::given(next, n + 16);
+    let end = next.at;
+    if !names::here(s, end, b'I') {
+        return got;
     }
-    let colons = memory::put(text, outer, b"::");
-    let inner = name(s, text, store, ends, colons);
-    let Read::Text(next, m) = inner else {
-        return inner;
+    let kept = memory::push_sub(text, store, ends, next, n);
+    let Read::Text(after, _) = kept else {
+        return kept;
     };
-    memory::given(next, n + m + 2)
+    instance(s, text, store, ends, after, n, true)
 }
 
 // <name> <type>* E
@@ -564,45 +165,66 @@ fn loc_fn(s: &[u8], text: &mut [u8], store: &mut [u8], ends: &mut [u16], p: Pars
     memory::given(close, n + m + 2)
 }
 
-// <nested-name> ::= N [<CV-qualifiers>] [<ref-qualifier>] <prefix> <unqualified-name> E
-fn nested_name(s: &[u8], text: &mut [u8], store: &mut [u8], ends: &mut [u16], p: Parser) -> Read
+// <local-name> ::= Z <function encoding> E <entity name> | Z <function encoding> E s
+fn local_name(s: &[u8], text: &mut [u8], store: &mut [u8], ends: &mut [u16], p: Parser) -> Read
     requires { ⌜ Ready (now s) (mem (now text) (now store) (now ends)) p ⌝ }
-    ensures { λ r. ⌜ Reads (reading ⟨nested-name⟩) (keep (p .depth)) (p .at + 1) (now (s .entry))
+    ensures { λ r. ⌜ Reads (local-name reading) (keep (p .depth)) (p .at + 1) (now (s .entry))
         (mem (now (text .entry)) (now (store .entry)) (now (ends .entry))) (mem (now (text .exit)) (now (store .exit)) (now (ends .exit))) p r ⌝ }
 {
     let at = p.at;
-    if !names::here(s, at, b'N') {
+    if !names::here(s, at, b'Z') {
         return Read::Refused(4);
     }
-    let from = at + 1;
-    let to = leaf::qualifiers(s, from);
-    let mut next = p.moved(to);
-    let mut parts = Parts {
-        n: 0,
-        last: 0,
-        count: 0,
-        structor: false,
+    let got = loc_fn(s, text, store, ends, p.moved(at + 1));
+    let Read::Text(outer, n) = got else {
+        return got;
     };
-    loop {
-        let Peeked::Byte(c) = next.peek(s) else {
-            return Read::Refused(4);
-        };
-        if c == b'E' {
-            let end = next.at;
-            let named = next.moved(end + 1).with_cv(from, to);
-            let n = parts.n;
-            if parts.structor {
-                return memory::given(named.with_templated(false), n);
-            }
-            return memory::given(named, n);
-        }
-        let got = px(s, text, store, ends, next, parts, c);
-        let Prefix::Parts(after, more) = got else {
-            return lists::unprefixed(got);
-        };
-        next = after;
-        parts = more;
+    let end = outer.at;
+    if names::here(s, end, b's') {
+        let next = memory::put(text, outer.moved(end + 1), b"::string literal");
+        return memory::given(next, n + 16);
     }
+    let colons = memory::put(text, outer, b"::");
+    let inner = name(s, text, store, ends, colons);
+    let Read::Text(next, m) = inner else {
+        return inner;
+    };
+    memory::given(next, n + m + 2)
+}
+
+fn name_inner(s: &[u8], text: &mut [u8], store: &mut [u8], ends: &mut [u16], p: Parser) -> Read
+    requires { ⌜ Ready (now s) (mem (now text) (now store) (now ends)) p ⌝ }
+    ensures { λ r. ⌜ Reads (name-inner reading) (keep (p .depth)) (p .at + 1) (now (s .entry))
+        (mem (now (text .entry)) (now (store .entry)) (now (ends .entry))) (mem (now (text .exit)) (now (store .exit)) (now (ends .exit))) p r ⌝ }
+{
+    let Peeked::Byte(c) = p.peek(s) else {
+        return Read::Refused(4);
+    };
+    let at = p.at;
+    match c {
+        b'N' => nested_name(s, text, store, ends, p),
+        b'S' => at_s(s, text, store, ends, p, true),
+        b'L' => name(s, text, store, ends, p.moved(at + 1)),
+        b'Z' => local_name(s, text, store, ends, p),
+        _ => plain(s, text, store, ends, p),
+    }
+}
+
+// <name>
+pub fn name(s: &[u8], text: &mut [u8], store: &mut [u8], ends: &mut [u16], p: Parser) -> Read
+    requires { ⌜ Ready (now s) (mem (now text) (now store) (now ends)) p ⌝ }
+    ensures { λ r. ⌜ Reads (reading ⟨name⟩) (keep (p .depth + 1)) (p .at + 1) (now (s .entry))
+        (mem (now (text .entry)) (now (store .entry)) (now (ends .entry))) (mem (now (text .exit)) (now (store .exit)) (now (ends .exit))) p r ⌝ }
+{
+    let depth = p.depth;
+    if Parser::DEPTH <= depth {
+        return Read::Refused(8);
+    }
+    let got = name_inner(s, text, store, ends, p.enter());
+    let Read::Text(next, n) = got else {
+        return got;
+    };
+    Read::Text(next.leave(depth), n)
 }
 
 // One part more, which begins with c.
@@ -723,6 +345,47 @@ fn part(s: &[u8], text: &mut [u8], store: &mut [u8], ends: &mut [u16], p: Parser
     unq(s, text, store, ends, p)
 }
 
+// <nested-name> ::= N [<CV-qualifiers>] [<ref-qualifier>] <prefix> <unqualified-name> E
+fn nested_name(s: &[u8], text: &mut [u8], store: &mut [u8], ends: &mut [u16], p: Parser) -> Read
+    requires { ⌜ Ready (now s) (mem (now text) (now store) (now ends)) p ⌝ }
+    ensures { λ r. ⌜ Reads (reading ⟨nested-name⟩) (keep (p .depth)) (p .at + 1) (now (s .entry))
+        (mem (now (text .entry)) (now (store .entry)) (now (ends .entry))) (mem (now (text .exit)) (now (store .exit)) (now (ends .exit))) p r ⌝ }
+{
+    let at = p.at;
+    if !names::here(s, at, b'N') {
+        return Read::Refused(4);
+    }
+    let from = at + 1;
+    let to = leaf::qualifiers(s, from);
+    let mut next = p.moved(to);
+    let mut parts = Parts {
+        n: 0,
+        last: 0,
+        count: 0,
+        structor: false,
+    };
+    loop {
+        let Peeked::Byte(c) = next.peek(s) else {
+            return Read::Refused(4);
+        };
+        if c == b'E' {
+            let end = next.at;
+            let named = next.moved(end + 1).with_cv(from, to);
+            let n = parts.n;
+            if parts.structor {
+                return memory::given(named.with_templated(false), n);
+            }
+            return memory::given(named, n);
+        }
+        let got = px(s, text, store, ends, next, parts, c);
+        let Prefix::Parts(after, more) = got else {
+            return lists::unprefixed(got);
+        };
+        next = after;
+        parts = more;
+    }
+}
+
 // <unqualified-name> ::= <operator-name> | <ctor-dtor-name> | <source-name> | <unnamed-type-name>
 fn unq(s: &[u8], text: &mut [u8], store: &mut [u8], ends: &mut [u16], p: Parser) -> Read
     requires { ⌜ Ready (now s) (mem (now text) (now store) (now ends)) p ⌝ }
@@ -782,4 +445,353 @@ fn operator(s: &[u8], text: &mut [u8], store: &mut [u8], ends: &mut [u16], p: Pa
         return got;
     };
     memory::given(next.with_templated(false), n + 9)
+}
+
+// P R O C K V r <type>, behind the letter
+fn wrap(s: &[u8], text: &mut [u8], store: &mut [u8], ends: &mut [u16], p: Parser, c: u8) -> Read
+    requires { ⌜ Ready (now s) (mem (now text) (now store) (now ends)) p ⌝ }
+    ensures { λ r. ⌜ ReadsWrapped c (now (s .entry))
+        (mem (now (text .entry)) (now (store .entry)) (now (ends .entry))) (mem (now (text .exit)) (now (store .exit)) (now (ends .exit))) p r ⌝ }
+{
+    let got = ty(s, text, store, ends, p);
+    let Read::Text(next, n) = got else {
+        return got;
+    };
+    types::wrap(text, store, ends, next, n, c)
+}
+
+// <function-type> ::= F <type> <type>* E, behind F
+fn func(s: &[u8], text: &mut [u8], store: &mut [u8], ends: &mut [u16], p: Parser) -> Read
+    requires { ⌜ Ready (now s) (mem (now text) (now store) (now ends)) p ⌝ }
+    ensures { λ r. ⌜ Reads (function-type reading) (keep (p .depth)) (p .at + 1) (now (s .entry))
+        (mem (now (text .entry)) (now (store .entry)) (now (ends .entry))) (mem (now (text .exit)) (now (store .exit)) (now (ends .exit))) p r ⌝ }
+{
+    let got = ty(s, text, store, ends, p);
+    let Read::Text(returned, r) = got else {
+        return got;
+    };
+    let open = memory::put(text, returned, b" (\x01)(");
+    let list = items(s, text, store, ends, open, Kind::Types);
+    let Texts::Listed(last, n, count) = list else {
+        return lists::refused(list);
+    };
+    let at = last.at;
+    if !names::here(s, at, b'E') {
+        return Read::Refused(4);
+    }
+    let next = last.moved(at + 1);
+    lists::func_end(text, store, ends, next, r, n, count)
+}
+
+// <array-type> ::= A [<dimension>] _ <type>, behind A
+fn array(s: &[u8], text: &mut [u8], store: &mut [u8], ends: &mut [u16], p: Parser) -> Read
+    requires { ⌜ Ready (now s) (mem (now text) (now store) (now ends)) p ⌝ }
+    ensures { λ r. ⌜ Reads (array-type reading) (keep (p .depth)) (p .at + 1) (now (s .entry))
+        (mem (now (text .entry)) (now (store .entry)) (now (ends .entry))) (mem (now (text .exit)) (now (store .exit)) (now (ends .exit))) p r ⌝ }
+{
+    let from = p.at;
+    let to = names::before(s, from, b'_');
+    if s.len() <= to {
+        return Read::Refused(4);
+    }
+    let got = ty(s, text, store, ends, p.moved(to + 1));
+    let Read::Text(next, n) = got else {
+        return got;
+    };
+    let open = memory::put(text, next, b" [");
+    let bound = memory::put_part(s, text, open, from, to);
+    let close = memory::put(text, bound, b"]");
+    memory::given(close, n + 3 + (to - from))
+}
+
+// <pointer-to-member-type> ::= M <type> <type>, behind M
+fn member(s: &[u8], text: &mut [u8], store: &mut [u8], ends: &mut [u16], p: Parser) -> Read
+    requires { ⌜ Ready (now s) (mem (now text) (now store) (now ends)) p ⌝ }
+    ensures { λ r. ⌜ Reads (pointer-to-member-type reading) (keep (p .depth)) (p .at + 1) (now (s .entry))
+        (mem (now (text .entry)) (now (store .entry)) (now (ends .entry))) (mem (now (text .exit)) (now (store .exit)) (now (ends .exit))) p r ⌝ }
+{
+    let class = ty(s, text, store, ends, p);
+    let Read::Text(a, c) = class else {
+        return class;
+    };
+    let got = ty(s, text, store, ends, a);
+    let Read::Text(b, m) = got else {
+        return got;
+    };
+    types::wrap_member(text, store, ends, b, c, m)
+}
+
+// <class-enum-type> ::= <nested-name>
+fn nest_ty(s: &[u8], text: &mut [u8], store: &mut [u8], ends: &mut [u16], p: Parser) -> Read
+    requires { ⌜ Ready (now s) (mem (now text) (now store) (now ends)) p ⌝ }
+    ensures { λ r. ⌜ Reads (nested-type reading) (keep (p .depth)) (p .at + 1) (now (s .entry))
+        (mem (now (text .entry)) (now (store .entry)) (now (ends .entry))) (mem (now (text .exit)) (now (store .exit)) (now (ends .exit))) p r ⌝ }
+{
+    let got = nested_name(s, text, store, ends, p);
+    let Read::Text(next, n) = got else {
+        return got;
+    };
+    if memory::newest_entry(text, store, ends, next, n) {
+        return got;
+    }
+    memory::recorded(text, store, ends, next, n)
+}
+
+// <class-enum-type> ::= <source-name> [<template-args>]
+fn class(s: &[u8], text: &mut [u8], store: &mut [u8], ends: &mut [u16], p: Parser) -> Read
+    requires { ⌜ Ready (now s) (mem (now text) (now store) (now ends)) p ⌝ }
+    ensures { λ r. ⌜ Reads (class-type reading) (keep (p .depth)) (p .at + 1) (now (s .entry))
+        (mem (now (text .entry)) (now (store .entry)) (now (ends .entry))) (mem (now (text .exit)) (now (store .exit)) (now (ends .exit))) p r ⌝ }
+{
+    let got = names::source_name(s, text, p);
+    let Read::Text(a, n) = got else {
+        return got;
+    };
+    let kept = memory::push_sub(text, store, ends, a, n);
+    let Read::Text(b, _) = kept else {
+        return kept;
+    };
+    let at = b.at;
+    if names::here(s, at, b'I') {
+        return instance(s, text, store, ends, b, n, false);
+    }
+    kept
+}
+
+pub fn ty_inner(s: &[u8], text: &mut [u8], store: &mut [u8], ends: &mut [u16], p: Parser) -> Read
+    requires { ⌜ Ready (now s) (mem (now text) (now store) (now ends)) p ⌝ }
+    ensures { λ r. ⌜ Reads (type-inner reading) (keep (p .depth)) (p .at + 1) (now (s .entry))
+        (mem (now (text .entry)) (now (store .entry)) (now (ends .entry))) (mem (now (text .exit)) (now (store .exit)) (now (ends .exit))) p r ⌝ }
+{
+    let Peeked::Byte(c) = p.peek(s) else {
+        return Read::Refused(4);
+    };
+    let at = p.at;
+    let behind = p.moved(at + 1);
+    if let Picked::At(w) = codes::builtin(c) {
+        return names::word(text, behind, w);
+    }
+    match c {
+        b'P' | b'R' | b'O' | b'C' | b'K' | b'V' | b'r' => wrap(s, text, store, ends, behind, c),
+        b'A' => array(s, text, store, ends, behind),
+        b'F' => func(s, text, store, ends, behind),
+        b'M' => member(s, text, store, ends, behind),
+        b'D' => types::builtin_d(s, text, p),
+        b'u' => names::source_name(s, text, behind),
+        b'N' => nest_ty(s, text, store, ends, p),
+        b'T' => names::template_param(s, text, store, ends, p),
+        b'S' => at_s(s, text, store, ends, p, false),
+        b'0'..=b'9' => class(s, text, store, ends, p),
+        _ => Read::Refused(4),
+    }
+}
+
+// <type>
+pub fn ty(s: &[u8], text: &mut [u8], store: &mut [u8], ends: &mut [u16], p: Parser) -> Read
+    requires { ⌜ Ready (now s) (mem (now text) (now store) (now ends)) p ⌝ }
+    ensures { λ r. ⌜ Reads (reading ⟨type⟩) (keep (p .depth + 1)) (p .at + 1) (now (s .entry))
+        (mem (now (text .entry)) (now (store .entry)) (now (ends .entry))) (mem (now (text .exit)) (now (store .exit)) (now (ends .exit))) p r ⌝ }
+{
+    let depth = p.depth;
+    if Parser::DEPTH <= depth {
+        return Read::Refused(8);
+    }
+    let got = ty_inner(s, text, store, ends, p.enter());
+    let Read::Text(next, n) = got else {
+        return got;
+    };
+    Read::Text(next.leave(depth), n)
+}
+
+// A list of types or of template arguments.
+pub fn items(
+    s: &[u8],
+    text: &mut [u8],
+    store: &mut [u8],
+    ends: &mut [u16],
+    p: Parser,
+    kind: Kind,
+) -> Texts
+    requires { ⌜ Ready (now s) (mem (now text) (now store) (now ends)) p ⌝ }
+    ensures { λ r. ⌜ ReadsItems kind (now (s .entry))
+        (mem (now (text .entry)) (now (store .entry)) (now (ends .entry))) (mem (now (text .exit)) (now (store .exit)) (now (ends .exit))) p r ⌝ }
+{
+    let mut next = p;
+    let mut n: usize = 0;
+    let mut count: usize = 0;
+    loop {
+        let Peeked::Byte(c) = next.peek(s) else {
+            return Texts::Listed(next, n, count);
+        };
+        if lists::stops(kind, c) {
+            return Texts::Listed(next, n, count);
+        }
+        if 0 < count {
+            next = memory::put(text, next, b", ");
+            n = memory::sum(n, 2);
+        }
+        let got = item(s, text, store, ends, next, kind);
+        let Read::Text(after, m) = got else {
+            return lists::unlisted(got);
+        };
+        next = after;
+        n = memory::sum(n, m);
+        count += 1;
+    }
+}
+
+// One text of a list, which begins with c.
+fn item(
+    s: &[u8],
+    text: &mut [u8],
+    store: &mut [u8],
+    ends: &mut [u16],
+    p: Parser,
+    kind: Kind,
+) -> Read
+    requires { ⌜ Ready (now s) (mem (now text) (now store) (now ends)) p ⌝ }
+    ensures { λ r. ⌜ ReadsItem kind (now (s .entry))
+        (mem (now (text .entry)) (now (store .entry)) (now (ends .entry))) (mem (now (text .exit)) (now (store .exit)) (now (ends .exit))) p r ⌝ }
+{
+    match kind {
+        Kind::Parameters | Kind::Types => ty(s, text, store, ends, p),
+        Kind::Arguments => {
+            let got = arg(s, text, store, ends, p);
+            let Read::Text(next, n) = got else {
+                return got;
+            };
+            memory::push_arg(text, store, ends, next, n)
+        }
+    }
+}
+
+// <template-args> ::= I <template-arg>* E
+pub fn args(s: &[u8], text: &mut [u8], store: &mut [u8], ends: &mut [u16], p: Parser) -> Read
+    requires { ⌜ Ready (now s) (mem (now text) (now store) (now ends)) p ⌝ }
+    ensures { λ r. ⌜ Reads (reading ⟨template-args⟩) (keep (p .depth + 1)) (p .at + 1) (now (s .entry))
+        (mem (now (text .entry)) (now (store .entry)) (now (ends .entry))) (mem (now (text .exit)) (now (store .exit)) (now (ends .exit))) p r ⌝ }
+{
+    let at = p.at;
+    if !names::here(s, at, b'I') {
+        return Read::Refused(4);
+    }
+    let depth = p.depth;
+    if depth >= Parser::DEPTH {
+        return Read::Refused(8);
+    }
+    let open = memory::put(text, p.moved(at + 1).enter(), b"<");
+    let list = items(s, text, store, ends, open, Kind::Arguments);
+    let Texts::Listed(last, n, _) = list else {
+        return lists::refused(list);
+    };
+    let end = last.at;
+    if !names::here(s, end, b'E') {
+        return Read::Refused(4);
+    }
+    let next = last.moved(end + 1).leave(depth);
+    let top = next.top;
+    if text[top - 1] == b'>' {
+        let close = memory::put(text, next, b" >");
+        return memory::given(close, memory::sum(n, 3));
+    }
+    let close = memory::put(text, next, b">");
+    memory::given(close, memory::sum(n, 2))
+}
+
+// J <template-arg>* E, behind J. Packs inside one another are read in one loop, up to 64 in the outermost: `outer` has, for
+// each that is open around the innermost, what n has for that: the bytes of its texts so far, with two more for each text.
+fn pack(s: &[u8], text: &mut [u8], store: &mut [u8], ends: &mut [u16], p: Parser) -> Read
+    requires { ⌜ Ready (now s) (mem (now text) (now store) (now ends)) p ⌝ }
+    ensures { λ r. ⌜ Reads (pack reading) (keep (p .depth)) (p .at + 1) (now (s .entry))
+        (mem (now (text .entry)) (now (store .entry)) (now (ends .entry))) (mem (now (text .exit)) (now (store .exit)) (now (ends .exit))) p r ⌝ }
+{
+    let mut next = p;
+    let mut outer = [0usize; 64];
+    let mut level: usize = 0;
+    let mut n: usize = 0;
+    loop {
+        let Peeked::Byte(c) = next.peek(s) else {
+            return Read::Refused(4);
+        };
+        let at = next.at;
+        if c == b'E' {
+            next = next.moved(at + 1);
+            if lists::pack_ends(level, n) {
+                return memory::given(next, lists::joined_size(n));
+            }
+            level -= 1;
+            n = memory::sum(outer[level], lists::joined_size(n) + 2);
+            continue;
+        }
+        next = lists::comma(text, next, n);
+        if lists::pack_opens(level, c) {
+            outer[level] = n;
+            level += 1;
+            n = 0;
+            next = next.moved(at + 1);
+            continue;
+        }
+        let got = arg(s, text, store, ends, next);
+        let Read::Text(after, m) = got else {
+            return got;
+        };
+        next = after;
+        n = memory::sum(n, m + 2);
+    }
+}
+
+// <template-arg> ::= <type> | X <expression> E | <expr-primary> | J <template-arg>* E
+pub fn arg(s: &[u8], text: &mut [u8], store: &mut [u8], ends: &mut [u16], p: Parser) -> Read
+    requires { ⌜ Ready (now s) (mem (now text) (now store) (now ends)) p ⌝ }
+    ensures { λ r. ⌜ Reads (reading ⟨template-arg⟩) (keep (p .depth)) (p .at + 1) (now (s .entry))
+        (mem (now (text .entry)) (now (store .entry)) (now (ends .entry))) (mem (now (text .exit)) (now (store .exit)) (now (ends .exit))) p r ⌝ }
+{
+    let at = p.at;
+    if names::here(s, at, b'L') {
+        return lit(s, text, store, ends, p);
+    }
+    if names::here(s, at, b'X') {
+        let Skipped::To(end) = leaf::expression(s, at + 1) else {
+            return Read::Refused(4);
+        };
+        return Read::Text(memory::put(text, p.moved(end), b"..."), 3);
+    }
+    if names::here(s, at, b'J') {
+        return pack(s, text, store, ends, p.moved(at + 1));
+    }
+    ty(s, text, store, ends, p)
+}
+
+// <expr-primary> ::= L <type> <value number> E | L _ <name> E
+fn lit(s: &[u8], text: &mut [u8], store: &mut [u8], ends: &mut [u16], p: Parser) -> Read
+    requires { ⌜ Ready (now s) (mem (now text) (now store) (now ends)) p ⌝ }
+    ensures { λ r. ⌜ Reads (reading ⟨expr-primary⟩) (keep (p .depth)) (p .at + 1) (now (s .entry))
+        (mem (now (text .entry)) (now (store .entry)) (now (ends .entry))) (mem (now (text .exit)) (now (store .exit)) (now (ends .exit))) p r ⌝ }
+{
+    let first = p.at;
+    if !names::here(s, first, b'L') {
+        return Read::Refused(4);
+    }
+    let at = first + 1;
+    if names::here(s, at, b'_') {
+        let got = name(s, text, store, ends, p.moved(at + 1));
+        let Read::Text(next, n) = got else {
+            return got;
+        };
+        let end = next.at;
+        if names::here(s, end, b'E') {
+            return Read::Text(next.moved(end + 1), n);
+        }
+        return got;
+    }
+    let got = ty(s, text, store, ends, p.moved(at));
+    let Read::Text(next, n) = got else {
+        return got;
+    };
+    let from = next.at;
+    let to = names::before(s, from, b'E');
+    if s.len() <= to {
+        return Read::Refused(4);
+    }
+    literal::literal(s, text, next.moved(to + 1), n, from, to)
 }

@@ -224,8 +224,12 @@ pub given-requires : (t : ℕ) → lts.Need-given-requires (args-calls t) (args-
 given-requires t c κs = search needs
 
 pub same-length-7 : (t : ℕ) → lts.Need-same-length-7 (args-calls t) (args-at t) args.Post
-same-length-7 t c = omega
-    (arith, c .before .before .before .before .put2 .kept, c .before .before .before .before .before .before .before .before .before .before .before .before .before .before .before .before .before .before .before .before .before .before .items .kept, c .before .before .before .before .before .before .before .before .before .before .before .before .before .before .before .before .before .before .before .before .before .before .before .before .before .before .before .before .put .kept)
+same-length-7 t c = omega (
+  arith,
+  c .before .before .before .before .put2 .kept,
+  c .before .before .before .before .before .before .before .before .before .before .before .before .before .before .before .before .before .before .before .before .before .before .items .kept,
+  c .before .before .before .before .before .before .before .before .before .before .before .before .before .before .before .before .before .before .before .before .before .before .before .before .before .before .before .before .put .kept,
+)
 
 pub same-length-8 : (t : ℕ) → lts.Need-same-length-8 (args-calls t) (args-at t) args.Post
 same-length-8 t c = omega (arith, c .before .before .before .before .before .before .before .before .before .before .before .before .before .before .before .before .before .before .before .before .before .before .items .kept)
@@ -265,8 +269,12 @@ pub given-requires-2 : (t : ℕ) → lts.Need-given-requires-2 (args-calls t) (a
 given-requires-2 t c κs = search needs
 
 pub same-length-10 : (t : ℕ) → lts.Need-same-length-10 (args-calls t) (args-at t) args.Post
-same-length-10 t c = omega
-    (arith, c .before .before .before .before .put3 .kept, c .before .before .before .before .before .before .before .before .before .before .before .before .before .before .before .before .before .before .before .before .before .before .items .kept, c .before .before .before .before .before .before .before .before .before .before .before .before .before .before .before .before .before .before .before .before .before .before .before .before .before .before .before .before .put .kept)
+same-length-10 t c = omega (
+  arith,
+  c .before .before .before .before .put3 .kept,
+  c .before .before .before .before .before .before .before .before .before .before .before .before .before .before .before .before .before .before .before .before .before .before .items .kept,
+  c .before .before .before .before .before .before .before .before .before .before .before .before .before .before .before .before .before .before .before .before .before .before .before .before .before .before .before .before .put .kept,
+)
 
 pub same-length-11 : (t : ℕ) → lts.Need-same-length-11 (args-calls t) (args-at t) args.Post
 same-length-11 t c = omega (arith, c .before .before .before .before .before .before .before .before .before .before .before .before .before .before .before .before .before .before .before .before .before .before .items .kept)
