@@ -1,4 +1,5 @@
 // Where lines end.
+use grammar::text;
 ghost use mathlib.Core.Bool.{true};
 ghost use mathlib.Core.Path.{_≡_};
 ghost use Prim.Native.Nat.{_+_, _≤_};
@@ -30,9 +31,9 @@ pub fn line_end(s: &[u8], at: usize) -> usize
     let mut end = at;
     while 16 <= s.len() - end {
         if !no_feed(s, end) {
-            return parser::names::before(s, end, b'\n');
+            return text::before(s, end, b'\n');
         }
         end += 16;
     }
-    parser::names::before(s, end, b'\n')
+    text::before(s, end, b'\n')
 }

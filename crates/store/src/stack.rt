@@ -27,18 +27,6 @@ fn shift(text: &mut [u8], from: usize, to: usize, n: usize)
     }
 }
 
-// Copies `word` into `text` from index `at`.
-pub fn copy(text: &mut [u8], at: usize, word: &[u8])
-    requires { ⌜ at + length (now word) ≤ length (now text) ⌝ }
-    ensures { λ _. ⌜ now (text .exit) ≡ paste (now (text .entry)) at (now (word .entry)) (length (now (word .entry))) ⌝ }
-{
-    let mut i: usize = 0;
-    while i < word.len() {
-        text[at + i] = word[i];
-        i += 1;
-    }
-}
-
 pub fn clear(slice: &mut [u8])
     ensures { λ _. ⌜ now (slice .exit) ≡ zeros (length (now (slice .entry))) ⌝ }
 {
@@ -88,7 +76,7 @@ pub fn put(text: &mut [u8], top: usize, word: &[u8]) -> usize
     ensures { λ r. ⌜ Put (now (text .entry)) (now (text .exit)) top r (now (word .entry)) ⌝ }
 {
     let at = room(text, top, word.len());
-    copy(text, at, word);
+    bytes::copy(text, at, word);
     at + word.len()
 }
 
@@ -186,7 +174,7 @@ fn piece(text: &mut [u8], top: usize, low: usize, d: usize, word: &[u8], x: u8) 
     if x == 1 {
         shift(text, low, top, d);
         let at = top + d;
-        copy(text, at, word);
+        bytes::copy(text, at, word);
         let end = at + word.len();
         text[end] = x;
         return end + 1;

@@ -9,7 +9,7 @@ use lib.Dec.{eqb}
 use lib.ListN.{length, take, drop, getD, length-append, length-drop, drop-of-length-le}
 use lib.Seq.{paste, paste-zero, take-at, drop-append-add, drop-drop, take-length, length-paste}
 use Rattle.grammar.specs.Text.{Text, if_then_else_, run}
-use Rattle.parser.specs.laws.Runs.{run-more, run-stops}
+use Rattle.grammar.specs.laws.Runs.{run-more, run-stops}
 use Rattle.listing.specs.Listing.{line, line-for, listing-line, in-front, lines, bytes-taken, listing, fitting}
 use Rattle.listing.specs.Printed.{Printed}
 use Rattle.listing.specs.laws.Printed.{prints, prints-not}

@@ -19,7 +19,7 @@ use Rattle.parser.specs.Holds.{Memory, part, Holds, Stands, Refines, refuses, w
 use Rattle.parser.specs.laws.Halves.{give-long}
 use Rattle.parser.specs.laws.Laws.{by, with-cv, with-templated, holds-moved, holds-cv, holds-templated, given-refines, sooner}
 use Rattle.parser.specs.Leaves.{qualifies}
-use Rattle.parser.specs.laws.Runs.{every-at, need-here, need-not}
+use Rattle.grammar.specs.laws.Runs.{every-at, need-here, need-not}
 use Rattle.parser.specs.States.{peeked, moved-to, cv-to, templated-to}
 use Rattle.parser.specs.declared.state.Parser.{Parser}
 use Rattle.parser.specs.declared.state.Peeked.the-variants as peeked-as
