@@ -1,10 +1,10 @@
 // Bytes copied, looked for, and compared with a word.
-ghost use mathlib.Core.Bool.{not};
+ghost use mathlib.Core.Bool.{true, not};
 ghost use mathlib.Core.Path.{_≡_};
 ghost use mathlib.Core.List.{[], _∷_, _++_};
-ghost use Prim.Native.Nat.{_+_, _-_, _≤_};
+ghost use Prim.Native.Nat.{ℕ, _+_, _-_, _≤_, _<_};
 ghost use lib.Dec.{eqb};
-ghost use lib.ListN.{length, take, drop};
+ghost use lib.ListN.{length, take, drop, getD};
 ghost use lib.Seq.{paste};
 ghost use Rattle.grammar.specs.Text.{if_then_else_, starts, run};
 
@@ -116,4 +116,20 @@ pub fn behind(s: &[u8], at: usize, c: u8) -> usize
     ensures { λ r. ⌜ (r ≡ at + length (run (λ x. eqb x c) (drop at (now (s .entry))))) × (r ≤ length (now (s .entry))) ⌝ }
 {
     next_that(s, at, c, false)
+}
+
+// Whether none of the 16 bytes from `at` on is c. It does not stop at the first, so that all are compared at once.
+pub fn none_in_block(s: &[u8], at: usize, c: u8) -> bool
+    requires { ⌜ at + 16 ≤ length (now s) ⌝ }
+    ensures { λ r. ⌜ (r ≡ true → (i : ℕ) → i < 16 → getD (now (s .entry)) (at + i) 0 ≡ c → ⊥) ⌝ }
+{
+    let mut none = true;
+    let mut i: usize = 0;
+    while i < 16 {
+        if s[at + i] == c {
+            none = false;
+        }
+        i += 1;
+    }
+    none
 }

@@ -3,7 +3,7 @@ use mathlib.Core.Path.{_≡_, refl, sym, ap, ap₂, _∙_}
 use mathlib.Core.List.{[], _∷_, _++_, append-nil}
 use mathlib.Core.Logic.{_⊎_, ⊎-elim}
 use mathlib.Core.Bool.{Bool, true, false, _&&_}
-use Prim.Native.Nat.{ℕ, suc, _+_, _-_, _≤_, _<_}
+use Prim.Native.Nat.{ℕ, zero, suc, _+_, _-_, _≤_, _<_}
 use native.Mathlib.Numerals.{add-one}
 use native.Mathlib.Omega.{arith}
 use borrow.Author.Fill.{fill-more}
@@ -81,12 +81,13 @@ pub slots-none : (l : Text) (f k : ℕ) → k ≡ 0 → slots-in (take k (drop f
 unfolding slots-in
 slots-none l f k e = ap (λ (j : ℕ). slots-in (take j (drop f l))) e
 
--- 16 bytes more, and fewer bytes
-pub slots-block : (l : Text) (f k : ℕ) → slots-in (take k (drop f l)) ≡ 0 → slots-in (take 16 (drop (f + k) l)) ≡ 0 → slots-in (take (k + 16) (drop f l)) ≡ 0
-slots-block l f k g h =
-    ap slots-in (take-add k 16 (drop f l))
-    ∙ slots-append (take k (drop f l)) (take 16 (drop k (drop f l)))
-    ∙ omega (arith, g, h, ap (λ (t : Text). slots-in (take 16 t)) (drop-drop k f l))
+-- n bytes more, none of which is a slot, and fewer bytes
+pub slots-more : (l : Text) (f k n : ℕ) → f + (k + n) ≤ length l → slots-in (take k (drop f l)) ≡ 0 → ((i : ℕ) → i < n → getD l (f + (k + i)) 0 ≡ 1 → ⊥) → slots-in (take (k + n) (drop f l)) ≡ 0
+slots-more l f k zero h g e = ap (λ (j : ℕ). slots-in (take j (drop f l))) {x = k + 0} {y = k} (omega arith) ∙ g
+slots-more l f k (suc n) h g e =
+    ap (λ (j : ℕ). slots-in (take j (drop f l))) {x = k + suc n} {y = k + n + 1} (omega arith)
+    ∙ slot-not l f (k + n) (omega arith) (e n (omega arith))
+    ∙ slots-more l f k n (omega arith) g (λ i u. e i (omega arith))
 
 pub slots-fewer : (l : Text) (k n : ℕ) → n ≤ k → slots-in (take k l) ≡ 0 → slots-in (take n l) ≡ 0
 slots-fewer l k n h g =

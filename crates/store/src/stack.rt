@@ -103,22 +103,6 @@ pub fn again(text: &mut [u8], top: usize, from: usize, n: usize) -> usize
     at + n
 }
 
-// Whether none of the 16 bytes from `at` on is a slot. It does not stop at the first, so that all are compared at once.
-fn no_slot_in_block(text: &[u8], at: usize) -> bool
-    requires { ⌜ at + 16 ≤ length (now text) ⌝ }
-    ensures { λ r. ⌜ (r ≡ true → slots-in (take 16 (drop at (now (text .entry)))) ≡ 0) ⌝ }
-{
-    let mut none = true;
-    let mut i: usize = 0;
-    while i < 16 {
-        if text[at + i] == 1 {
-            none = false;
-        }
-        i += 1;
-    }
-    none
-}
-
 // Whether it is seen that none of text[from..to] is a slot, by blocks of 16, the last of which may go on behind it.
 fn no_slot(text: &[u8], from: usize, to: usize) -> bool
     requires { ⌜ (from ≤ to) × (to ≤ length (now text)) ⌝ }
@@ -129,7 +113,7 @@ fn no_slot(text: &[u8], from: usize, to: usize) -> bool
     }
     let mut at = from;
     while at < to {
-        if !no_slot_in_block(text, at) {
+        if !bytes::none_in_block(text, at, 1) {
             return false;
         }
         at += 16;
