@@ -9,7 +9,7 @@ use native.Mathlib.Omega.{arith}
 use borrow.Author.Fill.{fill-more}
 use borrow.Author.Tests.{eq-eqb, ne-eqb}
 use lib.Dec.{eqb}
-use lib.ListN.{length, take, drop, getD, set, length-drop, List·getD-append, drop-of-length-le, take-append-drop}
+use lib.ListN.{length, take, drop, getD, set, length-set, length-drop, List·getD-append, drop-of-length-le, take-append-drop}
 use lib.Seq.{paste, paste-suc, length-paste-head, length-take-le, getD-append-add, getD-drop, getD-take, take-suc, take-length, take-take, take-add, drop-cons, drop-drop, drop-length}
 use Rattle.grammar.specs.Text.{Text, if_then_else_, same}
 use Rattle.store.specs.Stack.{zeros, slots-in, newest}
@@ -18,16 +18,24 @@ use Rattle.store.specs.laws.Slots.{slots-append}
 
 -- ---- clear: the first i are zero
 
-pub clear-more : (l : Text) (i : ℕ) → i < length l → set (zeros i ++ drop i l) i 0 ≡ zeros (i + 1) ++ drop (i + 1) l
-unfolding zeros
-clear-more l i h = fill-more i 0 l h
+pub record Cleared (l m : Text) (i : ℕ) : Type 0 where
+  pub within : i ≤ length l
+  pub size : length m ≡ length l
+  pub is : m ≡ zeros i ++ drop i l
 
-pub clear-none : (l : Text) → l ≡ zeros 0 ++ drop 0 l
+pub clear-none : (l : Text) → Cleared l l 0
 unfolding zeros
-clear-none l = refl
+clear-none l = record { within = omega arith; size = refl; is = refl }
 
-pub clear-done : (l m : Text) (i : ℕ) → i ≡ length l → m ≡ zeros i ++ drop i l → m ≡ zeros (length l)
-clear-done l m i e f = f ∙ rw (e, drop-length) (append-nil (zeros (length l)))
+module _ {l m : Text} {i : ℕ} (h : Cleared l m i) where
+  pub clear-more : i < length m → Cleared l (set m i 0) (i + 1)
+  unfolding zeros
+  clear-more u = record { within = omega (arith, h .size); size = simp length-set (h .size); is = ap (λ (x : Text). set x i 0) (h .is) ∙ fill-more i 0 l (omega (arith, h .size)) }
+
+  pub clear-done : length m ≤ i → m ≡ zeros (length l)
+  clear-done u =
+      let e : i ≡ length l = omega (arith, h .size, h .within) in
+      h .is ∙ rw (e, drop-length) (append-nil (zeros (length l)))
 
 -- ---- shift: the bytes at f are pasted at `at`
 
