@@ -1,8 +1,8 @@
 // Source names, references and the other names that are made of letters and digits alone.
 ghost use mathlib.Core.Path.{_≡_};
-ghost use mathlib.Core.List.{List, [], _∷_};
+ghost use mathlib.Core.List.{List, _∷_};
 ghost use Prim.Native.Nat.{ℕ, _+_, _≤_};
-ghost use lib.ListN.{length, drop, getElem?};
+ghost use lib.ListN.{length, getElem?};
 ghost use Rattle.grammar.specs.Text.{Text, choose, decimal};
 ghost use Rattle.grammar.specs.Reader.{give};
 ghost use Rattle.grammar.specs.Words.{Inside, spelled};

@@ -149,16 +149,6 @@ pub same-end : (s t : Text) (i : ℕ) → length s ≤ i → length t ≤ i → 
 unfolding same
 same-end s t i hs ht = ap₂ same (drop-of-length-le s hs) (drop-of-length-le t ht)
 
-pub same-lengths : (s t : Text) → (length s ≡ length t → ⊥) → same s t ≡ false
-unfolding same
-same-lengths [] [] h = absurd (h refl)
-same-lengths [] (y ∷ t) h = refl
-same-lengths (x ∷ s) [] h = refl
-same-lengths (x ∷ s) (y ∷ t) h = ap (λ (q : Bool). eqb x y && q) (same-lengths s t (λ e. h (ap suc e))) ∙ and-false (eqb x y) where
-  and-false : (q : Bool) → q && false ≡ false
-  and-false true = refl
-  and-false false = refl
-
 -- byte i of a part
 pub part-at : (l : Text) (f n i : ℕ) → i < n → getD (take n (drop f l)) i 0 ≡ getD l (f + i) 0
 part-at l f n i h = getD-take n (drop f l) i 0 h ∙ getD-drop f l i 0

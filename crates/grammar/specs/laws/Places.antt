@@ -1,5 +1,5 @@
 -- What stands at a place of a text, in the form in which the code's tests tell it, and behind a run. Assumes nothing.
-use mathlib.Core.Bool.{Bool, true, false, false≢true, _&&_}
+use mathlib.Core.Bool.{Bool, true, false, false≢true, _&&_, and-true}
 use mathlib.Core.List.{[], _∷_}
 use mathlib.Core.Path.{_≡_, refl, sym, ap, ap₂, _∙_}
 use Prim.Native.Nat.{ℕ, suc, _+_, _≤_, _<_}
@@ -27,11 +27,7 @@ set-front l i x h =
 -- a byte in front
 pub starts-byte : (x c : ℕ) (t : Text) → starts (x ∷ t) (c ∷ []) ≡ eqb x c
 unfolding starts
-starts-byte x c t = rw (starts-nothing t) (go (eqb x c))
-  where
-    go : (q : Bool) → (q && true) ≡ q
-    go true = refl
-    go false = refl
+starts-byte x c t = ap (λ (q : Bool). eqb x c && q) (starts-nothing t) ∙ and-true (eqb x c)
 
 pub starts-inside : (s : Text) (at c : ℕ) → starts (drop at s) (c ∷ []) ≡ true → at < length s
 unfolding starts
