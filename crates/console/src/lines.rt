@@ -1,6 +1,6 @@
 // The lines that are kept of the input.
+use grammar::text;
 use listing::feeds::line_end;
-use store::stack;
 ghost use Prim.Native.Nat.{_+_, _≤_};
 ghost use lib.ListN.{length};
 ghost use Rattle.console.specs.Kept.{Keeps, Puts};
@@ -20,10 +20,10 @@ fn keep_part(part: &[u8], lines: &mut [u8], end: usize, left: usize) -> usize
     ensures { λ r. ⌜ Puts left (now (part .entry)) (now (lines .entry)) (now (lines .exit)) end r ⌝ }
 {
     if part.len() <= left {
-        stack::copy(lines, end, part);
+        text::copy(lines, end, part);
         return end + part.len();
     }
-    stack::copy(lines, end, &part[..left]);
+    text::copy(lines, end, &part[..left]);
     end + left
 }
 

@@ -1,6 +1,5 @@
 // What is told of a symbol before it is read, and its name written.
 use grammar::text as bytes;
-use store::stack;
 ghost use mathlib.Core.Bool.{_&&_};
 ghost use mathlib.Core.Path.{_≡_};
 ghost use mathlib.Core.List.{_++_};
@@ -97,7 +96,7 @@ pub fn write_counted(out: &mut [u8], text: &[u8], from: usize, to: usize, slots:
         ++ drop (length (without-slots (take (to - from) (drop from (now (text .entry)))))) (now (out .entry)) ⌝ }
 {
     if slots == 0 {
-        stack::copy(out, 0, &text[from..to]);
+        bytes::copy(out, 0, &text[from..to]);
     } else {
         write_name(out, text, from, to);
     }

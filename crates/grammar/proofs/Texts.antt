@@ -6,7 +6,7 @@ use Prim.Native.Nat.{ℕ, _+_, _≤_, _<_}
 use native.Mathlib.Omega.{arith}
 use borrow.Author.Tests.{eq-eqb, ne-eqb}
 use lib.ListN.{length, take, drop, getD, length-append, length-drop, drop-of-length-le, take-append-drop}
-use lib.Seq.{length-take-le, take-at, take-take, take-add, drop-drop, take-append-add, take-append-le, drop-append-le}
+use lib.Seq.{paste, take-paste, take-length, length-take-le, take-at, take-take, take-add, drop-drop, take-append-add, take-append-le, drop-append-le}
 use Rattle.grammar.specs.Text.{Text, starts}
 use Rattle.grammar.specs.laws.Places.{rest-some, rest-none}
 
@@ -51,17 +51,15 @@ module _ (out src : Text) (at from : ℕ) where
       ∙ ap (λ (u : Text). take at out ++ u) (take-take n i (drop from src) l)
 
 -- a copy of all of a text through an array as long as it
-pub through : (z p out : Text) {b y : Text} (at : ℕ) → length z ≡ 16 → length p ≡ 16 → b ≡ take 0 z ++ p ++ drop (0 + length p) z
-    → y ≡ take at out ++ b ++ drop (at + length b) out → y ≡ take at out ++ p ++ drop (at + 16) out
+pub through : (z p out : Text) {b y : Text} (at : ℕ) → length z ≡ 16 → length p ≡ 16 → b ≡ paste z 0 p (length p)
+    → y ≡ paste out at b (length b) → y ≡ take at out ++ p ++ drop (at + 16) out
 through z p out {b} {y} at l m e f =
-    let g : b ≡ p = e ∙ ap (λ (u : Text). p ++ u) (drop-of-length-le z {i = 0 + length p} (omega arith)) ∙ append-nil p in
-    f ∙ ap₂ (λ (u : Text) (k : ℕ). take at out ++ u ++ drop (at + k) out) g (ap length g ∙ m)
+    let g : b ≡ p = e ∙ ap (λ (u : Text). take (length p) p ++ u) (drop-of-length-le z {i = 0 + length p} (omega arith)) ∙ append-nil _ ∙ take-length p in
+    f ∙ ap (λ (u : Text). take at out ++ u ++ drop (at + length b) out) (take-length b) ∙ ap₂ (λ (u : Text) (k : ℕ). take at out ++ u ++ drop (at + k) out) g (ap length g ∙ m)
 
 -- a text is copied to `at`: it stands behind what is in front of it
-pub copied-front : (out p : Text) {y : Text} (at n : ℕ) → at ≤ length out → length p ≡ n → y ≡ take at out ++ p ++ drop (at + length p) out
-    → take (at + n) y ≡ take at out ++ p
-copied-front out p at n l m e =
-    ap (take (at + n)) e ∙ take-at (take at out ++ p) (drop (at + length p) out) (at + n) (length-append (take at out) p ∙ omega (arith, length-take-le at out l))
+pub copied-front : (out p : Text) {y : Text} (at n : ℕ) → at ≤ length out → length p ≡ n → y ≡ paste out at p (length p) → take (at + n) y ≡ take at out ++ p
+copied-front out p at n l m e = rw (← m, e, take-paste out at p (length p) l (omega arith), take-length)
 
 -- a part of the front of a text is one of the text
 pub part-in-front : (u t : Text) (f n : ℕ) → u ≡ take (length u) t → f + n ≤ length u → take n (drop f u) ≡ take n (drop f t)

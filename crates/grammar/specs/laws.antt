@@ -2,6 +2,7 @@
 pub mod Laws
 pub mod Places
 pub mod Agree
+pub mod Runs
 pub mod Fuel
 pub mod Finds
 pub mod Steps

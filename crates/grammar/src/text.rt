@@ -1,13 +1,16 @@
-// Bytes copied, and bytes compared with a word.
+// Bytes copied, looked for, and compared with a word.
+ghost use mathlib.Core.Bool.{true, not};
 ghost use mathlib.Core.Path.{_≡_};
-ghost use mathlib.Core.List.{_++_};
-ghost use Prim.Native.Nat.{_+_, _-_, _≤_};
-ghost use lib.ListN.{length, take, drop};
-ghost use Rattle.grammar.specs.Text.{starts};
+ghost use mathlib.Core.List.{[], _∷_, _++_};
+ghost use Prim.Native.Nat.{ℕ, _+_, _-_, _≤_, _<_};
+ghost use lib.Dec.{eqb};
+ghost use lib.ListN.{length, take, drop, getD};
+ghost use lib.Seq.{paste};
+ghost use Rattle.grammar.specs.Text.{if_then_else_, starts, run};
 
 pub fn copy(out: &mut [u8], at: usize, src: &[u8])
     requires { ⌜ at + length (now src) ≤ length (now out) ⌝ }
-    ensures { λ _. ⌜ now (out .exit) ≡ take at (now (out .entry)) ++ now (src .entry) ++ drop (at + length (now (src .entry))) (now (out .entry)) ⌝ }
+    ensures { λ _. ⌜ now (out .exit) ≡ paste (now (out .entry)) at (now (src .entry)) (length (now (src .entry))) ⌝ }
 {
     let mut i: usize = 0;
     while i < src.len() {
@@ -72,4 +75,61 @@ pub fn starts_with(s: &[u8], at: usize, word: &[u8]) -> bool
         i += 1;
     }
     true
+}
+
+// Whether the byte stands at a place.
+pub fn here(s: &[u8], at: usize, c: u8) -> bool
+    ensures { λ r. ⌜ r ≡ starts (drop at (now (s .entry))) (c ∷ []) ⌝ }
+{
+    if s.len() <= at {
+        return false;
+    }
+    s[at] == c
+}
+
+// The place of the next byte that is c, or that is not c, as asked; or the end.
+fn next_that(s: &[u8], at: usize, c: u8, is: bool) -> usize
+    requires { ⌜ at ≤ length (now s) ⌝ }
+    ensures { λ r. ⌜ (r ≡ at + length (run (λ x. if is then not (eqb x c) else eqb x c) (drop at (now (s .entry))))) × (r ≤ length (now (s .entry))) ⌝ }
+{
+    let mut end = at;
+    while end < s.len() {
+        if (s[end] == c) == is {
+            return end;
+        }
+        end += 1;
+    }
+    end
+}
+
+// The place of the next byte c, or the end.
+pub fn before(s: &[u8], at: usize, c: u8) -> usize
+    requires { ⌜ at ≤ length (now s) ⌝ }
+    ensures { λ r. ⌜ (r ≡ at + length (run (λ x. not (eqb x c)) (drop at (now (s .entry))))) × (r ≤ length (now (s .entry))) ⌝ }
+{
+    next_that(s, at, c, true)
+}
+
+// The place behind all bytes c.
+pub fn behind(s: &[u8], at: usize, c: u8) -> usize
+    requires { ⌜ at ≤ length (now s) ⌝ }
+    ensures { λ r. ⌜ (r ≡ at + length (run (λ x. eqb x c) (drop at (now (s .entry))))) × (r ≤ length (now (s .entry))) ⌝ }
+{
+    next_that(s, at, c, false)
+}
+
+// Whether none of the 16 bytes from `at` on is c. It does not stop at the first, so that all are compared at once.
+pub fn none_in_block(s: &[u8], at: usize, c: u8) -> bool
+    requires { ⌜ at + 16 ≤ length (now s) ⌝ }
+    ensures { λ r. ⌜ (r ≡ true → (i : ℕ) → i < 16 → getD (now (s .entry)) (at + i) 0 ≡ c → ⊥) ⌝ }
+{
+    let mut none = true;
+    let mut i: usize = 0;
+    while i < 16 {
+        if s[at + i] == c {
+            none = false;
+        }
+        i += 1;
+    }
+    none
 }

@@ -4,6 +4,7 @@ use demangle::entry::Answer;
 use demangle::entry::clear;
 use demangle::entry::demangle_uncleared;
 use demangle::symbol;
+use grammar::text;
 use normalize::entry::normalize_uncleared;
 use store::stack;
 ghost use mathlib.Core.Path.{_≡_};
@@ -73,8 +74,8 @@ fn print_line(out: &mut [u8], at: usize, number: usize, name: &[u8]) -> usize
     if out.len() - at <= last {
         return 0;
     }
-    stack::copy(out, at, &head[from..]);
-    stack::copy(out, at + n, name);
+    text::copy(out, at, &head[from..]);
+    text::copy(out, at + n, name);
     out[at + last] = b'\n';
     last + 1
 }

@@ -3,7 +3,7 @@ use crate::state::Told;
 use crate::state::Writer;
 use crate::words;
 use crate::write;
-use store::stack;
+use grammar::text;
 ghost use mathlib.Core.List.{[], _∷_};
 ghost use mathlib.Core.Option.{some};
 ghost use mathlib.Core.Path.{_≡_};
@@ -34,7 +34,7 @@ pub fn put_part(out: &mut [u8], p: Writer, s: &[u8], from: usize, to: usize) -> 
     ensures { λ r. ⌜ Puts (part (now (s .entry)) from to) (now (out .entry)) (now (out .exit)) p r ⌝ }
 {
     let end = p.out;
-    stack::copy(out, end, &s[from..to]);
+    text::copy(out, end, &s[from..to]);
     p.written(end + (to - from))
 }
 

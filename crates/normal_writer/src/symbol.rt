@@ -7,7 +7,6 @@ use normal_steps::state::Writer;
 use normal_steps::steps;
 use normal_steps::words;
 use normal_steps::words::Named;
-use store::stack;
 ghost use mathlib.Core.Path.{_≡_};
 ghost use Prim.Native.Nat.{_≤_};
 ghost use lib.ListN.{length};
@@ -34,7 +33,7 @@ fn begin(out: &mut [u8], word: &[u8]) -> Writer
     requires { ⌜ (length (now word) ≤ 4) × (length (now out) ≡ 65536) ⌝ }
     ensures { λ r. ⌜ (r ≡ begun-at (length (now (word .entry))) (length (now (word .entry)))) × Front 65536 (now (word .entry)) (now (out .exit)) ⌝ }
 {
-    stack::copy(out, 0, word);
+    bytes::copy(out, 0, word);
     let n = word.len();
     Writer::begun(n, n)
 }

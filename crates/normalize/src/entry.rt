@@ -3,6 +3,7 @@ use demangle::entry as reading;
 use demangle::entry::Answer;
 use demangle::symbol;
 use demangle::symbol::Front;
+use grammar::text as bytes;
 use normal_steps::state::Writer;
 use normal_writer::symbol as writing;
 use normal_writer::symbol::Written;
@@ -132,6 +133,6 @@ fn print(out: &mut [u8], text: &[u8], n: usize) -> Answer
     if out.len() < n {
         return Answer::Refused(12);
     }
-    stack::copy(out, 0, &text[..n]);
+    bytes::copy(out, 0, &text[..n]);
     Answer::Name(n)
 }

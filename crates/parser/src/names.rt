@@ -1,11 +1,9 @@
 // Source names, references and the other names that are made of letters and digits alone.
 ghost use mathlib.Core.Path.{_≡_};
-ghost use mathlib.Core.Bool.{not};
-ghost use mathlib.Core.List.{List, [], _∷_};
+ghost use mathlib.Core.List.{List, _∷_};
 ghost use Prim.Native.Nat.{ℕ, _+_, _≤_};
-ghost use lib.Dec.{eqb};
-ghost use lib.ListN.{length, drop, getElem?};
-ghost use Rattle.grammar.specs.Text.{Text, choose, starts, run, decimal};
+ghost use lib.ListN.{length, getElem?};
+ghost use Rattle.grammar.specs.Text.{Text, choose, decimal};
 ghost use Rattle.grammar.specs.Reader.{give};
 ghost use Rattle.grammar.specs.Words.{Inside, spelled};
 ghost use Rattle.grammar.specs.Grammar.{⟨source-name⟩, ⟨template-param⟩, ⟨substitution⟩, unnamed-type-name, reading};
@@ -21,20 +19,12 @@ use grammar::codes;
 use grammar::codes::Picked;
 use grammar::numbers;
 use grammar::numbers::Number;
+use grammar::text::before;
+use grammar::text::here;
 
 pub enum Found {
     Part(usize, usize),
     Nothing,
-}
-
-// Whether the byte stands at a place.
-pub fn here(s: &[u8], at: usize, c: u8) -> bool
-    ensures { λ r. ⌜ r ≡ starts (drop at (now (s .entry))) (c ∷ []) ⌝ }
-{
-    if s.len() <= at {
-        return false;
-    }
-    s[at] == c
 }
 
 // The identifier behind its length.
@@ -248,36 +238,6 @@ pub fn numbered(s: &[u8], at: usize) -> usize
     let end = numbers::decimal(s, at).next;
     if here(s, end, b'_') {
         return end + 1;
-    }
-    end
-}
-
-// The place of the next byte c, or the end.
-pub fn before(s: &[u8], at: usize, c: u8) -> usize
-    requires { ⌜ at ≤ length (now s) ⌝ }
-    ensures { λ r. ⌜ (r ≡ at + length (run (λ x. not (eqb x c)) (drop at (now (s .entry))))) × (r ≤ length (now (s .entry))) ⌝ }
-{
-    let mut end = at;
-    while end < s.len() {
-        if s[end] == c {
-            return end;
-        }
-        end += 1;
-    }
-    end
-}
-
-// The place behind all bytes c.
-pub fn behind(s: &[u8], at: usize, c: u8) -> usize
-    requires { ⌜ at ≤ length (now s) ⌝ }
-    ensures { λ r. ⌜ (r ≡ at + length (run (λ x. eqb x c) (drop at (now (s .entry))))) × (r ≤ length (now (s .entry))) ⌝ }
-{
-    let mut end = at;
-    while end < s.len() {
-        if s[end] != c {
-            return end;
-        }
-        end += 1;
     }
     end
 }

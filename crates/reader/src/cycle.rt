@@ -19,6 +19,7 @@ use crate::lists::Prefix;
 use crate::lists::Texts;
 use grammar::codes;
 use grammar::codes::Picked;
+use grammar::text as bytes;
 use parser::leaf;
 use parser::leaf::Skipped;
 use parser::literal;
@@ -80,7 +81,7 @@ fn std_prefixed(s: &[u8], text: &mut [u8], store: &mut [u8], ends: &mut [u16], p
         return kept;
     };
     let end = after.at;
-    if names::here(s, end, b'I') {
+    if bytes::here(s, end, b'I') {
         return instance(s, text, store, ends, after, n, true);
     }
     memory::given(after, n)
@@ -108,7 +109,7 @@ fn at_s(
         return got;
     };
     let end = next.at;
-    if names::here(s, end, b'I') {
+    if bytes::here(s, end, b'I') {
         return instance(s, text, store, ends, next, n, named);
     }
     got
@@ -125,7 +126,7 @@ fn plain(s: &[u8], text: &mut [u8], store: &mut [u8], ends: &mut [u16], p: Parse
         return got;
     };
     let end = next.at;
-    if !names::here(s, end, b'I') {
+    if !bytes::here(s, end, b'I') {
         return got;
     }
     let kept = memory::push_sub(text, store, ends, next, n);
@@ -146,7 +147,7 @@ fn loc_fn(s: &[u8], text: &mut [u8], store: &mut [u8], ends: &mut [u16], p: Pars
         return got;
     };
     let at = named.at;
-    if names::here(s, at, b'E') {
+    if bytes::here(s, at, b'E') {
         return Read::Text(named.moved(at + 1), n);
     }
     let open = memory::put(text, named, b"(");
@@ -158,7 +159,7 @@ fn loc_fn(s: &[u8], text: &mut [u8], store: &mut [u8], ends: &mut [u16], p: Pars
         return Read::Refused(11);
     }
     let end = last.at;
-    if !names::here(s, end, b'E') {
+    if !bytes::here(s, end, b'E') {
         return Read::Refused(4);
     }
     let close = memory::put(text, last.moved(end + 1), b")");
@@ -172,7 +173,7 @@ fn local_name(s: &[u8], text: &mut [u8], store: &mut [u8], ends: &mut [u16], p: 
         (mem (now (text .entry)) (now (store .entry)) (now (ends .entry))) (mem (now (text .exit)) (now (store .exit)) (now (ends .exit))) p r ⌝ }
 {
     let at = p.at;
-    if !names::here(s, at, b'Z') {
+    if !bytes::here(s, at, b'Z') {
         return Read::Refused(4);
     }
     let got = loc_fn(s, text, store, ends, p.moved(at + 1));
@@ -180,7 +181,7 @@ fn local_name(s: &[u8], text: &mut [u8], store: &mut [u8], ends: &mut [u16], p: 
         return got;
     };
     let end = outer.at;
-    if names::here(s, end, b's') {
+    if bytes::here(s, end, b's') {
         let next = memory::put(text, outer.moved(end + 1), b"::string literal");
         return memory::given(next, n + 16);
     }
@@ -286,7 +287,7 @@ fn px_arg(
         return lists::unread(kept);
     };
     let at = next.at;
-    let last = names::here(s, at, b'E');
+    let last = bytes::here(s, at, b'E');
     Prefix::Parts(
         next.with_templated(last),
         Parts {
@@ -319,7 +320,7 @@ fn px_new(
     };
     let more = lists::longer(parts, m);
     let at = next.at;
-    if names::here(s, at, b'E') {
+    if bytes::here(s, at, b'E') {
         return Prefix::Parts(next, more);
     }
     let n = more.n;
@@ -352,7 +353,7 @@ fn nested_name(s: &[u8], text: &mut [u8], store: &mut [u8], ends: &mut [u16], p:
         (mem (now (text .entry)) (now (store .entry)) (now (ends .entry))) (mem (now (text .exit)) (now (store .exit)) (now (ends .exit))) p r ⌝ }
 {
     let at = p.at;
-    if !names::here(s, at, b'N') {
+    if !bytes::here(s, at, b'N') {
         return Read::Refused(4);
     }
     let from = at + 1;
@@ -393,7 +394,7 @@ fn unq(s: &[u8], text: &mut [u8], store: &mut [u8], ends: &mut [u16], p: Parser)
         (mem (now (text .entry)) (now (store .entry)) (now (ends .entry))) (mem (now (text .exit)) (now (store .exit)) (now (ends .exit))) p r ⌝ }
 {
     let first = p.at;
-    let at = names::behind(s, first, b'L');
+    let at = bytes::behind(s, first, b'L');
     let q = p.moved(at);
     let Peeked::Byte(c) = q.peek(s) else {
         return Read::Refused(4);
@@ -476,7 +477,7 @@ fn func(s: &[u8], text: &mut [u8], store: &mut [u8], ends: &mut [u16], p: Parser
         return lists::refused(list);
     };
     let at = last.at;
-    if !names::here(s, at, b'E') {
+    if !bytes::here(s, at, b'E') {
         return Read::Refused(4);
     }
     let next = last.moved(at + 1);
@@ -490,7 +491,7 @@ fn array(s: &[u8], text: &mut [u8], store: &mut [u8], ends: &mut [u16], p: Parse
         (mem (now (text .entry)) (now (store .entry)) (now (ends .entry))) (mem (now (text .exit)) (now (store .exit)) (now (ends .exit))) p r ⌝ }
 {
     let from = p.at;
-    let to = names::before(s, from, b'_');
+    let to = bytes::before(s, from, b'_');
     if s.len() <= to {
         return Read::Refused(4);
     }
@@ -552,7 +553,7 @@ fn class(s: &[u8], text: &mut [u8], store: &mut [u8], ends: &mut [u16], p: Parse
         return kept;
     };
     let at = b.at;
-    if names::here(s, at, b'I') {
+    if bytes::here(s, at, b'I') {
         return instance(s, text, store, ends, b, n, false);
     }
     kept
@@ -672,7 +673,7 @@ pub fn args(s: &[u8], text: &mut [u8], store: &mut [u8], ends: &mut [u16], p: Pa
         (mem (now (text .entry)) (now (store .entry)) (now (ends .entry))) (mem (now (text .exit)) (now (store .exit)) (now (ends .exit))) p r ⌝ }
 {
     let at = p.at;
-    if !names::here(s, at, b'I') {
+    if !bytes::here(s, at, b'I') {
         return Read::Refused(4);
     }
     let depth = p.depth;
@@ -685,7 +686,7 @@ pub fn args(s: &[u8], text: &mut [u8], store: &mut [u8], ends: &mut [u16], p: Pa
         return lists::refused(list);
     };
     let end = last.at;
-    if !names::here(s, end, b'E') {
+    if !bytes::here(s, end, b'E') {
         return Read::Refused(4);
     }
     let next = last.moved(end + 1).leave(depth);
@@ -747,16 +748,16 @@ pub fn arg(s: &[u8], text: &mut [u8], store: &mut [u8], ends: &mut [u16], p: Par
         (mem (now (text .entry)) (now (store .entry)) (now (ends .entry))) (mem (now (text .exit)) (now (store .exit)) (now (ends .exit))) p r ⌝ }
 {
     let at = p.at;
-    if names::here(s, at, b'L') {
+    if bytes::here(s, at, b'L') {
         return lit(s, text, store, ends, p);
     }
-    if names::here(s, at, b'X') {
+    if bytes::here(s, at, b'X') {
         let Skipped::To(end) = leaf::expression(s, at + 1) else {
             return Read::Refused(4);
         };
         return Read::Text(memory::put(text, p.moved(end), b"..."), 3);
     }
-    if names::here(s, at, b'J') {
+    if bytes::here(s, at, b'J') {
         return pack(s, text, store, ends, p.moved(at + 1));
     }
     ty(s, text, store, ends, p)
@@ -769,17 +770,17 @@ fn lit(s: &[u8], text: &mut [u8], store: &mut [u8], ends: &mut [u16], p: Parser)
         (mem (now (text .entry)) (now (store .entry)) (now (ends .entry))) (mem (now (text .exit)) (now (store .exit)) (now (ends .exit))) p r ⌝ }
 {
     let first = p.at;
-    if !names::here(s, first, b'L') {
+    if !bytes::here(s, first, b'L') {
         return Read::Refused(4);
     }
     let at = first + 1;
-    if names::here(s, at, b'_') {
+    if bytes::here(s, at, b'_') {
         let got = name(s, text, store, ends, p.moved(at + 1));
         let Read::Text(next, n) = got else {
             return got;
         };
         let end = next.at;
-        if names::here(s, end, b'E') {
+        if bytes::here(s, end, b'E') {
             return Read::Text(next.moved(end + 1), n);
         }
         return got;
@@ -789,7 +790,7 @@ fn lit(s: &[u8], text: &mut [u8], store: &mut [u8], ends: &mut [u16], p: Parser)
         return got;
     };
     let from = next.at;
-    let to = names::before(s, from, b'E');
+    let to = bytes::before(s, from, b'E');
     if s.len() <= to {
         return Read::Refused(4);
     }

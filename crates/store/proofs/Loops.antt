@@ -3,13 +3,13 @@ use mathlib.Core.Path.{_≡_, refl, sym, ap, ap₂, _∙_}
 use mathlib.Core.List.{[], _∷_, _++_, append-nil}
 use mathlib.Core.Logic.{_⊎_, ⊎-elim}
 use mathlib.Core.Bool.{Bool, true, false, _&&_}
-use Prim.Native.Nat.{ℕ, suc, _+_, _-_, _≤_, _<_}
+use Prim.Native.Nat.{ℕ, zero, suc, _+_, _-_, _≤_, _<_}
 use native.Mathlib.Numerals.{add-one}
 use native.Mathlib.Omega.{arith}
 use borrow.Author.Fill.{fill-more}
 use borrow.Author.Tests.{eq-eqb, ne-eqb}
 use lib.Dec.{eqb}
-use lib.ListN.{length, take, drop, getD, set, length-drop, List·getD-append, drop-of-length-le, take-append-drop}
+use lib.ListN.{length, take, drop, getD, set, length-set, length-drop, List·getD-append, drop-of-length-le, take-append-drop}
 use lib.Seq.{paste, paste-suc, length-paste-head, length-take-le, getD-append-add, getD-drop, getD-take, take-suc, take-length, take-take, take-add, drop-cons, drop-drop, drop-length}
 use Rattle.grammar.specs.Text.{Text, if_then_else_, same}
 use Rattle.store.specs.Stack.{zeros, slots-in, newest}
@@ -18,16 +18,24 @@ use Rattle.store.specs.laws.Slots.{slots-append}
 
 -- ---- clear: the first i are zero
 
-pub clear-more : (l : Text) (i : ℕ) → i < length l → set (zeros i ++ drop i l) i 0 ≡ zeros (i + 1) ++ drop (i + 1) l
-unfolding zeros
-clear-more l i h = fill-more i 0 l h
+pub record Cleared (l m : Text) (i : ℕ) : Type 0 where
+  pub within : i ≤ length l
+  pub size : length m ≡ length l
+  pub is : m ≡ zeros i ++ drop i l
 
-pub clear-none : (l : Text) → l ≡ zeros 0 ++ drop 0 l
+pub clear-none : (l : Text) → Cleared l l 0
 unfolding zeros
-clear-none l = refl
+clear-none l = record { within = omega arith; size = refl; is = refl }
 
-pub clear-done : (l m : Text) (i : ℕ) → i ≡ length l → m ≡ zeros i ++ drop i l → m ≡ zeros (length l)
-clear-done l m i e f = f ∙ rw (e, drop-length) (append-nil (zeros (length l)))
+module _ {l m : Text} {i : ℕ} (h : Cleared l m i) where
+  pub clear-more : i < length m → Cleared l (set m i 0) (i + 1)
+  unfolding zeros
+  clear-more u = record { within = omega (arith, h .size); size = simp length-set (h .size); is = ap (λ (x : Text). set x i 0) (h .is) ∙ fill-more i 0 l (omega (arith, h .size)) }
+
+  pub clear-done : length m ≤ i → m ≡ zeros (length l)
+  clear-done u =
+      let e : i ≡ length l = omega (arith, h .size, h .within) in
+      h .is ∙ rw (e, drop-length) (append-nil (zeros (length l)))
 
 -- ---- shift: the bytes at f are pasted at `at`
 
@@ -81,12 +89,13 @@ pub slots-none : (l : Text) (f k : ℕ) → k ≡ 0 → slots-in (take k (drop f
 unfolding slots-in
 slots-none l f k e = ap (λ (j : ℕ). slots-in (take j (drop f l))) e
 
--- 16 bytes more, and fewer bytes
-pub slots-block : (l : Text) (f k : ℕ) → slots-in (take k (drop f l)) ≡ 0 → slots-in (take 16 (drop (f + k) l)) ≡ 0 → slots-in (take (k + 16) (drop f l)) ≡ 0
-slots-block l f k g h =
-    ap slots-in (take-add k 16 (drop f l))
-    ∙ slots-append (take k (drop f l)) (take 16 (drop k (drop f l)))
-    ∙ omega (arith, g, h, ap (λ (t : Text). slots-in (take 16 t)) (drop-drop k f l))
+-- n bytes more, none of which is a slot, and fewer bytes
+pub slots-more : (l : Text) (f k n : ℕ) → f + (k + n) ≤ length l → slots-in (take k (drop f l)) ≡ 0 → ((i : ℕ) → i < n → getD l (f + (k + i)) 0 ≡ 1 → ⊥) → slots-in (take (k + n) (drop f l)) ≡ 0
+slots-more l f k zero h g e = ap (λ (j : ℕ). slots-in (take j (drop f l))) {x = k + 0} {y = k} (omega arith) ∙ g
+slots-more l f k (suc n) h g e =
+    ap (λ (j : ℕ). slots-in (take j (drop f l))) {x = k + suc n} {y = k + n + 1} (omega arith)
+    ∙ slot-not l f (k + n) (omega arith) (e n (omega arith))
+    ∙ slots-more l f k n (omega arith) g (λ i u. e i (omega arith))
 
 pub slots-fewer : (l : Text) (k n : ℕ) → n ≤ k → slots-in (take k l) ≡ 0 → slots-in (take n l) ≡ 0
 slots-fewer l k n h g =
@@ -139,16 +148,6 @@ module _ (s t : Text) (i : ℕ) (hs : i < length s) (ht : i < length t) where
 pub same-end : (s t : Text) (i : ℕ) → length s ≤ i → length t ≤ i → same (drop i s) (drop i t) ≡ true
 unfolding same
 same-end s t i hs ht = ap₂ same (drop-of-length-le s hs) (drop-of-length-le t ht)
-
-pub same-lengths : (s t : Text) → (length s ≡ length t → ⊥) → same s t ≡ false
-unfolding same
-same-lengths [] [] h = absurd (h refl)
-same-lengths [] (y ∷ t) h = refl
-same-lengths (x ∷ s) [] h = refl
-same-lengths (x ∷ s) (y ∷ t) h = ap (λ (q : Bool). eqb x y && q) (same-lengths s t (λ e. h (ap suc e))) ∙ and-false (eqb x y) where
-  and-false : (q : Bool) → q && false ≡ false
-  and-false true = refl
-  and-false false = refl
 
 -- byte i of a part
 pub part-at : (l : Text) (f n i : ℕ) → i < n → getD (take n (drop f l)) i 0 ≡ getD l (f + i) 0

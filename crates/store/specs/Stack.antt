@@ -62,6 +62,10 @@ slots-in (x ∷ t) = (if eqb x 1 then 1 else 0) + slots-in t
 unfoldable pub at-slot : Text → ℕ → Text
 at-slot w x = if eqb x 1 then w ++ (x ∷ []) else x ∷ []
 
+-- the newest n bytes, as code takes them
+abbrev pub lent : Text → ℕ → ℕ → Text
+lent text top n = take (top - (top - n)) (drop (top - n) text)
+
 -- the newest n bytes, and the d bytes right below them
 abbrev pub newest : Text → ℕ → ℕ → Text
 newest text top n = drop (top - n) (take top text)

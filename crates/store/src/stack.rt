@@ -27,18 +27,6 @@ fn shift(text: &mut [u8], from: usize, to: usize, n: usize)
     }
 }
 
-// Copies `word` into `text` from index `at`.
-pub fn copy(text: &mut [u8], at: usize, word: &[u8])
-    requires { ⌜ at + length (now word) ≤ length (now text) ⌝ }
-    ensures { λ _. ⌜ now (text .exit) ≡ paste (now (text .entry)) at (now (word .entry)) (length (now (word .entry))) ⌝ }
-{
-    let mut i: usize = 0;
-    while i < word.len() {
-        text[at + i] = word[i];
-        i += 1;
-    }
-}
-
 pub fn clear(slice: &mut [u8])
     ensures { λ _. ⌜ now (slice .exit) ≡ zeros (length (now (slice .entry))) ⌝ }
 {
@@ -88,7 +76,7 @@ pub fn put(text: &mut [u8], top: usize, word: &[u8]) -> usize
     ensures { λ r. ⌜ Put (now (text .entry)) (now (text .exit)) top r (now (word .entry)) ⌝ }
 {
     let at = room(text, top, word.len());
-    copy(text, at, word);
+    bytes::copy(text, at, word);
     at + word.len()
 }
 
@@ -115,22 +103,6 @@ pub fn again(text: &mut [u8], top: usize, from: usize, n: usize) -> usize
     at + n
 }
 
-// Whether none of the 16 bytes from `at` on is a slot. It does not stop at the first, so that all are compared at once.
-fn no_slot_in_block(text: &[u8], at: usize) -> bool
-    requires { ⌜ at + 16 ≤ length (now text) ⌝ }
-    ensures { λ r. ⌜ (r ≡ true → slots-in (take 16 (drop at (now (text .entry)))) ≡ 0) ⌝ }
-{
-    let mut none = true;
-    let mut i: usize = 0;
-    while i < 16 {
-        if text[at + i] == 1 {
-            none = false;
-        }
-        i += 1;
-    }
-    none
-}
-
 // Whether it is seen that none of text[from..to] is a slot, by blocks of 16, the last of which may go on behind it.
 fn no_slot(text: &[u8], from: usize, to: usize) -> bool
     requires { ⌜ (from ≤ to) × (to ≤ length (now text)) ⌝ }
@@ -141,7 +113,7 @@ fn no_slot(text: &[u8], from: usize, to: usize) -> bool
     }
     let mut at = from;
     while at < to {
-        if !no_slot_in_block(text, at) {
+        if !bytes::none_in_block(text, at, 1) {
             return false;
         }
         at += 16;
@@ -186,7 +158,7 @@ fn piece(text: &mut [u8], top: usize, low: usize, d: usize, word: &[u8], x: u8) 
     if x == 1 {
         shift(text, low, top, d);
         let at = top + d;
-        copy(text, at, word);
+        bytes::copy(text, at, word);
         let end = at + word.len();
         text[end] = x;
         return end + 1;

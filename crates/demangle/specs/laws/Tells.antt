@@ -1,7 +1,7 @@
 -- Laws of the answer for a text that was read. Assumes nothing.
 use mathlib.Core.Bool.{true, false}
 use mathlib.Core.List.{[], _++_}
-use mathlib.Core.Path.{_≡_, refl, sym, ap, ap₂, _∙_, subst}
+use mathlib.Core.Path.{_≡_, refl, sym, ap, _∙_, subst}
 use Prim.Native.Nat.{ℕ, _-_, _≤_, _<_}
 use native.Mathlib.Omega.{arith}
 use borrow.Author.Tests.{le-leb, lt-leb}
@@ -11,9 +11,8 @@ use Rattle.grammar.specs.Text.{Text, if_then_else_}
 use Rattle.grammar.specs.Reader.{State, Result, ok, refused, start}
 use Rattle.grammar.specs.Grammar.{reading, ended, ⟨encoding⟩}
 use Rattle.grammar.specs.Names.{Answer, named, refusal, without-slots, finished, within, mangled-name, number-of, length-of, written}
-use Rattle.store.specs.Stack.{slots-in}
-use Rattle.store.specs.laws.Lists.{drop-take}
-use Rattle.store.specs.laws.Tails.{newest-is, top-size}
+use Rattle.store.specs.Stack.{slots-in, lent}
+use Rattle.store.specs.laws.Tails.{newest-lent}
 use Rattle.parser.specs.declared.state.Parser.{Parser}
 use Rattle.parser.specs.declared.state.Read.{Read}
 use Rattle.parser.specs.declared.state.Read.the-variants.{Text as read, Refused as unread}
@@ -54,30 +53,23 @@ module _ (n : ℕ) (t : Text) (σ : State) where
 
 -- ---- the text on the stack
 
--- the newest n bytes
-abbrev pub newest-part : Text → ℕ → ℕ → Text
-newest-part text top n = take (top - (top - n)) (drop (top - n) text)
-
-pub newest-length : (text : Text) (top n : ℕ) {k : ℕ} → n ≤ top → top ≤ length text → k ≡ slots-in (newest-part text top n) → n - k ≡ length (without-slots (newest-part text top n))
-newest-length text top n a b e = omega (arith, e, slotless-length (newest-part text top n), length-take-le (top - (top - n)) (drop (top - n) text) (simp length-drop (omega arith)))
+pub newest-length : (text : Text) (top n : ℕ) {k : ℕ} → n ≤ top → top ≤ length text → k ≡ slots-in (lent text top n) → n - k ≡ length (without-slots (lent text top n))
+newest-length text top n a b e = omega (arith, e, slotless-length (lent text top n), length-take-le (top - (top - n)) (drop (top - n) text) (simp length-drop (omega arith)))
 
 module _ {s text store ends : Text} {p : Parser} {n : ℕ} {t : Text} {σ : State} (h : Prints 33064 s [] (mem text store ends) p n t σ) where
-  newest : (length t ≤ length (take (p .top) text)) × (drop (length (take (p .top) text) - length t) (take (p .top) text) ≡ t)
-  newest = newest-is [] t (h .tail) (omega (arith, h .short))
+  newest : (n ≤ p .top) × (lent text (p .top) n ≡ t)
+  newest = newest-lent [] t (h .text) (h .tail) (h .size) (omega (arith, h .short))
 
   pub printed-fits : n ≤ p .top
-  printed-fits = omega (arith, newest .0, top-size (h .text), h .size)
+  printed-fits = newest .0
 
   pub printed-top : p .top ≤ length text
   printed-top = omega (arith, h .text .size, h .text .most)
 
-  pub printed-text : newest-part text (p .top) n ≡ t
-  printed-text =
-      sym (drop-take (p .top - n) (p .top) text)
-      ∙ ap₂ (λ (i j : ℕ). drop (i - j) (take (p .top) text)) {x = p .top} {y = length (take (p .top) text)} (sym (top-size (h .text))) (h .size)
-      ∙ newest .1
+  pub printed-text : lent text (p .top) n ≡ t
+  printed-text = newest .1
 
-  pub printed-length : {k : ℕ} → k ≡ slots-in (newest-part text (p .top) n) → n - k ≡ length (without-slots t)
+  pub printed-length : {k : ℕ} → k ≡ slots-in (lent text (p .top) n) → n - k ≡ length (without-slots t)
   printed-length e = newest-length text (p .top) n printed-fits printed-top e ∙ ap (λ (z : Text). length (without-slots z)) printed-text
 
 -- ---- what the reading told

@@ -25,7 +25,7 @@ use Rattle.parser.specs.States.{peeked}
 use Rattle.grammar.specs.laws.Places.{rest-none}
 use Rattle.parser.specs.Holds.{mem, part, Refines, Puts, given-of}
 use Rattle.parser.specs.laws.Laws.{given-refines}
-use Rattle.parser.specs.laws.Halves.{same-not}
+use Rattle.grammar.specs.laws.Laws.{same-not}
 use Rattle.parser.specs.Adds.{Adds}
 use Rattle.parser.specs.laws.Adds.{adds-none, adds-more, stands-more}
 use Rattle.parser.specs.laws.Wraps.{newest-text, picked-at, picked-none}

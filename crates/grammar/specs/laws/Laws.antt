@@ -1,11 +1,12 @@
 -- Laws of tests, what it means that one holds, and of numbers in decimal.
-use mathlib.Core.Bool.{Bool, true, false, _&&_, _||_, true≢false}
+use mathlib.Core.Bool.{Bool, true, false, _&&_, _||_, true≢false, and-false}
 use mathlib.Core.List.{[], _∷_, _++_}
-use mathlib.Core.Path.{_≡_, refl, ap, ap₂}
+use mathlib.Core.Path.{_≡_, refl, ap, ap₂, _∙_}
 use Prim.Native.Nat.{ℕ, zero, suc, _+_, _-_, _/_, _%_, _≤_, _<_}
 use native.Mathlib.Omega.{arith}
 use borrow.Author.Tests.{lt-ltb, le-ltb}
 use lib.Dec.{T, eqb, eqb→eq}
+use lib.ListN.{length}
 use Rattle.grammar.specs.Text.{Text, if_then_else_, same, starts, decimal}
 
 pub both : (p q : Bool) → T (p && q) → T p × T q
@@ -25,6 +26,14 @@ same→eq (x ∷ s) [] h = absurd h
 same→eq (x ∷ s) (y ∷ t) h =
     let (p, q) = both (eqb x y) (same s t) h in
     ap₂ (λ (a : ℕ) (l : Text). a ∷ l) (eqb→eq x y p) (same→eq s t q)
+
+-- texts of other lengths are not the same
+pub same-not : (s t : Text) → (length s ≡ length t → ⊥) → same s t ≡ false
+unfolding same
+same-not [] [] n = absurd (n refl)
+same-not [] (y ∷ t) n = refl
+same-not (x ∷ s) [] n = refl
+same-not (x ∷ s) (y ∷ t) n = ap (λ (q : Bool). eqb x y && q) (same-not s t (λ e. n (ap suc e))) ∙ and-false (eqb x y)
 
 -- any text begins with nothing
 pub starts-nothing : (t : Text) → starts t [] ≡ true

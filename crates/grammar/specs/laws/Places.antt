@@ -1,13 +1,13 @@
 -- What stands at a place of a text, in the form in which the code's tests tell it, and behind a run. Assumes nothing.
-use mathlib.Core.Bool.{Bool, true, false, false≢true, _&&_}
+use mathlib.Core.Bool.{Bool, true, false, false≢true, _&&_, and-true}
 use mathlib.Core.List.{[], _∷_}
-use mathlib.Core.Path.{_≡_, refl}
-use Prim.Native.Nat.{ℕ, _+_, _≤_, _<_}
+use mathlib.Core.Path.{_≡_, refl, sym, ap, ap₂, _∙_}
+use Prim.Native.Nat.{ℕ, suc, _+_, _≤_, _<_}
 use native.Mathlib.Numerals.{add-one}
 use native.Mathlib.Omega.{arith}
 use lib.Dec.{eqb}
-use lib.ListN.{length, drop, getD, length-drop, drop-of-length-le}
-use lib.Seq.{drop-cons}
+use lib.ListN.{length, drop, getD, set, length-set, length-drop, drop-of-length-le}
+use lib.Seq.{drop-cons, drop-set-lt, getD-set-same}
 use Rattle.grammar.specs.Text.{Text, if_then_else_, starts, run, past}
 use Rattle.grammar.specs.laws.Laws.{starts-nothing}
 
@@ -18,14 +18,16 @@ module _ (s : Text) (i : ℕ) where
   pub rest-none : length s ≤ i → drop i s ≡ []
   rest-none h = drop-of-length-le s h
 
+-- a byte written in front of the last ones
+pub set-front : (l : Text) (i x : ℕ) → i < length l → drop i (set l i x) ≡ x ∷ drop (i + 1) l
+set-front l i x h =
+    drop-cons (set l i x) i 0 (simp length-set h)
+    ∙ ap₂ (λ (y : ℕ) (t : Text). y ∷ t) (getD-set-same l i x 0 h) (drop-set-lt (suc i) l i x (omega arith) ∙ ap (λ (j : ℕ). drop j l) (sym (add-one i)))
+
 -- a byte in front
 pub starts-byte : (x c : ℕ) (t : Text) → starts (x ∷ t) (c ∷ []) ≡ eqb x c
 unfolding starts
-starts-byte x c t = rw (starts-nothing t) (go (eqb x c))
-  where
-    go : (q : Bool) → (q && true) ≡ q
-    go true = refl
-    go false = refl
+starts-byte x c t = ap (λ (q : Bool). eqb x c && q) (starts-nothing t) ∙ and-true (eqb x c)
 
 pub starts-inside : (s : Text) (at c : ℕ) → starts (drop at s) (c ∷ []) ≡ true → at < length s
 unfolding starts

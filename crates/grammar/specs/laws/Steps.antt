@@ -46,15 +46,6 @@ module _ {B : Type 0} (w : String) (m k : Reader B) (σ : State) where
   unfolding at-code find onto choose if_then_else_
   at-code-no h = rw h
 
-  -- one code, which is read past
-  pub case-yes : starts (σ .rest) (b w) ≡ true → by-code (w ⇒ m ∷ []) (λ r. r) k σ ≡ m (moved (drop (length (b w)) (σ .rest)) σ)
-  unfolding by-code find onto choose go-to if_then_else_
-  case-yes h = rw h
-
-  pub case-no : starts (σ .rest) (b w) ≡ false → by-code (w ⇒ m ∷ []) (λ r. r) k σ ≡ k σ
-  unfolding by-code find onto choose if_then_else_
-  case-no h = rw h
-
 module _ (w : String) (σ : State) where
   pub need-yes : starts (σ .rest) (b w) ≡ true → need w σ ≡ ok tt (moved (drop (length (b w)) (σ .rest)) σ)
   unfolding need eat onto go-to if_then_else_
@@ -63,14 +54,6 @@ module _ (w : String) (σ : State) where
   pub need-no : starts (σ .rest) (b w) ≡ false → need w σ ≡ refused 4
   unfolding need eat onto if_then_else_
   need-no h = rw h
-
-  pub eat-yes : starts (σ .rest) (b w) ≡ true → eat w σ ≡ ok true (moved (drop (length (b w)) (σ .rest)) σ)
-  unfolding eat onto go-to if_then_else_
-  eat-yes h = rw h
-
-  pub eat-no : starts (σ .rest) (b w) ≡ false → eat w σ ≡ ok false σ
-  unfolding eat onto if_then_else_
-  eat-no h = rw h
 
 -- ---------------------------------------------------------------- by the bytes ahead
 

@@ -2,14 +2,14 @@
 use mathlib.Core.Bool.{Bool, true, false, not}
 use mathlib.Core.List.{List, [], _∷_, _++_, append-assoc, append-nil}
 use mathlib.Core.Path.{_≡_, refl, sym, ap, ap₂, _∙_, subst}
-use Prim.Native.Nat.{ℕ, suc, _+_, _-_, _≤_, _<_}
+use Prim.Native.Nat.{ℕ, zero, suc, _+_, _-_, _≤_, _<_}
 use native.Mathlib.Omega.{arith}
 use borrow.Author.Tests.{ne-eqb, eqb-true, not-false, le-leb, lt-leb}
 use lib.Dec.{eqb}
 use lib.ListN.{length, take, drop, getD, length-append, length-drop, drop-of-length-le}
 use lib.Seq.{paste, paste-zero, take-at, drop-append-add, drop-drop, take-length, length-paste}
 use Rattle.grammar.specs.Text.{Text, if_then_else_, run}
-use Rattle.parser.specs.laws.Runs.{run-more, run-stops}
+use Rattle.grammar.specs.laws.Runs.{run-more, run-stops}
 use Rattle.listing.specs.Listing.{line, line-for, listing-line, in-front, lines, bytes-taken, listing, fitting}
 use Rattle.listing.specs.Printed.{Printed}
 use Rattle.listing.specs.laws.Printed.{prints, prints-not}
@@ -17,13 +17,13 @@ use Rattle.listing.specs.declared.listing.Kind.{Kind}
 use Rattle.listing.specs.Lines.{Goes, before-feed, feed-from, Gone}
 
 module _ (s : Text) where
-  pub feed-here : (at : ℕ) → feed-from s at ≡ feed-from s (at + 0)
-  feed-here at = ap (feed-from s) {x = at} {y = at + 0} (omega arith)
-
-  pub feed-more : (at i : ℕ) → at + i < length s → (getD s (at + i) 0 ≡ 10 → ⊥) → feed-from s (at + i) ≡ feed-from s (at + (i + 1))
-  feed-more at i h e =
-      omega (arith, ap length (run-more (λ x. not (eqb x 10)) s (at + i) h (ap not (ne-eqb _ _ e))))
-      ∙ ap (feed-from s) {x = at + i + 1} {y = at + (i + 1)} (omega arith)
+  -- none of the next n bytes is a line feed
+  pub feed-behind : (at n : ℕ) → at + n ≤ length s → ((i : ℕ) → i < n → getD s (at + i) 0 ≡ 10 → ⊥) → feed-from s at ≡ feed-from s (at + n)
+  feed-behind at zero h e = ap (feed-from s) {x = at} {y = at + 0} (omega arith)
+  feed-behind at (suc n) h e =
+      feed-behind at n (omega arith) (λ i u. e i (omega arith))
+      ∙ omega (arith, ap length (run-more (λ x. not (eqb x 10)) s (at + n) (omega arith) (ap not (ne-eqb _ _ (e n (omega arith))))))
+      ∙ ap (feed-from s) {x = at + n + 1} {y = at + suc n} (omega arith)
 
   pub feed-there : (at : ℕ) → feed-from s at < length s → getD s (feed-from s at) 0 ≡ 10
   feed-there at h = eqb-true _ _ (not-false _ (run-stops (λ x. not (eqb x 10)) s at h))

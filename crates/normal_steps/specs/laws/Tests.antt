@@ -13,7 +13,7 @@ use Rattle.grammar.specs.Text.{Text, if_then_else_, same, starts, digit}
 use Rattle.grammar.specs.laws.Laws.{starts-nothing}
 use Rattle.grammar.specs.laws.Places.{starts-byte}
 use Rattle.grammar.specs.laws.NameSteps.{starts-one}
-use Rattle.catalogue.specs.Bytes.{all, first, and-left, and-right, same-eq, eqb-yes}
+use Rattle.catalogue.specs.Bytes.{all, first, and-left, and-right, eqb-yes}
 use Rattle.catalogue.specs.Class.{leading-zero, numeral}
 use Rattle.catalogue.specs.Recogniser.{if-next}
 use Rattle.catalogue.specs.laws.ReadsBack.{next-no}
@@ -38,13 +38,6 @@ module _ (c : ℕ) where
     next-here s at h = byte-next f x (starts-one (drop at s) c h) ∙ ap f (drop-drop 1 at s)
 
 -- ---------------------------------------------------------------- a part and a word
-
-pub same-no : (s t : Text) → (length s ≡ length t → ⊥) → same s t ≡ false
-same-no s t d = go (same s t) refl
-  where
-    go : (q : Bool) → same s t ≡ q → q ≡ false
-    go true e = absurd (d (ap length (same-eq s t e)))
-    go false e = refl
 
 pub starts-same : (t w : Text) → length w ≤ length t → starts t w ≡ same (take (length w) t) w
 unfolding starts same

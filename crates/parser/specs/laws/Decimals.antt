@@ -1,21 +1,15 @@
 -- A number in decimal, digit by digit from the last. Assumes nothing.
 use mathlib.Core.List.{List, [], _∷_, _++_, append-assoc, append-nil}
-use mathlib.Core.Path.{_≡_, sym, ap, ap₂, _∙_}
+use mathlib.Core.Path.{_≡_, sym, ap, _∙_}
 use mathlib.Core.Logic.{⊎-elim}
 use Prim.Native.Nat.{ℕ, suc, _+_, _-_, _/_, _%_, _^_, _≤_, _<_}
 use native.Mathlib.Nat.{div-lt-iff-lt-mul, eq-or-lt-of-le}
-use native.Mathlib.Numerals.{add-one}
 use native.Mathlib.Omega.{arith}
 use lib.ListN.{length, take, drop, set, length-set, length-drop, drop-of-length-le}
-use lib.Seq.{take-all, drop-cons, drop-set-lt, getD-set-same}
+use lib.Seq.{take-all}
 use Rattle.grammar.specs.Text.{Text, decimal}
 use Rattle.grammar.specs.laws.Laws.{decimal-last, decimal-more}
-
--- a byte written in front of the last ones
-pub set-front : (l : List ℕ) (i x : ℕ) → i < length l → drop i (set l i x) ≡ x ∷ drop (i + 1) l
-set-front l i x h =
-    drop-cons (set l i x) i 0 (simp length-set h)
-    ∙ ap₂ (λ (y : ℕ) (t : List ℕ). y ∷ t) (getD-set-same l i x 0 h) (drop-set-lt (suc i) l i x (omega arith) ∙ ap (λ (j : ℕ). drop j l) (sym (add-one i)))
+use Rattle.grammar.specs.laws.Places.{set-front}
 
 -- the last digits of the number i stand from `from` on, and those of `rest` are to be written before them
 pub record Written (i : ℕ) (digits : List ℕ) (from rest : ℕ) : Type 0 where

@@ -6,15 +6,16 @@ use mathlib.Core.Option.{Option, some}
 use Prim.Native.Nat.{ℕ, zero, suc, _+_, _-_, _≤_, _<_}
 use native.Mathlib.Omega.{arith}
 use borrow.Author.Tests.{le-leb, lt-leb, leb-true}
-use lib.Dec.{leb, eqb}
+use lib.Dec.{leb}
 use lib.ListN.{length, take, drop, getD, getElem?, length-append, length-take, length-drop}
 use lib.Seq.{take-take, drop-drop, length-take-le}
 use Rattle.grammar.specs.Text.{Text, if_then_else_, choose, same}
 use Rattle.grammar.specs.Reader.{State, Result, ok, refused, Reader, onto, refuse, set-subs, set-args, bytes-of, fits, push-sub, push-arg, give, recorded}
 use Rattle.grammar.specs.Grammar.{last}
+use Rattle.store.specs.Stack.{lent}
 use Rattle.store.specs.Table.{Entries}
-use Rattle.store.specs.laws.Lists.{drop-take, part-of, first-back, first-other, second-lent, second-back, second-other}
-use Rattle.store.specs.laws.Tails.{newest-is, top-size, put-tail, whole}
+use Rattle.store.specs.laws.Lists.{part-of, first-back, first-other, second-lent, second-back, second-other}
+use Rattle.store.specs.laws.Tails.{newest-lent, put-tail, whole}
 use Rattle.store.specs.laws.Entries.{entries-as, entries-sized, no-entries, entry-in, entry-within, next-start, some-entry, no-entry, bytes-append, bytes-one}
 use Rattle.parser.specs.declared.state.Parser.{Parser}
 use Rattle.parser.specs.declared.state.Read.{Read}
@@ -152,17 +153,9 @@ module _ {s : Text} {m : Memory} {n : ℕ} {q : Parser} where
   pub pushed-as : {r : Parser} {σ : State} → r ≡ q → Holds s m q σ → Pushes s m n q (read r n) (ok tt σ)
   pushed-as {r} {σ} e h = subst (λ (x : Parser). Pushes s m n q (read x n) (ok tt σ)) (sym e) (pushed h)
 
--- the newest n bytes, as the code takes them, are the text
-abbrev pub lent : Text → ℕ → ℕ → Text
-lent text top n = take (top - (top - n)) (drop (top - n) text)
-
+-- the newest n bytes are the text
 pub newest-part : {k d : ℕ} {s base : Text} {from : ℕ} {m : Memory} {p : Parser} {n : ℕ} {t : Text} {σ : State} → Stands k d s base from m p n t σ → length t ≤ 32768 → (n ≤ p .top) × (lent (m .text) (p .top) n ≡ t)
-newest-part {k} {d} {s} {base} {from} {m} {p} {n} {t} h l =
-    let w : Text = take (p .top) (m .text) in
-    let z : length w ≡ p .top = top-size (h .holds .text) in
-    let i = newest-is base t (h .tail) (omega (arith, h .least)) in
-    let e : n ≡ length t = omega (arith, h .size) in
-    (omega (arith, i .0), sym (drop-take (p .top - n) (p .top) (m .text)) ∙ ap (λ (j : ℕ). drop j w) {x = p .top - n} {y = length w - length t} (omega arith) ∙ i .1)
+newest-part {base = base} {t = t} h l = newest-lent base t (h .holds .text) (h .tail) (omega (arith, h .size)) (omega (arith, h .least))
 
 newest-count : {k d : ℕ} {s base : Text} {from : ℕ} {m : Memory} {p : Parser} {n : ℕ} {t : Text} {σ : State} → Stands k d s base from m p n t σ → n ≤ 32768 → p .top - (p .top - n) ≡ n
 newest-count h l = omega (arith, newest-part h (omega (arith, h .size)) .0)
@@ -283,17 +276,6 @@ pub last-none : (l : List Text) (t : Text) → length l ≡ 0 → choose (last l
 unfolding choose last
 last-none [] t e = refl
 last-none (u ∷ l) t e = absurd (omega arith)
-
-and-false : (q : Bool) → (q && false) ≡ false
-and-false true = refl
-and-false false = refl
-
-pub same-not : (s t : Text) → (length s ≡ length t → ⊥) → same s t ≡ false
-unfolding same
-same-not [] [] n = absurd (n refl)
-same-not [] (y ∷ t) n = refl
-same-not (x ∷ s) [] n = refl
-same-not (x ∷ s) (y ∷ t) n = ap (λ (q : Bool). eqb x y && q) (same-not s t (λ e. n (ap suc e))) ∙ and-false (eqb x y)
 
 -- ---------------------------------------------------------------- one text put and returned
 

@@ -14,7 +14,7 @@ use Rattle.grammar.specs.Text.{Text, b, if_then_else_, choose, starts, holds, r
 use Rattle.grammar.specs.Grammar.{last, class-of, skipped, open-after, structor-ahead, std-ahead}
 use Rattle.grammar.specs.laws.Laws.{starts-nothing}
 use Rattle.grammar.specs.laws.Places.{rest-some, rest-none}
-use Rattle.parser.specs.laws.Runs.{run-more}
+use Rattle.grammar.specs.laws.Runs.{run-more}
 use Rattle.parser.specs.Leaves.{qualifies, unargued, class-in, Classed, behind-colons, Sought}
 
 pub class-of-is : (ts : List Text) → class-of ts ≡ choose (last ts) class-in []

@@ -16,7 +16,7 @@ use Rattle.grammar.specs.laws.Agree.{moved}
 use Rattle.grammar.specs.laws.Fuel.{reading-is}
 use Rattle.grammar.specs.laws.Finds.{all-of, by-word}
 use Rattle.grammar.specs.laws.Places.{rest-some, rest-none}
-use Rattle.parser.specs.laws.Runs.{every-at, need-here, need-not}
+use Rattle.grammar.specs.laws.Runs.{every-at, need-here, need-not}
 use Rattle.parser.specs.References.{referred, entry-of, entry-at}
 
 pub index-none : (base : ℕ) (t : Text) → length t ≡ 0 → index base t ≡ 0

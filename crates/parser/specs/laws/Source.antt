@@ -18,7 +18,7 @@ use Rattle.grammar.specs.laws.Fuel.{reading-is}
 use Rattle.parser.specs.declared.names.Found.{Found}
 use Rattle.parser.specs.declared.names.Found.the-variants.{Part, Nothing}
 use Rattle.parser.specs.Holds.{part}
-use Rattle.parser.specs.laws.Runs.{every-at, case-here, case-not, run-within}
+use Rattle.grammar.specs.laws.Runs.{every-at, case-here, case-not, run-within}
 use Rattle.parser.specs.Source.{behind-number, identified, closers}
 
 pub number-more : (s : Text) (at : ℕ) → at ≤ behind-number s at

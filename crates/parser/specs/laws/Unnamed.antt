@@ -10,7 +10,7 @@ use Rattle.grammar.specs.Text.{Text, b, if_then_else_, starts, run, digit}
 use Rattle.grammar.specs.Reader.{State, Result, refused, Reader, onto, return, give, every, eat, need}
 use Rattle.grammar.specs.Grammar.{unnamed-type-name}
 use Rattle.grammar.specs.laws.Agree.{moved}
-use Rattle.parser.specs.laws.Runs.{run-stops, starts-one, starts-none, any-at, any-end, every-at, eat-here, eat-not, need-here, need-not}
+use Rattle.grammar.specs.laws.Runs.{run-stops, starts-one, starts-none, any-at, any-end, every-at, eat-here, eat-not, need-here, need-not}
 use Rattle.parser.specs.Source.{behind-number}
 
 -- "{lambda}" and "{unnamed}"

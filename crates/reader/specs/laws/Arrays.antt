@@ -21,7 +21,7 @@ use Rattle.parser.specs.Holds.{Memory, mem, part, Holds, Stands, Refines, Puts,
 use Rattle.parser.specs.laws.Laws.{given-refines}
 use Rattle.parser.specs.laws.Literals.{stands-size, length-part}
 use Rattle.parser.specs.laws.Wraps.{stands-puts}
-use Rattle.parser.specs.laws.Runs.{every-at, need-here, need-not, starts-one, starts-none, run-stops}
+use Rattle.grammar.specs.laws.Runs.{every-at, need-here, need-not, starts-one, starts-none, run-stops}
 use Rattle.reader.specs.laws.Items.{peek-end, byte-there, byte-within}
 
 -- ---------------------------------------------------------------- array types

@@ -1,16 +1,15 @@
 -- A list of texts as far as it is read: the loop of the definition from the start is the loop from here. Assumes nothing.
-use mathlib.Core.Bool.{Bool, true, false, not, _&&_, and-true}
+use mathlib.Core.Bool.{Bool, true, false, not}
 use mathlib.Core.List.{List, [], _∷_, _++_}
 use mathlib.Core.Path.{_≡_, refl, sym, ap, _∙_, subst}
 use Prim.Native.Nat.{ℕ, _+_, _*_, _≤_, _<_, min}
 use native.Mathlib.Omega.{arith}
-use lib.Dec.{eqb}
 use lib.ListN.{length, take, drop, length-append, length-drop}
 use lib.Seq.{drop-drop}
 use Rattle.grammar.specs.Text.{Text, b, if_then_else_, same, starts, join}
 use Rattle.grammar.specs.Reader.{State, Result, ok, refused, Reader, onto, return, push-arg, while, one-more}
 use Rattle.grammar.specs.Grammar.{reading, ⟨type⟩, ⟨template-arg⟩, ended}
-use Rattle.grammar.specs.laws.Laws.{starts-nothing}
+use Rattle.grammar.specs.laws.Places.{starts-byte}
 use Rattle.grammar.specs.Loops.{before-E}
 use Rattle.grammar.specs.laws.Loops.{Stepped, items-loop, args-loop}
 use Rattle.store.specs.Stack.{Stack}
@@ -89,15 +88,11 @@ ends-on Parameters e = rw e
 ends-on Types e = rw e
 ends-on Arguments e = rw e
 
-pub one-byte : (c x : ℕ) (u : Text) → starts (c ∷ u) (x ∷ []) ≡ eqb c x
-unfolding starts
-one-byte c x u = ap (λ (r : Bool). eqb c x && r) (starts-nothing u) ∙ and-true (eqb c x)
-
 pub on-byte : (kind : Kind) (c : ℕ) {t u : Text} {q : Bool} → t ≡ c ∷ u → stops-at kind c ≡ q → goes-on kind t ≡ not q
 unfolding ended before-E same b
-on-byte Parameters c {t} {u} e f = rw e (ap not (one-byte c 46 u ∙ f))
-on-byte Types c {t} {u} e f = rw e (ap not (one-byte c 69 u ∙ f))
-on-byte Arguments c {t} {u} e f = rw e (ap not (one-byte c 69 u ∙ f))
+on-byte Parameters c {t} {u} e f = rw e (ap not (starts-byte c 46 u ∙ f))
+on-byte Types c {t} {u} e f = rw e (ap not (starts-byte c 69 u ∙ f))
+on-byte Arguments c {t} {u} e f = rw e (ap not (starts-byte c 69 u ∙ f))
 
 -- ---------------------------------------------------------------- the list so far
 

@@ -12,6 +12,7 @@ use Rattle.grammar.specs.Text.{Text, b, choose, join, starts, holds, digit, dig
 use Rattle.grammar.specs.Reader.{State, Result, ok, refused, Reader, onto, see, bytes-of, fits, push-sub, find, at-code}
 use Rattle.grammar.specs.Grammar.{reading, Production, ⟨template-param⟩, ⟨unqualified-name⟩, ⟨source-name⟩, ⟨substitution⟩, last, digit-ahead, structor-ahead}
 use Rattle.grammar.specs.Grammar as g
+use Rattle.grammar.specs.laws.Places.{starts-byte}
 use Rattle.grammar.specs.laws.Steps.{same-from}
 use Rattle.grammar.specs.laws.NameSteps.{unqualified-digit}
 use Rattle.store.specs.laws.Entries.{bytes-append, bytes-one}
@@ -28,7 +29,6 @@ use Rattle.reader.specs.declared.lists.Prefix.{Prefix}
 use Rattle.reader.specs.declared.lists.Prefix.the-variants as prefix-as
 use Rattle.reader.specs.laws.Separators.{join-more, before-size}
 use Rattle.reader.specs.laws.Standing.{parted-kept, stands-sized, wrote-behind, wrote-least}
-use Rattle.reader.specs.laws.Items.{one-byte}
 use Rattle.reader.specs.Lists.{Alike, same-text, both-long, Parted, Parting, parted, unparted, before-part, longer-of, unread-of, part-of}
 
 -- ---------------------------------------------------------------- one part more
@@ -216,7 +216,7 @@ module _ (ps : g.Parts) (σ : State) where
 
     module _ {c : ℕ} {t : Text} (r : σ .rest ≡ c ∷ t) where
       first : (x : ℕ) {q : Bool} → eqb c x ≡ q → starts (σ .rest) (x ∷ []) ≡ q
-      first x f = ap (λ (y : Text). starts y (x ∷ [])) r ∙ one-byte c x t ∙ f
+      first x f = ap (λ (y : Text). starts y (x ∷ [])) r ∙ starts-byte c x t ∙ f
 
       pub prefix-S : c ≡ 83 → g.prefix reading ps σ ≡ g.old-prefix reading ps σ
       unfolding b

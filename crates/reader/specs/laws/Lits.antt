@@ -25,7 +25,7 @@ use Rattle.parser.specs.laws.Wraps.{stands-puts}
 use Rattle.parser.specs.laws.Halves.{newest-part}
 use Rattle.parser.specs.Literals.{Gives}
 use Rattle.grammar.specs.laws.Places.{starts-inside}
-use Rattle.parser.specs.laws.Runs.{case-here, case-not, need-here, need-not, eat-here, eat-not, every-at, run-stops, starts-one, starts-none}
+use Rattle.grammar.specs.laws.Runs.{case-here, case-not, need-here, need-not, eat-here, eat-not, every-at, run-stops, starts-one, starts-none}
 use Rattle.reader.specs.laws.Opens.{call-moved}
 use Rattle.reader.specs.laws.Arrays.{run-front}
 use Rattle.reader.specs.laws.Standing.{wrote-moved, given-as, stands-sized, wrote-behind}

@@ -20,7 +20,7 @@ use Rattle.parser.specs.laws.Adds.{puts-from}
 use Rattle.parser.specs.laws.Wraps.{stands-puts}
 use Rattle.parser.specs.laws.Halves.{give-short, give-long}
 use Rattle.grammar.specs.laws.Places.{starts-inside}
-use Rattle.parser.specs.laws.Runs.{need-here, need-not}
+use Rattle.grammar.specs.laws.Runs.{need-here, need-not}
 use Rattle.reader.specs.declared.lists.Kind.the-variants.{Types}
 use Rattle.reader.specs.declared.lists.Texts.{Texts}
 use Rattle.reader.specs.declared.lists.Texts.the-variants as items-as

@@ -14,12 +14,13 @@ use Rattle.grammar.specs.Grammar as g
 use Rattle.grammar.specs.laws.Agree.{moved, unread}
 use Rattle.grammar.specs.laws.Fuel.{reading-ends, reading-is, prefix-shrinks}
 use Rattle.grammar.specs.Loops.{before-E}
+use Rattle.grammar.specs.laws.Places.{starts-byte}
 use Rattle.grammar.specs.laws.Loops.{closed, parts-loop, up-to-E-is}
 use Rattle.parser.specs.Holds.{Memory, part, Holds, Stands, Refines, refuses, window, keep, given-of}
 use Rattle.parser.specs.laws.Halves.{give-long}
 use Rattle.parser.specs.laws.Laws.{by, with-cv, with-templated, holds-moved, holds-cv, holds-templated, given-refines, sooner}
 use Rattle.parser.specs.Leaves.{qualifies}
-use Rattle.parser.specs.laws.Runs.{every-at, need-here, need-not}
+use Rattle.grammar.specs.laws.Runs.{every-at, need-here, need-not}
 use Rattle.parser.specs.States.{peeked, moved-to, cv-to, templated-to}
 use Rattle.parser.specs.declared.state.Parser.{Parser}
 use Rattle.parser.specs.declared.state.Peeked.the-variants as peeked-as
@@ -30,7 +31,7 @@ use Rattle.reader.specs.declared.lists.Parts.{Parts}
 use Rattle.reader.specs.declared.lists.Prefix.{Prefix}
 use Rattle.reader.specs.declared.lists.Prefix.the-variants as prefix-as
 use Rattle.reader.specs.Lists.{Alike, same-text, both-long, Parted, Parting, parted, unparted, ReadsPart, unprefixed-of}
-use Rattle.reader.specs.laws.Items.{peek-byte, peek-end, byte-within, while-stops, while-goes, one-byte, ends-on, on-byte}
+use Rattle.reader.specs.laws.Items.{peek-byte, peek-end, byte-within, while-stops, while-goes, ends-on, on-byte}
 use Rattle.reader.specs.laws.Arrays.{run-front}
 use Rattle.reader.specs.laws.Closes.{closed-no, closed-yes, then-ok, then-refused, behind-is}
 use Rattle.reader.specs.laws.Standing.{same-sizes, stands-nothing, stands-kept, parted-kept, stands-least}
@@ -171,7 +172,7 @@ module _ {s : Text} {m₀ : Memory} {p₀ : Parser} {m : Memory} {p : Parser} {q
       let h = l .here in
       let t : l .state .rest ≡ c ∷ drop 1 (drop (p .at) s) = h .stands .holds .rest ∙ peek-byte (drop (p .at) s) e in
       let a : p .at < length s = byte-within s (p .at) e in
-      let here : starts (l .state .rest) (69 ∷ []) ≡ true = ap (λ (y : Text). starts y (69 ∷ [])) t ∙ one-byte c 69 (drop 1 (drop (p .at) s)) ∙ eq-eqb c 69 f in
+      let here : starts (l .state .rest) (69 ∷ []) ≡ true = ap (λ (y : Text). starts y (69 ∷ [])) t ∙ starts-byte c 69 (drop 1 (drop (p .at) s)) ∙ eq-eqb c 69 f in
       let y : moved (drop 1 (l .state .rest)) (l .state) ≡ moved (drop (p .at + 1) s) (l .state) = behind-is s (p .at) (l .state) (h .stands .holds .rest) in
       let o = last-top z from to p in
       let st : Stands (keep (p₀ .depth)) (p₀ .depth) s (window m₀ p₀) (p₀ .at) m (last-parser z from to p) (q .n) (h .shown) (last-state z (part s from to) (moved (drop (p .at + 1) s) (l .state))) =

@@ -31,7 +31,7 @@ use Rattle.parser.specs.States.{moved-to, templated-to, peeked}
 use Rattle.parser.specs.Holds.{Memory, mem, window, Holds, Refines, refuses, Reads, Puts, keep, given-of}
 use Rattle.parser.specs.laws.Laws.{by, by-state, got, refused-on, less, sooner, holds-moved}
 use Rattle.parser.specs.laws.Adds.{puts-from, reads-moved}
-use Rattle.parser.specs.laws.Runs.{case-here, case-not, past-is, past-stops}
+use Rattle.grammar.specs.laws.Runs.{case-here, case-not, past-is, past-stops}
 use Rattle.grammar.specs.laws.Places.{rest-some, rest-none}
 use Rattle.parser.specs.laws.Halves.{wrote-one}
 use Rattle.parser.specs.laws.Leaves.{rest-two}

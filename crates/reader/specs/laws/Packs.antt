@@ -16,6 +16,7 @@ use Rattle.grammar.specs.laws.Agree.{moved, bind}
 use Rattle.grammar.specs.laws.Agree as agree
 use Rattle.grammar.specs.laws.Fuel.{reading-ends}
 use Rattle.grammar.specs.Loops.{before-E}
+use Rattle.grammar.specs.laws.Places.{starts-byte}
 use Rattle.grammar.specs.laws.Loops.{closed, items-loop, up-to-E-is}
 use Rattle.store.specs.Stack.{Tail}
 use Rattle.store.specs.laws.Tails.{whole, both}
@@ -31,7 +32,7 @@ use Rattle.reader.specs.declared.lists.Kind.the-variants.{Types}
 use Rattle.reader.specs.laws.Separators.{join-more, before-same}
 use Rattle.reader.specs.laws.Standing.{same-sizes}
 use Rattle.reader.specs.Lists.{before-text, ends-pack, opens-pack}
-use Rattle.reader.specs.laws.Items.{peek-byte, peek-end, one-byte, byte-within, while-stops, while-goes, ends-on, on-byte, refused-is}
+use Rattle.reader.specs.laws.Items.{peek-byte, peek-end, byte-within, while-stops, while-goes, ends-on, on-byte, refused-is}
 use Rattle.reader.specs.laws.Closes.{closed-no, closed-yes, then-refused, then-ok, behind-is, arg-pack}
 
 -- ---------------------------------------------------------------- the definition, from a pack with texts on
@@ -191,7 +192,7 @@ module _ {s : Text} {m₀ : Memory} {p₀ : Parser} {m : Memory} {p : Parser} {o
     inside = byte-within s (p .at) e
 
     ahead : {x : ℕ} → c ≡ x → starts (l .state .rest) (x ∷ []) ≡ true
-    ahead {x} f = ap (λ (t : Text). starts t (x ∷ [])) first ∙ one-byte c x (drop 1 (drop (p .at) s)) ∙ eq-eqb c x f
+    ahead {x} f = ap (λ (t : Text). starts t (x ∷ [])) first ∙ starts-byte c x (drop 1 (drop (p .at) s)) ∙ eq-eqb c x f
 
     before : (c ≡ 69 → ⊥) → before-E (l .state .rest) ≡ true
     before f = on-byte Types c first (ne-eqb c 69 f)

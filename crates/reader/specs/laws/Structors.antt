@@ -13,6 +13,7 @@ use Rattle.grammar.specs.Reader.{State, ok, onto, go-to}
 use Rattle.grammar.specs.Grammar.{reading, last, class-of}
 use Rattle.grammar.specs.Grammar as g
 use Rattle.grammar.specs.laws.Agree.{moved}
+use Rattle.grammar.specs.laws.Places.{starts-byte}
 use Rattle.store.specs.Stack.{Stack, Tail, newest}
 use Rattle.store.specs.laws.Lists as lists
 use Rattle.store.specs.laws.Tails.{newest-is, top-size}
@@ -27,7 +28,6 @@ use Rattle.parser.specs.laws.Wraps.{stands-puts, end-text}
 use Rattle.reader.specs.declared.lists.Parts.{Parts}
 use Rattle.reader.specs.declared.lists.Prefix.the-variants as prefix-as
 use Rattle.reader.specs.Lists.{Alike, same-text, both-long, Parted, Parting, parted, before-part}
-use Rattle.reader.specs.laws.Items.{one-byte}
 use Rattle.reader.specs.laws.Separators.{join-more, puts-nothing}
 use Rattle.reader.specs.laws.Standing.{stands-kept, stands-sized}
 use Rattle.reader.specs.laws.Joined.{last-more, shown-is, colons-size, parts-by}
@@ -64,7 +64,7 @@ structor-more ps c = record { texts = ps .texts ++ ((tilde-of c ++ class-of (ps 
 
 pub ctor-dtor-is : (ps : g.Parts) (σ : State) (c x : ℕ) (t : Text) → σ .rest ≡ c ∷ x ∷ t → g.ctor-dtor-name reading ps σ ≡ ok (structor-more ps c) (moved t σ)
 unfolding g.ctor-dtor-name onto go-to tilde-of b
-ctor-dtor-is ps σ c x t e = rw (e, one-byte c 68 (x ∷ t))
+ctor-dtor-is ps σ c x t e = rw (e, starts-byte c 68 (x ∷ t))
 
 -- ---------------------------------------------------------------- the last part, and the class in it
 

@@ -6,7 +6,8 @@ use native.Mathlib.Omega.{arith}
 use lib.ListN.{length, take, drop, length-append, length-drop}
 use lib.Seq.{drop-append-le, drop-drop, take-at, drop-at, length-take-le, take-take}
 use Rattle.grammar.specs.Text.{Text}
-use Rattle.store.specs.Stack.{kept-bytes, Stack, Tail, Put, Cut}
+use Rattle.store.specs.Stack.{kept-bytes, Stack, Tail, Put, Cut, lent}
+use Rattle.store.specs.laws.Lists.{drop-take}
 
 pub whole : (k : ℕ) (w : Text) → Tail k w w
 whole k w = record { lost = 0; most = omega arith; is = refl }
@@ -65,6 +66,12 @@ newest-is {k} {w} a t h l =
     let m : h .lost ≤ length a + length t - k = simp length-append at (h .most) in
     let b : h .lost ≤ length a = omega arith in
     (omega arith, ap (drop (length w - length t)) (h .is) ∙ drop-drop (length w - length t) (h .lost) (a ++ t) ∙ drop-at a t (h .lost + (length w - length t)) (omega arith))
+
+pub newest-lent : {k : ℕ} {text : Text} {top n : ℕ} (a t : Text) → Stack text top → Tail k (take top text) (a ++ t) → n ≡ length t → length t ≤ k → (n ≤ top) × (lent text top n ≡ t)
+newest-lent {k} {text} {top} {n} a t g h e l =
+    let z : length (take top text) ≡ top = top-size g in
+    let i = newest-is a t h l in
+    (omega (arith, i .0), sym (drop-take (top - n) top text) ∙ ap (λ (j : ℕ). drop j (take top text)) {x = top - n} {y = length (take top text) - length t} (omega arith) ∙ i .1)
 
 module _ {k : ℕ} {text text' : Text} {top top' : ℕ} (a b c : Text) (t : Tail k (take top text) (a ++ (b ++ c))) (l : Stack text top) where
   -- what `cut` leaves where no more than so much was lost

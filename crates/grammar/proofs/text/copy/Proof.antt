@@ -4,8 +4,9 @@ use mathlib.Core.Path.{_≡_, refl}
 use Prim.Native.Nat.{_≤_, _-_}
 use native.Mathlib.Numerals.{add-one}
 use native.Mathlib.Omega.{arith}
+use borrow.Author.Needs.{needs}
 use lib.ListN.{length, length-set}
-use lib.Seq.{paste, paste-zero, paste-suc, take-length}
+use lib.Seq.{paste, paste-zero, paste-suc}
 use Rattle.grammar.proofs.text.copy.Statement.{statement}
 use Rattle.grammar.proofs.text.copy.Tie as tie
 
@@ -17,21 +18,6 @@ abbrev μ-loop : tie.MeasureT-loop
 
 loop-holds : tie.Need-loop-holds Inv-loop μ-loop
 loop-holds c = (omega arith, (refl, paste-zero (c .args .out .now) (c .args .at) (c .args .src .now)))
-
-shared-slice-read-out : tie.Need-shared-slice-read-out Inv-loop μ-loop
-shared-slice-read-out c = omega arith
-
-add-out : tie.Need-add-out Inv-loop μ-loop
-add-out c = omega arith
-
-slice-write-out : tie.Need-slice-write-out Inv-loop μ-loop
-slice-write-out c = omega arith
-
-add-i : tie.Need-add-i Inv-loop μ-loop
-add-i c = omega arith
-
-loop-less : tie.Need-loop-less Inv-loop μ-loop
-loop-less c = omega arith
 
 loop-again : tie.Need-loop-again Inv-loop μ-loop
 loop-again c =
@@ -45,7 +31,7 @@ same-length c = c .before .loop .inv .1 .0
 returns : tie.Need-returns Inv-loop μ-loop
 returns c =
     let past : c .before .loop .i ≡ length (c .before .before .args .src .now) = omega arith in
-    rw (c .before .loop .inv .1 .1, past, take-length)
+    rw (← past) (c .before .loop .inv .1 .1)
 
 pub copy-spec : {M : Type 1} → statement M
 copy-spec =
@@ -54,11 +40,11 @@ copy-spec =
     Inv-loop
     μ-loop
     loop-holds
-    shared-slice-read-out
-    add-out
-    slice-write-out
-    add-i
-    loop-less
+    (λ c. search needs)
+    (λ c. search needs)
+    (λ c. search needs)
+    (λ c. search needs)
+    (λ c. search needs)
     loop-again
     same-length
     returns)

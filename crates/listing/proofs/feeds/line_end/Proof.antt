@@ -7,6 +7,7 @@ use borrow.Author.Needs.{needs}
 use borrow.Author.Tests.{not-false}
 use lib.ListN.{length}
 use Rattle.listing.specs.Lines.{feed-from}
+use Rattle.listing.specs.laws.Lines.{feed-behind}
 use Rattle.listing.proofs.feeds.line_end.Statement.{statement}
 use Rattle.listing.proofs.feeds.line_end.Tie as tie
 
@@ -23,7 +24,9 @@ returns : tie.Need-returns Inv-loop μ-loop
 returns c = (c .before2 .ensures .0 ∙ sym (c .before .before .before .before .loop .inv .1), c .before2 .ensures .1)
 
 loop-again : tie.Need-loop-again Inv-loop μ-loop
-loop-again c = (omega arith, c .before .before .before .loop .inv .1 ∙ c .before .no-feed .ensures (not-false _ (c .if1 .left)))
+loop-again c =
+    let l = c .before .before .before .loop in
+    (omega arith, l .inv .1 ∙ feed-behind (c .before .before .before .before .args .s .now) (l .end) 16 (omega arith) (c .before .none-in-block .ensures (not-false _ (c .if1 .left))))
 
 returns-2 : tie.Need-returns-2 Inv-loop μ-loop
 returns-2 c = (c .before3 .ensures .0 ∙ sym (c .before .before .loop .inv .1), c .before3 .ensures .1)

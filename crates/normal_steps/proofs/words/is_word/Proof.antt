@@ -4,7 +4,8 @@ use Prim.Native.Nat.{ℕ}
 use lib.ListN.{take, drop, length-drop}
 use Rattle.grammar.specs.Text.{same}
 use Rattle.normal_steps.specs.laws.Parts.{part-length}
-use Rattle.normal_steps.specs.laws.Tests.{same-no, starts-same}
+use Rattle.grammar.specs.laws.Laws.{same-not}
+use Rattle.normal_steps.specs.laws.Tests.{starts-same}
 use borrow.Author.Needs.{needs}
 use native.Mathlib.Omega.{arith}
 use Rattle.normal_steps.proofs.words.is_word.Statement.{statement}
@@ -13,7 +14,7 @@ use Rattle.normal_steps.proofs.words.is_word.Tie as tie
 returns : tie.Need-returns
 returns c =
     let a = c .before .before .before .args in
-    sym (same-no _ _ (λ e. c .if1 .taken (sym (part-length (a .s .now) (a .from) (a .to) (omega arith)) ∙ e)))
+    sym (same-not _ _ (λ e. c .if1 .taken (sym (part-length (a .s .now) (a .from) (a .to) (omega arith)) ∙ e)))
 
 returns-2 : tie.Need-returns-2
 returns-2 c =

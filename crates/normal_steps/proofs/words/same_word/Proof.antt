@@ -5,7 +5,7 @@ use lib.ListN.{take, drop}
 use Rattle.grammar.specs.Text.{same}
 use Rattle.normal_steps.specs.Parts.{part}
 use Rattle.normal_steps.specs.laws.Parts.{part-length}
-use Rattle.normal_steps.specs.laws.Tests.{same-no}
+use Rattle.grammar.specs.laws.Laws.{same-not}
 use borrow.Author.Needs.{needs}
 use native.Mathlib.Omega.{arith}
 use Rattle.normal_steps.proofs.words.same_word.Statement.{statement}
@@ -16,7 +16,7 @@ returns c =
     let a = c .before .before .args in
     let l = part-length (a .s .now) (a .a) (a .b) (omega arith) in
     let m = part-length (a .s .now) (a .from) (a .to) (omega arith) in
-    sym (same-no (part (a .s .now) (a .a) (a .b)) (part (a .s .now) (a .from) (a .to)) (λ e. c .if1 .taken (sym l ∙ e ∙ m)))
+    sym (same-not (part (a .s .now) (a .a) (a .b)) (part (a .s .now) (a .from) (a .to)) (λ e. c .if1 .taken (sym l ∙ e ∙ m)))
 
 returns-2 : tie.Need-returns-2
 returns-2 c =

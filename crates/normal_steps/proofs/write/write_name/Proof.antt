@@ -1,5 +1,5 @@
 -- `normal_steps::write::write_name` writes the length of an identifier and its bytes. Assumes nothing.
-use mathlib.Core.Path.{_≡_, sym, ap}
+use mathlib.Core.Path.{_≡_, sym, ap, _∙_}
 use mathlib.Core.List.{_++_}
 use Prim.Native.Nat.{ℕ, suc, _-_}
 use lib.ListN.{length, length-append}
@@ -7,6 +7,7 @@ use Rattle.grammar.specs.Text.{Text, decimal}
 use Rattle.catalogue.specs.Spelling.{length-digits}
 use Rattle.normal_steps.specs.Parts.{part}
 use Rattle.normal_steps.specs.laws.Parts.{part-length}
+use Rattle.normal_steps.specs.laws.Slices.{wrote-paste}
 use Rattle.normal_steps.specs.laws.Written.{wrote-as, wrote-both}
 use borrow.Author.Needs.{needs}
 use native.Mathlib.Omega.{arith}
@@ -47,7 +48,7 @@ returns c =
     let l = part-length (a .s .now) (a .from) (a .to) (omega arith) in
     let d : length-digits p ≡ decimal (suc (a .to - a .from)) (a .to - a .from) = ap (λ (k : ℕ). decimal (suc k) k) l in
     let n = length-append (length-digits p) p in
-    wrote-as (ap (λ (t : Text). t ++ p) (sym d)) (wrote-both (omega (arith, ap length d)) (c .before .before .before .before .before .before .before .write-decimal .ensures) (record { is = c .before .before .copy .ensures; end = omega arith }))
+    wrote-as (ap (λ (t : Text). t ++ p) (sym d)) (wrote-both (omega (arith, ap length d)) (c .before .before .before .before .before .before .before .write-decimal .ensures) (record { is = c .before .before .copy .ensures ∙ wrote-paste _ p _ .is; end = omega arith }))
 
 pub write-name-spec : {M : Type 1} → statement M
 write-name-spec =

@@ -8,7 +8,7 @@ use lib.ListN.{length, take, getD}
 use lib.Seq.{length-take-le, getD-take}
 use Rattle.parser.specs.Leaves.{Sought}
 use Rattle.parser.specs.laws.Leaves.{sought-first, sought-more, sought-last}
-use Rattle.parser.specs.laws.Runs.{run-stop, run-end}
+use Rattle.grammar.specs.laws.Runs.{run-stop, run-end}
 use Rattle.parser.proofs.leaf.class_of.Statement.{statement}
 use Rattle.parser.proofs.leaf.class_of.Tie as tie
 

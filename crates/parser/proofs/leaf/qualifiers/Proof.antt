@@ -7,7 +7,7 @@ use lib.ListN.{length, drop}
 use Rattle.grammar.specs.Text.{run}
 use Rattle.parser.specs.Leaves.{qualifies}
 use Rattle.parser.specs.laws.Leaves.{qualifies-yes, qualifies-no}
-use Rattle.parser.specs.laws.Runs.{run-more, run-stop, run-end}
+use Rattle.grammar.specs.laws.Runs.{run-more, run-stop, run-end}
 use Rattle.parser.proofs.leaf.qualifiers.Statement.{statement}
 use Rattle.parser.proofs.leaf.qualifiers.Tie as tie
 

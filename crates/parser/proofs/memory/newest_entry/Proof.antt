@@ -6,7 +6,8 @@ use borrow.Author.Needs.{needs}
 use lib.ListN.{take, drop}
 use Rattle.grammar.specs.Text.{same}
 use Rattle.parser.specs.Holds.{low-ends}
-use Rattle.parser.specs.laws.Halves.{store-size, low-ends-size, entry-size, entry-room, newest-part, sub-part, last-none, last-chosen, same-not}
+use Rattle.grammar.specs.laws.Laws.{same-not}
+use Rattle.parser.specs.laws.Halves.{store-size, low-ends-size, entry-size, entry-room, newest-part, sub-part, last-none, last-chosen}
 use Rattle.parser.proofs.memory.newest_entry.Statement.{statement}
 use Rattle.parser.proofs.memory.newest_entry.Tie as tie
 

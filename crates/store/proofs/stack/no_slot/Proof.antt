@@ -6,9 +6,9 @@ use Prim.Native.Nat.{ℕ, _+_, _-_, _≤_}
 use native.Mathlib.Omega.{arith}
 use borrow.Author.Needs.{needs}
 use borrow.Author.Tests.{not-false}
-use lib.ListN.{take, drop}
+use lib.ListN.{take, drop, getD}
 use Rattle.store.specs.Stack.{slots-in}
-use Rattle.store.proofs.Loops.{slots-none, slots-block, slots-fewer}
+use Rattle.store.proofs.Loops.{slots-none, slots-more, slots-fewer}
 use Rattle.store.proofs.stack.no_slot.Statement.{statement}
 use Rattle.store.proofs.stack.no_slot.Tie as tie
 
@@ -31,8 +31,8 @@ loop-again : tie.Need-loop-again Inv-loop μ-loop
 loop-again c =
     let a = c .before .before .before .before .before .before .args in
     let l = c .before .before .before .loop in
-    let n = slots-block (a .text .now) (a .from) (l .at - a .from) (l .inv .1 .1)
-    (ap (λ (k : ℕ). slots-in (take 16 (drop k (a .text .now)))) {x = a .from + (l .at - a .from)} {y = l .at} (omega arith) ∙ c .before .no-slot-in-block .ensures (not-false _ (c .if2 .left))) in
+    let n = slots-more (a .text .now) (a .from) (l .at - a .from) 16 (omega arith) (l .inv .1 .1)
+    (λ i h e. c .before .none-in-block .ensures (not-false _ (c .if2 .left)) i h (ap (λ (k : ℕ). getD (a .text .now) k 0) {x = l .at + i} {y = a .from + (l .at - a .from + i)} (omega arith) ∙ e)) in
     (omega arith, (omega arith, ap (λ (k : ℕ). slots-in (take k (drop (a .from) (a .text .now)))) {x = l .at + 16 - a .from} {y = l .at - a .from + 16} (omega arith) ∙ n))
 
 returns-3 : tie.Need-returns-3 Inv-loop μ-loop

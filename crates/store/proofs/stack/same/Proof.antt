@@ -5,14 +5,15 @@ use native.Mathlib.Omega.{arith}
 use borrow.Author.Needs.{needs}
 use lib.ListN.{length-take, length-drop}
 use Rattle.store.specs.Stack.{newest}
-use Rattle.store.proofs.Loops.{same-lengths, same-newest}
+use Rattle.grammar.specs.laws.Laws.{same-not}
+use Rattle.store.proofs.Loops.{same-newest}
 use Rattle.store.proofs.stack.same.Statement.{statement}
 use Rattle.store.proofs.stack.same.Tie as tie
 
 returns : tie.Need-returns
 returns c =
     let a = c .before .before .before .args in
-    sym (same-lengths (newest (a .text .now) (a .top) (a .n)) (a .word .now) (λ e. c .if1 .taken (omega (arith, simp (length-drop, length-take) at e))))
+    sym (same-not (newest (a .text .now) (a .top) (a .n)) (a .word .now) (λ e. c .if1 .taken (omega (arith, simp (length-drop, length-take) at e))))
 
 returns-2 : tie.Need-returns-2
 returns-2 c =

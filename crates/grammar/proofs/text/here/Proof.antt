@@ -1,9 +1,9 @@
--- `parser::names::here` tells whether the byte at a place is c; past the end there is none. Assumes nothing.
+-- `grammar::text::here` tells whether the byte at a place is c; past the end there is none. Assumes nothing.
 use mathlib.Core.Path.{sym}
 use borrow.Author.Needs.{needs}
-use Rattle.parser.specs.laws.Runs.{starts-one, starts-none}
-use Rattle.parser.proofs.names.here.Statement.{statement}
-use Rattle.parser.proofs.names.here.Tie as tie
+use Rattle.grammar.specs.laws.Runs.{starts-one, starts-none}
+use Rattle.grammar.proofs.text.here.Statement.{statement}
+use Rattle.grammar.proofs.text.here.Tie as tie
 
 returns : tie.Need-returns
 returns c = sym (starts-none _ _ _ (c .if1 .taken))
