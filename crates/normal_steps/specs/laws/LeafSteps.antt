@@ -23,7 +23,7 @@ use Rattle.normal_steps.specs.laws.Parts.{part-length}
 use Rattle.normal_steps.specs.Answers.{NameAt, NameIs, RefAt, RefIs, Value, LitIs}
 use Rattle.normal_steps.specs.laws.Leaves.{no-entry, entry-told}
 use Rattle.normal_steps.specs.States.{moved-to}
-use Rattle.normal_steps.specs.Holds.{Slices, out-to, Holds, Room, Puts, notes-node, at-literal, Passed}
+use Rattle.normal_steps.specs.Holds.{Work, out-to, Holds, Room, Puts, notes-node, at-literal, Passed}
 use Rattle.normal_steps.specs.laws.Slices.{out-size}
 use Rattle.normal_steps.specs.laws.Moves.{put-moved}
 use Rattle.normal_steps.specs.laws.Limits.{passed-none, passed-more, room-for}
@@ -57,7 +57,7 @@ module _ {s : Text} {at from to : ℕ} (x : NameAt s at from to) where
       let m = x .inside in
       (omega arith, omega arith)
 
-  module _ {ws : Slices} {p : Writer} {σ : Notes} (h : Holds s ws p σ) (b : at ≡ p .at) where
+  module _ {ws : Work} {p : Writer} {σ : Notes} (h : Holds s ws p σ) (b : at ≡ p .at) where
     pub name-fits : {q : Writer} → q ≡ moved-to p to → q .out + length (name-of s from to) ≤ length (ws .out)
     name-fits e = let z = name-size in let i = x .inside in omega (arith, out-size h, ap (λ (y : Writer). y .out) e)
 
@@ -82,7 +82,7 @@ no-reference-at s at x e = subst (RefIs s at) e x
 pub reference-at : (s : Text) (at : ℕ) {r : Referred} {i end : ℕ} → RefIs s at r → r ≡ to-entry i end → RefAt s at i end
 reference-at s at x e = subst (RefIs s at) e x
 
-module _ {s : Text} {ws : Slices} {p : Writer} {σ : Notes} (h : Holds s ws p σ) {i end : ℕ} (x : RefAt s (p .at) i end) where
+module _ {s : Text} {ws : Work} {p : Writer} {σ : Notes} (h : Holds s ws p σ) {i end : ℕ} (x : RefAt s (p .at) i end) where
   same-entry : getElem? (σ .table) (x .index) ≡ getElem? (σ .table) i
   same-entry = sym (entry-told (σ .table) (x .index) (omega arith)) ∙ ap (getElem? (σ .table)) (sym (x .told))
 
@@ -127,7 +127,7 @@ lit-part s at to t e l m =
     omega (arith, ap length y, length-append (lit-bytes t) (drop to s), length-drop at s, length-drop to s) in
     sym (take-at (lit-bytes t) (drop to s) (suc (to - at)) z) ∙ ap (take (suc (to - at))) y
 
-module _ {s : Text} {ws : Slices} {p : Writer} {σ : Notes} (h : Holds s ws p σ) {to kind : ℕ} {g : Bool} {from : ℕ}
+module _ {s : Text} {ws : Work} {p : Writer} {σ : Notes} (h : Holds s ws p σ) {to kind : ℕ} {g : Bool} {from : ℕ}
     (x : Value (literal (drop (p .at) s)) s to kind g from) (b : p .at < from) where
   abbrev marked : Notes
   marked = put (code "L" ∷ []) (go-to (drop to s) σ)

@@ -18,7 +18,7 @@ use Rattle.normal_steps.specs.declared.state.Told.the-variants.{Number}
 use Rattle.normal_steps.specs.States.{written-to, noted-to, entered-to}
 use Rattle.normal_steps.specs.Written.{Wrote}
 use Rattle.normal_steps.specs.laws.Written.{wrote-four}
-use Rattle.normal_steps.specs.Holds.{Row, node-in, nodes-in, flat, Inside, Noting, Slices, out-to, notes-to, most-number, Holds, Room, Took, Went, Refines, tells, notes-node}
+use Rattle.normal_steps.specs.Holds.{Row, node-in, nodes-in, flat, Inside, Noting, Work, out-to, notes-to, most-number, Holds, Room, Took, Went, Refines, tells, notes-node}
 use Rattle.normal_steps.specs.Seeks.{Sought}
 use Rattle.normal_steps.specs.Rows.{rows-of}
 use Rattle.normal_steps.specs.laws.Rows.{rows-flat, flat-more, length-nodes}
@@ -27,7 +27,7 @@ use Rattle.normal_steps.specs.laws.Regions.{front-wrote, first-front, fi
 use Rattle.normal_steps.specs.laws.Entries.{firsts-known, firsts-new, firsts-length}
 use Rattle.normal_steps.specs.laws.Slices.{flat-size, firsts-most, notes-size, firsts-here, with-out, with-entry, with-row}
 
-module _ {s : Text} {ws : Slices} {p : Writer} {σ : Notes} (h : Holds s ws p σ) where
+module _ {s : Text} {ws : Work} {p : Writer} {σ : Notes} (h : Holds s ws p σ) where
   -- ---------------------------------------------------------------- the searches
 
   -- in the last region, which is lent
@@ -156,7 +156,8 @@ module _ {s : Text} {ws : Slices} {p : Writer} {σ : Notes} (h : Holds s ws p σ
     note-new q g e =
         let c : length (σ .nodes) ≡ p .nodes = ap length (h .nodes-are) ∙ length-nodes s (h .rows) ∙ sym (h .nodes-count) in
         let v : Notes = notes (σ .out) (σ .nodes ++ (node-in s x ∷ [])) (σ .table) (σ .args) (σ .rest) in
-        subst (Refines s (Took 1 0 0 (p .out) p) (notes-to ws (sets-row (ws .notes) (4 * p .nodes))) (Number q (256 + p .nodes))) (sym (noted-by (node-in s x) none e ∙ ap (λ (k : ℕ). got (256 + k) v) c))
+        subst (Refines s (Took 1 0 0 (p .out) p) (notes-to ws (sets-row (ws .notes) (4 * p .nodes))) (Number q (256 + p .nodes)))
+        (sym (noted-by (node-in s x) none e ∙ ap (λ (k : ℕ). got (256 + k) v) c))
         (subst (λ (y : Writer). Refines s (Took 1 0 0 (p .out) p) (notes-to ws (sets-row (ws .notes) (4 * p .nodes))) (Number y (256 + p .nodes)) (got (256 + p .nodes) v)) (sym g)
         (tells (with-row h x (p .nodes + 1) (sets-row (ws .notes) (4 * p .nodes)) b refl (r .nodes) noted-rows)
         (record { at = refl; nodes = omega arith; table = omega arith; out = omega arith; args = omega arith; stands = omega arith })

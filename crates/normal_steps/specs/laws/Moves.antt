@@ -13,14 +13,14 @@ use Rattle.catalogue.specs.Recogniser.{if-next}
 use Rattle.normal_nodes.specs.Nodes.{Notes, put, go-to, counted}
 use Rattle.normal_steps.specs.laws.Tests.{next-not}
 use Rattle.normal_steps.specs.States.{moved-to, counted-to}
-use Rattle.normal_steps.specs.Holds.{Slices, out-to, Holds, Ready, ReadyOut, ReadyNotes, Copies, Puts}
+use Rattle.normal_steps.specs.Holds.{Work, out-to, Holds, Ready, ReadyOut, ReadyNotes, Copies, Puts}
 use Rattle.normal_steps.specs.declared.state.Writer.{Writer}
 
 -- what a method hands back holds what its equation says
-pub by-state : {s : Text} {ws : Slices} {p q : Writer} {σ : Notes} → q ≡ p → Holds s ws p σ → Holds s ws q σ
+pub by-state : {s : Text} {ws : Work} {p q : Writer} {σ : Notes} → q ≡ p → Holds s ws p σ → Holds s ws q σ
 by-state {s} {ws} {p} {q} {σ} e h = subst (λ (x : Writer). Holds s ws x σ) (sym e) h
 
-module _ {s : Text} {ws : Slices} {p : Writer} {σ : Notes} (h : Holds s ws p σ) where
+module _ {s : Text} {ws : Work} {p : Writer} {σ : Notes} (h : Holds s ws p σ) where
   pub holds-moved : (to : ℕ) → p .at ≤ to → to ≤ length s → Holds s ws (moved-to p to) (go-to (drop to s) σ)
   holds-moved to l k = record {
     source = h .source;
@@ -99,7 +99,7 @@ module _ {s : Text} {ws : Slices} {p : Writer} {σ : Notes} (h : Holds s ws p σ
   put-moved w {o'} {q} {r} {to} e x l k b =
       x .1 s ws (go-to (drop to s) σ) (by-state e (holds-moved to l k)) (omega (arith, ap (λ (x : Writer). x .at) e, ap (λ (x : Writer). x .out) e))
 
-module _ {s : Text} {ws : Slices} {p : Writer} where
+module _ {s : Text} {ws : Work} {p : Writer} where
   pub moved-ready : {q : Writer} → q ≡ moved-to p (p .at + 1) → p .at < length s → Ready s ws p → Ready s ws q
   moved-ready e l (σ, h) = (_, holds-next h (first-byte h l) e)
 
@@ -113,5 +113,5 @@ module _ {s : Text} {ws : Slices} {p : Writer} where
   pub ready-notes : Ready s ws p → ReadyNotes s (ws .notes) p
   ready-notes w = (ws, w)
 
-abbrev pub slices-of : {s : Text} {ws : Slices} {p : Writer} {σ : Notes} → Holds s ws p σ → Slices
-slices-of {ws = ws} h = ws
+abbrev pub work-of : {s : Text} {ws : Work} {p : Writer} {σ : Notes} → Holds s ws p σ → Work
+work-of {ws = ws} h = ws

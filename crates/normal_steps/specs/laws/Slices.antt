@@ -16,12 +16,12 @@ use Rattle.normal_nodes.specs.Nodes.{Node, Notes, notes, put, pushed, firsts, t
 use Rattle.normal_steps.specs.declared.state.Writer.{Writer}
 use Rattle.normal_steps.specs.States.{written-to, noted-to, entered-to}
 use Rattle.normal_steps.specs.Written.{Wrote}
-use Rattle.normal_steps.specs.Holds.{Row, node-in, nodes-in, flat, Noting, Slices, out-to, notes-to, most-number, Holds, Puts}
+use Rattle.normal_steps.specs.Holds.{Row, node-in, nodes-in, flat, Noting, Work, out-to, notes-to, most-number, Holds, Puts}
 use Rattle.normal_steps.specs.laws.Rows.{length-flat, nodes-more, inside-more, tag-at, no-tag}
 use Rattle.normal_steps.specs.laws.Regions.{front-wrote, first-front, second-at, regions-size}
 use Rattle.normal_steps.specs.laws.Entries.{some-at, small-at, small-more, last-none, last-at}
 
-module _ {s : Text} {ws : Slices} {p : Writer} {σ : Notes} (h : Holds s ws p σ) where
+module _ {s : Text} {ws : Work} {p : Writer} {σ : Notes} (h : Holds s ws p σ) where
   -- ---------------------------------------------------------------- sizes
 
   pub flat-size : length (flat (h .rows)) ≡ 4 * p .nodes

@@ -4,20 +4,20 @@ use Prim.Native.Nat.{ℕ, _<_}
 use native.Mathlib.Omega.{arith}
 use Rattle.grammar.specs.Text.{Text}
 use Rattle.normal_nodes.specs.Nodes.{Notes, Got, got, bad}
-use Rattle.normal_steps.specs.Holds.{Slices, Holds, Refines, tells, refuses, Went, most-number}
+use Rattle.normal_steps.specs.Holds.{Work, Holds, Refines, tells, refuses, Went, most-number}
 use Rattle.normal_steps.specs.declared.state.Writer.{Writer}
 use Rattle.normal_steps.specs.declared.state.Told.{Told}
 use Rattle.normal_steps.specs.declared.state.Told.the-variants.{Number, Bad}
 
 -- a number was told
-pub record Answered (s : Text) (L : Writer → Type 0) (ws : Slices) (p : Writer) (d : ℕ) (g : Got ℕ) : Type 0 where
+pub record Answered (s : Text) (L : Writer → Type 0) (ws : Work) (p : Writer) (d : ℕ) (g : Got ℕ) : Type 0 where
   pub state : Notes
   pub holds : Holds s ws p state
   pub limits : L p
   pub small : d < most-number
   pub is : g ≡ got d state
 
-module _ {s : Text} {L : Writer → Type 0} {ws : Slices} {r : Told} {g : Got ℕ} where
+module _ {s : Text} {L : Writer → Type 0} {ws : Work} {r : Told} {g : Got ℕ} where
   pub answered : {p : Writer} {d : ℕ} → r ≡ Number p d → Refines s L ws r g → Answered s L ws p d g
   answered e h = told (subst (λ (x : Told). Refines s L ws x g) e h)
     where
@@ -34,11 +34,11 @@ module _ {s : Text} {L : Writer → Type 0} {ws : Slices} {r : Told} {g : Got �
   by e h = subst (λ (x : Got ℕ). Refines s L ws r x) (sym e) h
 
 -- within wider limits
-pub within : {s : Text} {L K : Writer → Type 0} {ws : Slices} {r : Told} {g : Got ℕ} → ((p : Writer) → L p → K p) → Refines s L ws r g → Refines s K ws r g
+pub within : {s : Text} {L K : Writer → Type 0} {ws : Work} {r : Told} {g : Got ℕ} → ((p : Writer) → L p → K p) → Refines s L ws r g → Refines s K ws r g
 within k (tells h l m) = tells h (k _ l) m
 within k refuses = refuses
 
-module _ {s : Text} {ws : Slices} {L : Writer → Type 0} where
+module _ {s : Text} {ws : Work} {L : Writer → Type 0} where
   -- where the definition has a number, it is the one that was told
   pub told : {r : Told} {p : Writer} {d e : ℕ} {τ : Notes} → Refines s L ws r (got e τ) → r ≡ Number p d
       → Holds s ws p τ × (L p × ((d ≡ e) × (d < most-number)))

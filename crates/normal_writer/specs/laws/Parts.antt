@@ -14,7 +14,7 @@ use Rattle.normal_nodes.specs.Nodes.{Notes, Noter, Got, got, next, when, with, 
 use Rattle.grammar.specs.laws.Places.{starts-byte}
 use Rattle.normal_steps.specs.States.{moved-to}
 use Rattle.normal_steps.specs.Leads.{class}
-use Rattle.normal_steps.specs.Holds.{Slices, out-to, Holds, Ready, Spent, Refines, tells, refuses, Reads, Fueled, Does, Copies, Closes, Tag, most-number, at-part, closed}
+use Rattle.normal_steps.specs.Holds.{Work, out-to, Holds, Ready, Spent, Refines, tells, refuses, Reads, Fueled, Does, Copies, Closes, Tag, most-number, at-part, closed}
 use Rattle.normal_writer.specs.Cycle.{Leads}
 use Rattle.normal_steps.specs.laws.Told.{Answered, answered, refused, by, within}
 use Rattle.normal_steps.specs.laws.Steps.{on-got, on-bad}
@@ -31,7 +31,7 @@ use Rattle.normal_steps.specs.declared.state.Told.the-variants.{Number, Bad}
 
 -- ---------------------------------------------------------------- nested
 
-module _ {s : Text} {ws ws₂ : Slices} {o₁ : Text} {p p₁ : Writer} {r₁ : Told}
+module _ {s : Text} {ws ws₂ : Work} {o₁ : Text} {p p₁ : Writer} {r₁ : Told}
     (k : Copies s (ws .out) o₁ p p₁) (u : Fueled 1 (p₁ .out) 0 (λ m. note-parts m (p₁ .out)) s (out-to ws o₁) ws₂ p₁ r₁) where
   nested-at : {σ : Notes} → Holds s ws p σ → (m : ℕ) → length s ≤ suc m + p .at → (c : ℕ) (t : Text) → σ .rest ≡ c ∷ t
       → Refines s (Spent 2 (p .out) p) ws₂ r₁ (note-parts m (suc (length (σ .out))) (put (c ∷ []) (go-to t σ)))
@@ -48,7 +48,7 @@ module _ {s : Text} {ws ws₂ : Slices} {o₁ : Text} {p p₁ : Writer} {r₁ : 
         → Answered s (Spent 1 (p .out) p) ws₂ p₂ d (note-parts (length s) (suc (length (w .0 .out))) (put (getD s (p .at) 0 ∷ []) (go-to (drop (p .at + 1) s) (w .0))))
     nested-told l (σ, h) = answered e (within (λ x y. spent-less (omega arith) y) (nested-at h (length s) (omega arith) _ _ (first-byte h l)))
 
-    pub nested-answer : {o₃ : Text} {ws₄ : Slices} {p₃ p₄ : Writer} → Closes (ws₂ .out) o₃ p₂ p₃
+    pub nested-answer : {o₃ : Text} {ws₄ : Work} {p₃ p₄ : Writer} → Closes (ws₂ .out) o₃ p₂ p₃
         → ((s : Text) → Does 0 1 5 (p .out) (entered-nested d (p .out)) s (out-to ws₂ o₃) ws₄ p₃ p₄) → (c : ℕ) → Leads leadN c s ws ws₄ p (Number p₄ d)
     nested-answer v w c σ h m l t i =
         let a = answered e (nested-at h m l c t i) in
@@ -59,16 +59,16 @@ module _ {s : Text} {ws ws₂ : Slices} {o₁ : Text} {p p₁ : Writer} {r₁ : 
 
 -- ---------------------------------------------------------------- parts
 
-abbrev pub PartsBy : Lead → Text → Slices → Slices → Writer → Told → Type 0
+abbrev pub PartsBy : Lead → Text → Work → Work → Writer → Told → Type 0
 PartsBy l s ws ws' p r =
     (σ : Notes) → Holds s ws p σ → (m : ℕ) → length s ≤ suc m + p .at → (c : ℕ) (t : Text) → σ .rest ≡ c ∷ t
     → Refines s (Spent 1 (p .out) p) ws' r (note-at-parts l (p .out) t σ (λ u lone τ. note-more m u lone (p .out) τ))
 
-module _ {s : Text} {ws : Slices} {p : Writer} where
+module _ {s : Text} {ws : Work} {p : Writer} where
   pub parts-end : length s ≤ p .at → Fueled 1 (p .out) 0 (λ m. note-parts m (p .out)) s ws ws p Bad
   parts-end l σ h m f = by (parts-none σ m (p .out) (no-byte h l)) refuses
 
-  pub parts-by : {ws' : Slices} {r : Told} {l : Lead} → p .at < length s → lead (getD s (p .at) 0) ≡ l → PartsBy l s ws ws' p r
+  pub parts-by : {ws' : Work} {r : Told} {l : Lead} → p .at < length s → lead (getD s (p .at) 0) ≡ l → PartsBy l s ws ws' p r
       → Fueled 1 (p .out) 0 (λ m. note-parts m (p .out)) s ws ws' p r
   parts-by i e u σ h zero f = absurd (omega arith)
   parts-by {l = l} i e u σ h (suc m) f =
@@ -85,18 +85,18 @@ module _ {s : Text} {ws : Slices} {p : Writer} where
   parts-other leadL i j σ h m f c t e = refuses
   parts-other leadNone i j σ h m f c t e = refuses
 
-  module _ {ws₁ : Slices} {r₁ : Told} (u : FirstPart by-name s ws ws₁ p r₁) where
+  module _ {ws₁ : Work} {r₁ : Told} (u : FirstPart by-name s ws ws₁ p r₁) where
     pub parts-unnamed : r₁ ≡ Bad → PartsBy lead-digit s ws ws₁ p Bad
     parts-unnamed e σ h m l c t i = by (on-bad _ (refused e (u σ h c t i))) refuses
 
-    pub parts-named : {ws₂ : Slices} {q : Writer} {d : ℕ} {r : Told} → r₁ ≡ Number q d
+    pub parts-named : {ws₂ : Work} {q : Writer} {d : ℕ} {r : Told} → r₁ ≡ Number q d
         → Fueled 1 (p .out) 1 (λ m. note-more m d true (p .out)) s ws₁ ws₂ q r → PartsBy lead-digit s ws ws₂ p r
     parts-named e v σ h m l c t i =
         let w = answered e (u σ h c t i) in
         by (on-got (λ d τ. note-more m d true (p .out) τ) (w .is))
         (within (λ x y. spent-less (omega arith) (spent-spent (w .limits .1) y)) (v (w .state) (w .holds) m (omega (arith, w .limits .0))))
 
-  module _ {ws₁ : Slices} {r₁ : Told} (u : FirstPart by-reference s ws ws₁ p r₁) where
+  module _ {ws₁ : Work} {r₁ : Told} (u : FirstPart by-reference s ws ws₁ p r₁) where
     pub parts-unreferred : r₁ ≡ Bad → PartsBy leadS s ws ws₁ p Bad
     parts-unreferred e σ h m l c t i = by (on-bad _ (refused e (u σ h c t i))) refuses
 
@@ -115,7 +115,7 @@ module _ {s : Text} {ws : Slices} {p : Writer} where
       parts-barred z σ h m l c t i =
           let (w, f) = referred-at h m c t i in by (f ∙ ap (λ (b : Bool). when b (note-more m d (eqb tag 48) (p .out) (w .state))) z) refuses
 
-      pub parts-referred : {ws₂ : Slices} {r : Told} → a-class tag ≡ true
+      pub parts-referred : {ws₂ : Work} {r : Told} → a-class tag ≡ true
           → Fueled 1 (p .out) 1 (λ m. note-more m d (eqb tag 48) (p .out)) s ws₁ ws₂ q r → PartsBy leadS s ws ws₂ p r
       parts-referred z v σ h m l c t i =
           let (w, f) = referred-at h m c t i in
@@ -133,7 +133,7 @@ unfolding name read-name cut run past number name-ok if_then_else_
 name-none = refl
 
 -- the end of a nested name, or more of its parts
-abbrev pub Ends : ℕ → Bool → ℕ → Text → Slices → Slices → Writer → Told → Type 0
+abbrev pub Ends : ℕ → Bool → ℕ → Text → Work → Work → Writer → Told → Type 0
 Ends u lone from = Fueled 0 from 1 (λ m. note-end-or from (λ t l τ. note-more m t l from τ) u lone)
 
 abbrev ending : ℕ → ℕ → Bool → ℕ → Noter ℕ
@@ -148,8 +148,8 @@ module _ (m t : ℕ) (lone : Bool) (from : ℕ) (σ : Notes) where
       ∙ ap (λ (b : Bool). note-at-more b t lone from r σ (λ v τ. note-args m v τ) (λ v l τ. note-more m v l from τ)) (sym (starts-byte c 73 r) ∙ i)
       ∙ with-next (name (σ .rest)) _ (ending m from false)
 
-module _ {s : Text} {ws : Slices} {p : Writer} (t : ℕ) (lone : Bool) (from : ℕ) where
-  module _ {ws₁ : Slices} {r₁ : Told} (i : starts (drop (p .at) s) (73 ∷ []) ≡ false) (u : Reads 1 (p .out) (at-part t) s ws ws₁ p r₁) where
+module _ {s : Text} {ws : Work} {p : Writer} (t : ℕ) (lone : Bool) (from : ℕ) where
+  module _ {ws₁ : Work} {r₁ : Told} (i : starts (drop (p .at) s) (73 ∷ []) ≡ false) (u : Reads 1 (p .out) (at-part t) s ws ws₁ p r₁) where
     pub part-refused : r₁ ≡ Bad → Fueled 1 from 1 (λ m. note-more m t lone from) s ws ws₁ p Bad
     part-refused e σ h zero l = absurd (omega (arith, h .place))
     part-refused e σ h (suc m) l = by (part-by m t lone from σ _ (h .rest) i ∙ on-bad (ending m from false) (refused e (u σ h))) refuses
@@ -165,7 +165,7 @@ module _ {s : Text} {ws : Slices} {p : Writer} (t : ℕ) (lone : Bool) (from : �
           ready = (w .state, w .holds);
         }
 
-    pub part-answer : {ws₂ : Slices} {q : Writer} {d : ℕ} {r : Told} → r₁ ≡ Number q d → Ends d false from s ws₁ ws₂ q r
+    pub part-answer : {ws₂ : Work} {q : Writer} {d : ℕ} {r : Told} → r₁ ≡ Number q d → Ends d false from s ws₁ ws₂ q r
         → Fueled 1 from 1 (λ m. note-more m t lone from) s ws ws₂ p r
     part-answer e v σ h zero l = absurd (omega (arith, h .place))
     part-answer e v σ h (suc m) l =
@@ -184,13 +184,13 @@ module _ {s : Text} {ws : Slices} {p : Writer} (t : ℕ) (lone : Bool) (from : �
     angled-barred z σ h zero l = absurd (omega (arith, h .place))
     angled-barred z σ h (suc m) l = by (angled-by m h z) refuses
 
-    module _ (z : a-bare tag ≡ true) {o₁ : Text} {ws₂ : Slices} {p₁ : Writer} {r₁ : Told}
+    module _ (z : a-bare tag ≡ true) {o₁ : Text} {ws₂ : Work} {p₁ : Writer} {r₁ : Told}
         (k : Copies s (ws .out) o₁ p p₁) (u : Fueled 0 (p₁ .out) 1 (λ m. note-args m t) s (out-to ws o₁) ws₂ p₁ r₁) where
       pub angled-refused : r₁ ≡ Bad → Fueled 1 from 1 (λ m. note-more m t lone from) s ws ws₂ p Bad
       angled-refused e σ h zero l = absurd (omega (arith, h .place))
       angled-refused e σ h (suc m) l = by (angled-by m h z ∙ on-bad _ (refused e (args-from t i k u h m (omega arith)))) refuses
 
-      pub angled-answer : {p₂ p₃ : Writer} {d : ℕ} {o₃ : Text} {ws₄ : Slices} {r : Told} → r₁ ≡ Number p₂ d
+      pub angled-answer : {p₂ p₃ : Writer} {d : ℕ} {o₃ : Text} {ws₄ : Work} {r : Told} → r₁ ≡ Number p₂ d
           → Closes (ws₂ .out) o₃ p₂ p₃ → Ends d lone from s (out-to ws₂ o₃) ws₄ p₃ r
           → Fueled 1 from 1 (λ m. note-more m t lone from) s ws ws₄ p r
       angled-answer e v w σ h zero l = absurd (omega (arith, h .place))
@@ -202,7 +202,7 @@ module _ {s : Text} {ws : Slices} {p : Writer} (t : ℕ) (lone : Bool) (from : �
 
 -- ---------------------------------------------------------------- the end of a nested name, or more of its parts
 
-module _ {s : Text} {ws : Slices} {p : Writer} (d : ℕ) (lone : Bool) (from : ℕ) where
+module _ {s : Text} {ws : Work} {p : Writer} (d : ℕ) (lone : Bool) (from : ℕ) where
   module _ (i : starts (drop (p .at) s) (69 ∷ []) ≡ true) where
     end-by : {σ : Notes} (m : ℕ) → Holds s ws p σ → {b : Bool} → lone ≡ b → ending m from lone d σ ≡ when (not b) (got d (go-to (drop (p .at + 1) s) σ))
     end-by {σ} m h e = byte-next _ _ (byte-is h 69 i) ∙ ap (λ (b : Bool). when (not b) (got d (go-to (drop (p .at + 1) s) σ))) e
@@ -213,7 +213,7 @@ module _ {s : Text} {ws : Slices} {p : Writer} (d : ℕ) (lone : Bool) (from : �
     pub end-answer : {q : Writer} → lone ≡ false → q ≡ moved-to p (p .at + 1) → d < most-number → from ≤ p .out → Ends d lone from s ws ws p (Number q d)
     end-answer e g y b σ h m l = by (end-by m h e) (tells (holds-next h (byte-is h 69 i) g) (spent-moved g (spent-nothing b)) y)
 
-  pub end-more : {ws₁ ws₂ : Slices} {q : Writer} {r : Told} → starts (drop (p .at) s) (69 ∷ []) ≡ false
+  pub end-more : {ws₁ ws₂ : Work} {q : Writer} {r : Told} → starts (drop (p .at) s) (69 ∷ []) ≡ false
       → ((s : Text) → Does 0 1 5 from (entered d from) s ws ws₁ p q) → Fueled 1 from 1 (λ m. note-more m d lone from) s ws₁ ws₂ q r
       → Ends d lone from s ws ws₂ p r
   end-more i v u σ h m l =
@@ -222,25 +222,25 @@ module _ {s : Text} {ws : Slices} {p : Writer} (d : ℕ) (lone : Bool) (from : �
 
 -- ---------------------------------------------------------------- the loop of `more`
 
-abbrev pub MoreFrom : ℕ → Bool → ℕ → Text → Slices → Writer → Slices → Told → Type 0
+abbrev pub MoreFrom : ℕ → Bool → ℕ → Text → Work → Writer → Work → Told → Type 0
 MoreFrom t lone from s ws p ws' r = Fueled 1 from 1 (λ m. note-more m t lone from) s ws ws' p r
 
-abbrev pub MoreSoFar : Text → ℕ → Slices → Writer → ℕ → Bool → Slices → Writer → ℕ → Bool → Type 0
+abbrev pub MoreSoFar : Text → ℕ → Work → Writer → ℕ → Bool → Work → Writer → ℕ → Bool → Type 0
 MoreSoFar s from ws₀ p₀ t₀ lone₀ ws p t lone =
     (from ≤ p .out) × SoFar (MoreFrom t₀ lone₀ from s ws₀ p₀) s ws₀ p₀ (MoreFrom t lone from s ws p) ws p t
 
-pub more-start : {s : Text} {ws : Slices} {p : Writer} {t from : ℕ} (lone : Bool) → t < most-number → from ≤ p .out → Ready s ws p → MoreSoFar s from ws p t lone ws p t lone
+pub more-start : {s : Text} {ws : Work} {p : Writer} {t from : ℕ} (lone : Bool) → t < most-number → from ≤ p .out → Ready s ws p → MoreSoFar s from ws p t lone ws p t lone
 more-start lone l b w = (b, nothing-yet l w)
 
 -- a part or arguments, no E behind them, and what was read enters the table
-module _ {s : Text} {ws₁ ws₂ : Slices} {from d : ℕ} {p q z : Writer} (a : Enclosed s ws₁ from p q d) (v : (s : Text) → Does 0 1 5 from (entered d from) s ws₁ ws₂ q z) where
+module _ {s : Text} {ws₁ ws₂ : Work} {from d : ℕ} {p q z : Writer} (a : Enclosed s ws₁ from p q d) (v : (s : Text) → Does 0 1 5 from (entered d from) s ws₁ ws₂ q z) where
   pub more-behind : (p .at + 1 ≤ z .at) × (z .at ≤ length s)
   more-behind =
       let b = v s (a .ready .0) (a .ready .1) in (omega (arith, a .at, b .limits .at), b .holds .place)
 
-  pub more-again : {F : Slices → Told → Type 0} {ws₀ ws : Slices} {p₀ : Writer} {t : ℕ} (lone lone' : Bool) → starts (drop (q .at) s) (69 ∷ []) ≡ false
+  pub more-again : {F : Work → Told → Type 0} {ws₀ ws : Work} {p₀ : Writer} {t : ℕ} (lone lone' : Bool) → starts (drop (q .at) s) (69 ∷ []) ≡ false
       → length (ws₂ .out) ≡ length (ws .out) → length (ws₂ .notes) ≡ length (ws .notes)
-      → ((ws' : Slices) (r : Told) → Ends d lone' from s ws₁ ws' q r → MoreFrom t lone from s ws p ws' r)
+      → ((ws' : Work) (r : Told) → Ends d lone' from s ws₁ ws' q r → MoreFrom t lone from s ws p ws' r)
       → SoFar F s ws₀ p₀ (MoreFrom t lone from s ws p) ws p t
       → (from ≤ z .out) × SoFar F s ws₀ p₀ (MoreFrom d lone' from s ws₂ z) ws₂ z d
   more-again lone lone' j x y g w =

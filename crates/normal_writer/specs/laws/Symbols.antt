@@ -24,7 +24,7 @@ use Rattle.normal_steps.specs.laws.Limits.{spent-room}
 use Rattle.normal_steps.specs.laws.LeafSteps.{name-size}
 use Rattle.normal_steps.specs.Answers.{NameAt}
 use Rattle.normal_steps.specs.laws.Regions.{regions-none}
-use Rattle.normal_steps.specs.Holds.{nodes-in, flat, Inside, Slices, out-to, Holds, Ready, Spent, Room, Refines, Fueled, Puts, Tag, Closes, closed}
+use Rattle.normal_steps.specs.Holds.{nodes-in, flat, Inside, Work, out-to, Holds, Ready, Spent, Room, Refines, Fueled, Puts, Tag, Closes, closed}
 use Rattle.normal_writer.specs.Writes.{Writes, writes, outside, Heads, heads, nameless, Scoped, Plain, Functions, at-plain, Ended, ended, broken, Types}
 use Rattle.normal_steps.specs.declared.state.Writer.{Writer}
 use Rattle.normal_steps.specs.declared.state.Told.{Told}
@@ -37,7 +37,7 @@ use Rattle.normal_writer.specs.declared.symbol.Written.the-variants.{Sym
 -- ---------------------------------------------------------------- the start
 
 -- nothing is noted, and w is written
-pub begun-holds : (s w : Text) (at : ℕ) {ws : Slices} {p : Writer} → p ≡ begun-at at (length w) → length s ≤ 4096 → at ≤ length s → length w ≤ 16 * at
+pub begun-holds : (s w : Text) (at : ℕ) {ws : Work} {p : Writer} → p ≡ begun-at at (length w) → length s ≤ 4096 → at ≤ length s → length w ≤ 16 * at
     → Front 65536 w (ws .out) → length (ws .notes) ≡ 24576 → Holds s ws p (notes w [] [] 0 (drop at s))
 unfolding nodes-in flat Inside note-add-all
 begun-holds s w at {ws} {p} e l h k o z = subst (λ (q : Writer). Holds s ws q (notes w [] [] 0 (drop at s))) (sym e) (record {
@@ -63,7 +63,7 @@ begun-holds s w at {ws} {p} e l h k o z = subst (λ (q : Writer). Holds s ws q (
 
 -- ---------------------------------------------------------------- answers
 
-module _ {s : Text} {ws : Slices} where
+module _ {s : Text} {ws : Work} where
   heads-by : {r : Headed} {f g : Got Bool} → f ≡ g → Heads s ws r g → Heads s ws r f
   heads-by {r = r} e h = subst (λ (x : Got Bool). Heads s ws r x) (sym e) h
 
@@ -94,7 +94,7 @@ module _ {s : Text} {from to : ℕ} (h : NameAt s 2 from to) where
 -- ---------------------------------------------------------------- a nested name
 
 -- w is written and taken, and nothing is noted
-pub record Begun (s w : Text) (ws : Slices) (p : Writer) : Type 0 where
+pub record Begun (s w : Text) (ws : Work) (p : Writer) : Type 0 where
   pub is : p ≡ begun-at (length w) (length w)
   pub source : length s ≤ 4096
   pub two : 2 ≤ length w
@@ -102,7 +102,7 @@ pub record Begun (s w : Text) (ws : Slices) (p : Writer) : Type 0 where
   pub out-is : Front 65536 w (ws .out)
   pub notes-size : length (ws .notes) ≡ 24576
 
-pub begun-by : (s w : Text) (ws : Slices) {o : Text} {p : Writer}
+pub begun-by : (s w : Text) (ws : Work) {o : Text} {p : Writer}
     → (length s ≤ 4096) × ((2 ≤ length w) × ((length w ≤ 4) × (length w ≤ length s))) → length (ws .notes) ≡ 24576
     → (p ≡ begun-at (length w) (length w)) × Front 65536 w o → Begun s w (out-to ws o) p
 begun-by s w ws h z k = record { is = k .0; source = h .0; two = h .1 .0; fits = h .1 .1 .1; out-is = k .1; notes-size = z }
@@ -110,7 +110,7 @@ begun-by s w ws h z k = record { is = k .0; source = h .0; two = h .1 .0; fits =
 abbrev pub first : Text → Text → Notes
 first s w = notes w [] [] 0 (drop (length w) s)
 
-module _ {s w : Text} {ws : Slices} {p : Writer} (b : Begun s w ws p) where
+module _ {s w : Text} {ws : Work} {p : Writer} (b : Begun s w ws p) where
   pub scoped-holds : Holds s ws p (first s w)
   scoped-holds = begun-holds s w (length w) (b .is) (b .source) (b .fits) (omega arith) (b .out-is) (b .notes-size)
 
@@ -120,7 +120,7 @@ module _ {s w : Text} {ws : Slices} {p : Writer} (b : Begun s w ws p) where
   end-is : p .out ≡ length w
   end-is = ap (λ (x : Writer). x .out) (b .is)
 
-  module _ {ws' : Slices} {r : Told} (f : Fueled 1 (p .out) 0 (λ m. note-parts m (p .out)) s ws ws' p r) where
+  module _ {ws' : Work} {r : Told} (f : Fueled 1 (p .out) 0 (λ m. note-parts m (p .out)) s ws ws' p r) where
     by-size : (m : ℕ) → length s ≤ m + length w → Refines s (Spent 1 (p .out) p) ws' r (note-parts m (length w) (first s w))
     by-size m k =
         let a = at-is in
@@ -168,7 +168,7 @@ module _ (m : ℕ) where
   abbrev nested : Text → Got Bool
   nested t = if-next 75 t constant (other t)
 
-module _ (s : Text) {ws : Slices} {r : Headed} where
+module _ (s : Text) {ws : Work} {r : Headed} where
   pub function-plain : starts (drop 2 s) (78 ∷ []) ≡ false → length (ws .notes) ≡ 24576 → Plain s (ws .out) r → Functions s ws r
   function-plain h z f m k = heads-by (next-not 78 (nested m) (at-plain (drop 2 s)) (drop 2 s) h) (f ws z)
 
@@ -184,22 +184,22 @@ module _ (s : Text) {ws : Slices} {r : Headed} where
 -- ---------------------------------------------------------------- types
 
 -- the types are read on from a state, with enough fuel
-pub record Goes (s : Text) (ws : Slices) (p : Writer) (g : Got (Unit {0})) : Type 0 where
+pub record Goes (s : Text) (ws : Work) (p : Writer) (g : Got (Unit {0})) : Type 0 where
   pub state : Notes
   pub fuel : ℕ
   pub holds : Holds s ws p state
   pub enough : length s + 1 ≤ fuel + p .at
   pub is : g ≡ note-at-end state (state .rest) (λ ρ. note-types fuel ρ)
 
-pub goes-ended : {s : Text} {ws : Slices} {p : Writer} {g : Got (Unit {0})} → Goes s ws p g → length s ≤ p .at → Ended s ws (Symbol p) g
+pub goes-ended : {s : Text} {ws : Work} {p : Writer} {g : Got (Unit {0})} → Goes s ws p g → length s ≤ p .at → Ended s ws (Symbol p) g
 goes-ended {s} {ws} {p} {g} a h =
     let e : g ≡ got tt (a .state) = a .is ∙ ap (λ (t : Text). note-at-end (a .state) t (λ ρ. note-types (a .fuel) ρ)) (a .holds .rest ∙ rest-none s (p .at) h) in
     subst (λ (x : Got (Unit {0})). Ended s ws (Symbol p) x) (sym e) (ended (a .holds))
 
-pub ends-broken : {s : Text} {ws : Slices} {g : Got (Unit {0})} → g ≡ bad → Ended s ws no-symbol g
+pub ends-broken : {s : Text} {ws : Work} {g : Got (Unit {0})} → g ≡ bad → Ended s ws no-symbol g
 ends-broken {s} {ws} e = subst (λ (x : Got (Unit {0})). Ended s ws no-symbol x) (sym e) broken
 
-module _ {s : Text} {ws : Slices} {p : Writer} {g : Got (Unit {0})} (a : Goes s ws p g) (here : p .at < length s) where
+module _ {s : Text} {ws : Work} {p : Writer} {g : Got (Unit {0})} (a : Goes s ws p g) (here : p .at < length s) where
   abbrev less : ℕ
   less = a .fuel - 1
 
@@ -210,7 +210,7 @@ module _ {s : Text} {ws : Slices} {p : Writer} {g : Got (Unit {0})} (a : Goes s 
       ∙ ap (λ (t : Text). note-at-end (a .state) t (λ ρ. note-types (a .fuel) ρ)) (a .holds .rest ∙ rest-some s (p .at) here)
       ∙ ap (λ (m : ℕ). note-types m (a .state)) {x = a .fuel} {y = suc less} (omega (arith, a .enough))
 
-  module _ {ws' : Slices} {r : Told} (f : Fueled 1 (p .out) 0 note-type s ws ws' p r) where
+  module _ {ws' : Work} {r : Told} (f : Fueled 1 (p .out) 0 note-type s ws ws' p r) where
     typed : Refines s (Spent 1 (p .out) p) ws' r (note-type less (a .state))
     typed = f (a .state) (a .holds) less (omega (arith, a .enough))
 
@@ -245,16 +245,16 @@ module _ {s : Text} {ws : Slices} {p : Writer} {g : Got (Unit {0})} (a : Goes s 
         }
 
 -- the turns of the loop so far, from the slices ws and the state p
-pub record Turned (s : Text) (ws ws' : Slices) (p q : Writer) : Type 0 where
+pub record Turned (s : Text) (ws ws' : Work) (p q : Writer) : Type 0 where
   pub out-kept : length (ws' .out) ≡ length (ws .out)
   pub notes-kept : length (ws' .notes) ≡ length (ws .notes)
   pub goes : (σ : Notes) → Holds s ws p σ → (m : ℕ) → length s + 1 ≤ m + p .at → Goes s ws' q (note-at-end σ (σ .rest) (λ ρ. note-types m ρ))
 
-pub turned-none : {s : Text} {ws : Slices} {p : Writer} → Turned s ws ws p p
+pub turned-none : {s : Text} {ws : Work} {p : Writer} → Turned s ws ws p p
 turned-none = record { out-kept = refl; notes-kept = refl; goes = λ σ h m l. record { state = σ; fuel = m; holds = h; enough = l; is = refl } }
 
 -- where the first state is ready, so is this one
-pub turned-from : {s : Text} {ws ws' : Slices} {p q : Writer} → Turned s ws ws' p q → (y : Ready s ws p)
+pub turned-from : {s : Text} {ws ws' : Work} {p q : Writer} → Turned s ws ws' p q → (y : Ready s ws p)
     → Goes s ws' q (note-at-end (y .0) (y .0 .rest) (λ ρ. note-types (length s + 1) ρ))
 turned-from {s} a y = a .goes (y .0) (y .1) (length s + 1) (omega arith)
 
@@ -297,19 +297,19 @@ long (c ∷ []) h = absurd (go (eqb c 95) h)
 long (c ∷ d ∷ t) h = omega arith
 
 -- what an answer with a name says
-pub record Headed-by (s : Text) (ws : Slices) (p : Writer) (k : Bool) (g : Got Bool) : Type 0 where
+pub record Headed-by (s : Text) (ws : Work) (p : Writer) (k : Bool) (g : Got Bool) : Type 0 where
   pub state : Notes
   pub holds : Holds s ws p state
   pub far : 2 ≤ p .at
   pub is : g ≡ got k state
 
 -- what an answer with types says
-pub record Ended-by (s : Text) (ws : Slices) (p : Writer) (g : Got (Unit {0})) : Type 0 where
+pub record Ended-by (s : Text) (ws : Work) (p : Writer) (g : Got (Unit {0})) : Type 0 where
   pub state : Notes
   pub holds : Holds s ws p state
   pub is : g ≡ got tt state
 
-module _ {s : Text} {ws : Slices} where
+module _ {s : Text} {ws : Work} where
   headed : {p : Writer} {k : Bool} {g : Got Bool} → Heads s ws (Name p k) g → Headed-by s ws p k g
   headed (heads {σ = σ} h l) = record { state = σ; holds = h; far = l; is = refl }
 
@@ -322,7 +322,7 @@ module _ {s : Text} {ws : Slices} where
   unended : {g : Got (Unit {0})} → Ended s ws no-symbol g → g ≡ bad
   unended broken = refl
 
-pub outside-by : {s : Text} {ws : Slices} → note-symbol s ≡ none → Writes s ws no-symbol (note-symbol s)
+pub outside-by : {s : Text} {ws : Work} → note-symbol s ≡ none → Writes s ws no-symbol (note-symbol s)
 outside-by {s} {ws} e = subst (λ (x : Option Text). Writes s ws no-symbol x) (sym e) outside
 
 params-some : (k : Bool) (σ : Notes) (t : Text) (f : Notes → Got (Unit {0})) → (k ≡ true → 0 < length t) → note-at-params k σ t f ≡ note-at-end σ t f
@@ -330,7 +330,7 @@ params-some false σ [] f h = refl
 params-some true σ [] f h = let z = h refl in absurd (omega arith)
 params-some k σ (d ∷ t) f h = refl
 
-module _ {s : Text} (y : starts s (95 ∷ 90 ∷ []) ≡ true) {ws : Slices} {r : Headed} (f : Functions s ws r) where
+module _ {s : Text} (y : starts s (95 ∷ 90 ∷ []) ≡ true) {ws : Work} {r : Headed} (f : Functions s ws r) where
   abbrev size : ℕ
   size = suc (length (drop 2 s))
 
@@ -367,7 +367,7 @@ module _ {s : Text} (y : starts s (95 ∷ 90 ∷ []) ≡ true) {ws : Slices} {r 
         ∙ ap (λ (c : Bool). symbol-of (read-types c first-types)) z
         ∙ ap (λ (t : Text). symbol-of (note-at-params true first-types t (λ τ. note-types size τ))) (rest-is ∙ rest-none s (p .at) l)
 
-    module _ (h : k ≡ true → p .at < length s) {ws' : Slices} {w : Written} (t : Types s ws ws' p w) where
+    module _ (h : k ≡ true → p .at < length s) {ws' : Work} {w : Written} (t : Types s ws ws' p w) where
       typed-symbol : Ended s ws' w (note-at-end first-types (first-types .rest) (λ τ. note-types size τ))
       typed-symbol = t first-types (symbol-headed .holds) size (omega (arith, symbol-headed .far, long s y, length-drop 2 s))
 

@@ -11,7 +11,8 @@ use Rattle.catalogue.specs.Tree.{Letter, Wrap}
 use Rattle.catalogue.specs.Recogniser.{if-next, Lead, lead-letter, lead-wrap, leadL, leadNone, lead}
 use Rattle.normal_nodes.specs.Nodes.{Notes, Noter, Got, got, next, when, put, go-to, entered, note-at-lead, note-at-name, at-reference, note-with-args, note-type, note-args, note-parts}
 use Rattle.normal_steps.specs.States.{moved-to}
-use Rattle.normal_steps.specs.Holds.{Slices, out-to, notes-to, Holds, Ready, ReadyOut, ReadyNotes, Room, Spent, Refines, tells, refuses, Reads, Fueled, Steps, Does, Copies, Closes, Tag, most-number, at-literal, counts-arg, wraps, closed}
+use Rattle.normal_steps.specs.Holds.{Work, out-to, notes-to, Holds, Ready, ReadyOut, ReadyNotes, Room, Spent, Tag}
+use Rattle.normal_steps.specs.Holds.{Refines, tells, refuses, Reads, Fueled, Steps, Does, Copies, Closes, most-number, at-literal, counts-arg, wraps, closed}
 use Rattle.normal_writer.specs.Cycle.{Leads, WithArgs}
 use Rattle.normal_steps.specs.laws.Told.{Answered, answered, refused, by, within}
 use Rattle.normal_steps.specs.laws.Steps.{on-got, on-bad}
@@ -27,13 +28,13 @@ use Rattle.normal_steps.specs.declared.state.Told.the-variants.{Number, Bad}
 -- ---------------------------------------------------------------- a reading with fuel, once
 
 -- what is known behind a member's answer, whatever the fuel
-pub fueled : {s : Text} {ws ws' : Slices} {k b : ℕ} {f : ℕ → Noter ℕ} {p q : Writer} {d : ℕ} {r : Told} (e : ℕ) → r ≡ Number q d → Fueled k b e f s ws ws' p r
+pub fueled : {s : Text} {ws ws' : Work} {k b : ℕ} {f : ℕ → Noter ℕ} {p q : Writer} {d : ℕ} {r : Told} (e : ℕ) → r ≡ Number q d → Fueled k b e f s ws ws' p r
     → (w : Ready s ws p) → Answered s (Spent k b p) ws' q d (f (length s + e) (w .0))
 fueled {s} e i u (σ, h) = answered i (u σ h (length s + e) (omega arith))
 
 -- ---------------------------------------------------------------- wrap
 
-module _ {s : Text} {ws ws₂ : Slices} {o₁ : Text} {p p₁ : Writer} {r₁ : Told}
+module _ {s : Text} {ws ws₂ : Work} {o₁ : Text} {p p₁ : Writer} {r₁ : Told}
     (k : Copies s (ws .out) o₁ p p₁) (u : Fueled 1 (p₁ .out) 0 note-type s (out-to ws o₁) ws₂ p₁ r₁) where
   pub wrap-refused : (q : Wrap) (c : ℕ) → r₁ ≡ Bad → Leads (lead-wrap q) c s ws ws₂ p Bad
   wrap-refused q c e σ h m l t i = by (on-bad _ (refused e (u _ (k .1 ws σ h c t i) m (omega (arith, k .0))))) refuses
@@ -45,7 +46,7 @@ module _ {s : Text} {ws ws₂ : Slices} {o₁ : Text} {p p₁ : Writer} {r₁ : 
         let w = fueled 0 e u (_, k .1 ws σ h _ _ (first-byte h l)) in
         (w .small, (omega (arith, w .limits, k .0), (spent-room h (passed-spent (k .0) (omega arith) (w .limits)) (omega arith) (omega arith) (omega arith), (w .state, w .holds))))
 
-    pub wrap-answer : {ws₃ : Slices} {r : Told} (q : Wrap) (c : ℕ) → Steps 1 1 5 (p .out) (wraps c d (p .out)) s ws₂ ws₃ p₂ r
+    pub wrap-answer : {ws₃ : Work} {r : Told} (q : Wrap) (c : ℕ) → Steps 1 1 5 (p .out) (wraps c d (p .out)) s ws₂ ws₃ p₂ r
         → Leads (lead-wrap q) c s ws ws₃ p r
     wrap-answer q c v σ h m l t i =
         let w = answered e (u _ (k .1 ws σ h c t i) m (omega (arith, k .0))) in
@@ -65,17 +66,17 @@ by-reference from t σ = at-reference from (go-to t σ)
 abbrev pub Behind : Writer → Writer → Type 0
 Behind p q = (p .at + 2 ≤ q .at) × Spent 1 (p .out) p q
 
-abbrev pub FirstPart : (ℕ → Text → Noter ℕ) → Text → Slices → Slices → Writer → Told → Type 0
+abbrev pub FirstPart : (ℕ → Text → Noter ℕ) → Text → Work → Work → Writer → Told → Type 0
 FirstPart f s ws ws' p r =
     (σ : Notes) → Holds s ws p σ → (c : ℕ) (t : Text) → σ .rest ≡ c ∷ t → Refines s (Behind p) ws' r (f (p .out) t σ)
 
 -- a class of one part, with its arguments
-abbrev pub Classed : (ℕ → Text → Noter ℕ) → Text → Slices → Slices → Writer → Told → Type 0
+abbrev pub Classed : (ℕ → Text → Noter ℕ) → Text → Work → Work → Writer → Told → Type 0
 Classed f s ws ws' p r =
     (c : ℕ) (σ : Notes) → Holds s ws p σ → (m : ℕ) → length s ≤ suc m + p .at → (t : Text) → σ .rest ≡ c ∷ t
     → Refines s (Spent 1 (p .out) p) ws' r (next (f (length (σ .out)) t σ) (λ d τ. note-with-args d (length (σ .out)) (λ v ρ. note-args m v ρ) τ))
 
-module _ {s : Text} {ws ws₁ : Slices} {p : Writer} {r₁ : Told} where
+module _ {s : Text} {ws ws₁ : Work} {p : Writer} {r₁ : Told} where
   pub first-named : Reads 2 (p .out) (note-at-name (p .out)) s ws ws₁ p r₁ → FirstPart by-name s ws ws₁ p r₁
   first-named u σ h c t e = u σ h
 
@@ -100,7 +101,7 @@ module _ {s : Text} {ws ws₁ : Slices} {p : Writer} {r₁ : Told} where
       pub first-next : p .at < length s → (w : Ready s ws p) → Answered s (Behind p) ws₁ q d (f (p .out) (drop (p .at + 1) s) (w .0))
       first-next l (σ, h) = answered e (u σ h _ _ (first-byte h l))
 
-      pub class-answer : {ws₂ : Slices} {r : Told} → WithArgs d (p .out) s ws₁ ws₂ q r → Classed f s ws ws₂ p r
+      pub class-answer : {ws₂ : Work} {r : Told} → WithArgs d (p .out) s ws₁ ws₂ q r → Classed f s ws ws₂ p r
       class-answer v c σ h m l t i =
           let w = answered e (u σ h c t i) in
           by (class-at m σ t h ∙ on-got (λ d τ. note-with-args d (p .out) (λ v ρ. note-args m v ρ) τ) (w .is))
@@ -109,7 +110,7 @@ module _ {s : Text} {ws ws₁ : Slices} {p : Writer} {r₁ : Told} where
 -- ---------------------------------------------------------------- I <template-args> E
 
 -- I and arguments, behind what has the number t
-module _ {s : Text} {ws ws₂ : Slices} {o₁ : Text} {p p₁ : Writer} (t : ℕ) {r₁ : Told} (i : starts (drop (p .at) s) (73 ∷ []) ≡ true)
+module _ {s : Text} {ws ws₂ : Work} {o₁ : Text} {p p₁ : Writer} (t : ℕ) {r₁ : Told} (i : starts (drop (p .at) s) (73 ∷ []) ≡ true)
     (k : Copies s (ws .out) o₁ p p₁) (u : Fueled 0 (p₁ .out) 1 (λ m. note-args m t) s (out-to ws o₁) ws₂ p₁ r₁) where
   pub args-from : {σ : Notes} → Holds s ws p σ → (m : ℕ) → length s ≤ m + p .at
       → Refines s (Spent 0 (p₁ .out) p₁) ws₂ r₁ (note-args m t (put (73 ∷ []) (go-to (drop (p .at + 1) s) σ)))
@@ -124,14 +125,14 @@ module _ {s : Text} {ws ws₂ : Slices} {o₁ : Text} {p p₁ : Writer} (t : ℕ
     args-told (σ, h) = answered e (args-at h (length s) (omega arith))
 
 -- E was written behind them
-pub record Enclosed (s : Text) (ws : Slices) (from : ℕ) (p q : Writer) (d : ℕ) : Type 0 where
+pub record Enclosed (s : Text) (ws : Work) (from : ℕ) (p q : Writer) (d : ℕ) : Type 0 where
   pub at : p .at + 1 ≤ q .at
   pub small : d < most-number
   pub stands : from ≤ q .out
   pub room : Room 0 1 5 q
   pub ready : Ready s ws q
 
-module _ {s : Text} {ws ws₂ : Slices} {p p₂ : Writer} {d b : ℕ} {g : Got ℕ} {σ : Notes} (h : Holds s ws p σ) (w : Answered s (Spent 1 b p) ws₂ p₂ d g) where
+module _ {s : Text} {ws ws₂ : Work} {p p₂ : Writer} {d b : ℕ} {g : Got ℕ} {σ : Notes} (h : Holds s ws p σ) (w : Answered s (Spent 1 b p) ws₂ p₂ d g) where
   pub close-next : (Room 0 0 1 p₂) × ((s : Text) × ReadyOut s (ws₂ .out) p₂)
   close-next = (spent-room h (w .limits) (omega arith) (omega arith) (omega arith), (_, ready-out (w .state, w .holds)))
 
@@ -158,24 +159,26 @@ module _ {s : Text} {ws ws₂ : Slices} {p p₂ : Writer} {d b : ℕ} {g : Got �
 abbrev enclosed : ℕ → ℕ → ℕ → Text → Noter ℕ
 enclosed m t from r σ = next (note-args m t (put (73 ∷ []) (go-to r σ))) (λ u τ. got u (entered u from (closed τ)))
 
-module _ {s : Text} {ws : Slices} {p : Writer} (t from : ℕ) where
+module _ {s : Text} {ws : Work} {p : Writer} (t from : ℕ) where
   pub without-args : starts (drop (p .at) s) (73 ∷ []) ≡ false → t < most-number → from ≤ p .out → WithArgs t from s ws ws p (Number p t)
   without-args e l b σ h m f = by (byte-not h 73 _ _ e) (tells h (spent-nothing b) l)
 
   module _ (i : starts (drop (p .at) s) (73 ∷ []) ≡ true) {tag : ℕ} (g : Tag (ws .notes) p t tag) where
     with-args-at : {σ : Notes} (m : ℕ) → Holds s ws p σ → {b : Bool} → eqb tag 48 ≡ b → note-with-args t from (λ v ρ. note-args m v ρ) σ ≡ when b (enclosed m t from (drop (p .at + 1) s) σ)
     with-args-at {σ} m h {b} e =
-        byte-next _ _ (byte-is h 73 i) ∙ ap (λ (x : ℕ). when (eqb x 48) (enclosed m t from (drop (p .at + 1) s) σ)) (sym (g s ws σ h)) ∙ ap (λ (b : Bool). when b (enclosed m t from (drop (p .at + 1) s) σ)) e
+        byte-next _ _ (byte-is h 73 i)
+        ∙ ap (λ (x : ℕ). when (eqb x 48) (enclosed m t from (drop (p .at + 1) s) σ)) (sym (g s ws σ h))
+        ∙ ap (λ (b : Bool). when b (enclosed m t from (drop (p .at + 1) s) σ)) e
 
     pub args-barred : eqb tag 48 ≡ false → WithArgs t from s ws ws p Bad
     args-barred e σ h m f = by (with-args-at m h e) refuses
 
-    module _ (z : eqb tag 48 ≡ true) {o₁ : Text} {ws₂ : Slices} {p₁ : Writer} {r₁ : Told}
+    module _ (z : eqb tag 48 ≡ true) {o₁ : Text} {ws₂ : Work} {p₁ : Writer} {r₁ : Told}
         (k : Copies s (ws .out) o₁ p p₁) (u : Fueled 0 (p₁ .out) 1 (λ m. note-args m t) s (out-to ws o₁) ws₂ p₁ r₁) where
       pub args-refused : r₁ ≡ Bad → WithArgs t from s ws ws₂ p Bad
       args-refused e σ h m f = by (with-args-at m h z ∙ on-bad _ (refused e (args-at t i k u h m (omega arith)))) refuses
 
-      pub args-answer : {p₂ p₃ p₄ : Writer} {d : ℕ} {o₃ : Text} {ws₄ : Slices} → r₁ ≡ Number p₂ d → Closes (ws₂ .out) o₃ p₂ p₃
+      pub args-answer : {p₂ p₃ p₄ : Writer} {d : ℕ} {o₃ : Text} {ws₄ : Work} → r₁ ≡ Number p₂ d → Closes (ws₂ .out) o₃ p₂ p₃
           → ((s : Text) → Does 0 1 5 from (entered d from) s (out-to ws₂ o₃) ws₄ p₃ p₄) → WithArgs t from s ws ws₄ p (Number p₄ d)
       args-answer e v w σ h m f =
           let a = answered e (args-at t i k u h m (omega arith)) in
@@ -189,18 +192,18 @@ module _ {s : Text} {ws : Slices} {p : Writer} (t from : ℕ) where
 abbrev behind-arg : ℕ → ℕ → Noter ℕ
 behind-arg m d ρ = if-next 69 (ρ .rest) (λ r. got d (go-to r ρ)) (note-args m d ρ)
 
-abbrev pub ArgsFrom : ℕ → Text → Slices → Writer → Slices → Told → Type 0
+abbrev pub ArgsFrom : ℕ → Text → Work → Writer → Work → Told → Type 0
 ArgsFrom t s ws p ws' r = Fueled 0 (p .out) 1 (λ m. note-args m t) s ws ws' p r
 
 -- of the loop
-abbrev pub ArgsSoFar : Text → Slices → Writer → ℕ → Slices → Writer → ℕ → Type 0
+abbrev pub ArgsSoFar : Text → Work → Writer → ℕ → Work → Writer → ℕ → Type 0
 ArgsSoFar s ws₀ p₀ t₀ ws p t = SoFar (ArgsFrom t₀ s ws₀ p₀) s ws₀ p₀ (ArgsFrom t s ws p) ws p t
 
 args-by : (m t : ℕ) (σ : Notes) → note-args (suc m) t σ ≡ next (note-type m σ) (λ x τ. next (counts-arg t x τ) (behind-arg m))
 unfolding note-args
 args-by m t σ = refl
 
-module _ {s : Text} {ws ws₁ : Slices} {p : Writer} {r₁ : Told} (t : ℕ) (u : Fueled 1 (p .out) 0 note-type s ws ws₁ p r₁) where
+module _ {s : Text} {ws ws₁ : Work} {p : Writer} {r₁ : Told} (t : ℕ) (u : Fueled 1 (p .out) 0 note-type s ws ws₁ p r₁) where
   pub arg-refused : r₁ ≡ Bad → Fueled 0 (p .out) 1 (λ m. note-args m t) s ws ws₁ p Bad
   arg-refused e σ h zero l = absurd (omega (arith, h .place))
   arg-refused e σ h (suc m) l = by (args-by m t σ ∙ on-bad _ (refused e (u σ h m (omega arith)))) refuses
@@ -210,7 +213,7 @@ module _ {s : Text} {ws ws₁ : Slices} {p : Writer} {r₁ : Told} (t : ℕ) (u 
     arg-next l (σ, h) =
         let w = fueled 0 e u (σ, h) in (l, (w .small, (spent-room h (w .limits) (omega arith) (omega arith) (omega arith), ready-notes (w .state, w .holds))))
 
-    module _ {n₂ : Text} {r₂ : Told} (v : (ws : Slices) → Steps 1 0 0 (q .out) (counts-arg t x) s (notes-to ws (ws₁ .notes)) (notes-to ws n₂) q r₂) where
+    module _ {n₂ : Text} {r₂ : Told} (v : (ws : Work) → Steps 1 0 0 (q .out) (counts-arg t x) s (notes-to ws (ws₁ .notes)) (notes-to ws n₂) q r₂) where
       pub count-refused : r₂ ≡ Bad → Fueled 0 (p .out) 1 (λ m. note-args m t) s ws (notes-to ws₁ n₂) p Bad
       count-refused i σ h zero l = absurd (omega (arith, h .place))
       count-refused i σ h (suc m) l =
@@ -240,25 +243,25 @@ module _ {s : Text} {ws ws₁ : Slices} {p : Writer} {r₁ : Told} (t : ℕ) (u 
             let ((τ, (k, (b, (a, y)))), f) = counted-at h m (omega arith) in
             by (f ∙ byte-next _ _ (byte-is k 69 j)) (tells (holds-next k (byte-is k 69 j) g) (spent-moved g b) y)
 
-        args-more : {ws₃ : Slices} {r : Told} → starts (drop (q₂ .at) s) (69 ∷ []) ≡ false
+        args-more : {ws₃ : Work} {r : Told} → starts (drop (q₂ .at) s) (69 ∷ []) ≡ false
             → Fueled 0 (q₂ .out) 1 (λ m. note-args m d) s (notes-to ws₁ n₂) ws₃ q₂ r → Fueled 0 (p .out) 1 (λ m. note-args m t) s ws ws₃ p r
         args-more j g σ h zero l = absurd (omega (arith, h .place))
         args-more j g σ h (suc m) l =
             let ((τ, (k, (b, (a, y)))), f) = counted-at h m (omega arith) in
             by (f ∙ byte-not k 69 _ _ j) (within (λ x z. spent-stands (b .stands) (spent-spent b z)) (g τ k m (omega arith)))
 
-        pub args-again : {F : Slices → Told → Type 0} {ws₀ : Slices} {p₀ : Writer} → starts (drop (q₂ .at) s) (69 ∷ []) ≡ false → length (ws₁ .out) ≡ length (ws .out) → length n₂ ≡ length (ws .notes)
+        pub args-again : {F : Work → Told → Type 0} {ws₀ : Work} {p₀ : Writer} → starts (drop (q₂ .at) s) (69 ∷ []) ≡ false → length (ws₁ .out) ≡ length (ws .out) → length n₂ ≡ length (ws .notes)
             → SoFar F s ws₀ p₀ (ArgsFrom t s ws p) ws p t → SoFar F s ws₀ p₀ (ArgsFrom d s (notes-to ws₁ n₂) q₂) (notes-to ws₁ n₂) q₂ d
         args-again j x y w =
             let (τ, (h, (v, (l, k)))) = counted-next (w .ready) in one-more w x y (omega (arith, l)) k (τ, h) (λ ws' r z. args-more j z)
 
 -- ---------------------------------------------------------------- ty
 
-module _ {s : Text} {ws : Slices} {p : Writer} where
+module _ {s : Text} {ws : Work} {p : Writer} where
   pub type-end : length s ≤ p .at → Fueled 1 (p .out) 0 note-type s ws ws p Bad
   type-end l σ h m f = by (type-none σ m (no-byte h l)) refuses
 
-  pub type-by : {ws' : Slices} {r : Told} {l : Lead} → p .at < length s → lead (getD s (p .at) 0) ≡ l → Leads l (getD s (p .at) 0) s ws ws' p r
+  pub type-by : {ws' : Work} {r : Told} {l : Lead} → p .at < length s → lead (getD s (p .at) 0) ≡ l → Leads l (getD s (p .at) 0) s ws ws' p r
       → Fueled 1 (p .out) 0 note-type s ws ws' p r
   type-by i e u σ h zero f = absurd (omega arith)
   type-by {l = l} i e u σ h (suc m) f =
@@ -269,7 +272,7 @@ module _ {s : Text} {ws : Slices} {p : Writer} where
   letter-answer l c y k σ h m f t e =
       tells (k .1 ws σ h c t e) (let v = k .0 in record { at = omega arith; nodes = omega arith; table = omega arith; out = omega arith; args = omega arith; stands = omega arith }) y
 
-  pub literal-answer : {ws' : Slices} {q : Writer} {r : Told} (c : ℕ) → q ≡ moved-to p (p .at + 1) → Reads 1 (q .out) at-literal s ws ws' q r
+  pub literal-answer : {ws' : Work} {q : Writer} {r : Told} (c : ℕ) → q ≡ moved-to p (p .at + 1) → Reads 1 (q .out) at-literal s ws ws' q r
       → Leads leadL c s ws ws' p r
   literal-answer {ws'} {q} {r} c i u σ h m f t e = go (subst (λ (x : Writer). Reads 1 (x .out) at-literal s ws ws' x r) i u)
     where

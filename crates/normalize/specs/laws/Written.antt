@@ -8,20 +8,20 @@ use Rattle.grammar.specs.Text.{Text}
 use Rattle.store.specs.laws.Fronts.{front-take, front-most}
 use Rattle.normal_nodes.specs.Nodes.{Notes}
 use Rattle.normal_steps.specs.declared.state.Writer.{Writer}
-use Rattle.normal_steps.specs.Holds.{Slices, Holds}
+use Rattle.normal_steps.specs.Holds.{Work, Holds}
 use Rattle.normal_steps.specs.laws.Slices.{out-size}
 use Rattle.normal_writer.specs.declared.symbol.Written.{Written}
 use Rattle.normal_writer.specs.declared.symbol.Written.the-variants.{Symbol, Bad}
 use Rattle.normal_writer.specs.Writes.{Writes, writes, outside}
 
-module _ {s : Text} {ws : Slices} {p : Writer} {σ : Notes} (h : Holds s ws p σ) where
+module _ {s : Text} {ws : Work} {p : Writer} {σ : Notes} (h : Holds s ws p σ) where
   pub written-fits : p .out ≤ length (ws .out)
   written-fits = omega (arith, out-size h, front-most (h .out-is), h .out-count)
 
   pub written-is : take (p .out) (ws .out) ≡ σ .out
   written-is = ap (λ (n : ℕ). take n (ws .out)) (h .out-count) ∙ front-take (h .out-is)
 
-module _ {s : Text} {ws : Slices} where
+module _ {s : Text} {ws : Work} where
   pub not-written : {g : Written} {x : Option Text} → Writes s ws g x → g ≡ Bad → x ≡ none
   not-written (writes h) e = absurd (let z : _≡_ {A = ℕ} 0 1 = cc in omega arith)
   not-written outside e = refl

@@ -2,7 +2,7 @@
 -- is the bytes left. Assumes nothing.
 use Prim.Native.Nat.{_-_}
 use lib.ListN.{length}
-use Rattle.normal_steps.specs.Holds.{slices}
+use Rattle.normal_steps.specs.Holds.{work}
 use Rattle.normal_steps.specs.laws.Moves.{ready-notes}
 use Rattle.normal_writer.specs.laws.Symbols.{Turned, turned-none, turned-from, turn-none, turn-told, turn-lit, turn-more, goes-ended, ends-broken}
 use borrow.Author.Needs.{needs}
@@ -11,7 +11,7 @@ use Rattle.normal_writer.proofs.symbol.types.Statement.{statement}
 use Rattle.normal_writer.proofs.symbol.types.Tie as tie
 
 abbrev Inv-loop : tie.InvT-loop
-Inv-loop s out₀ notes₀ next₀ out notes next = Turned s (slices out₀ notes₀) (slices out notes) next₀ next
+Inv-loop s out₀ notes₀ next₀ out notes next = Turned s (work out₀ notes₀) (work out notes) next₀ next
 
 abbrev μ-loop : tie.MeasureT-loop
 μ-loop s out₀ notes₀ next₀ out notes next = length s - next .at

@@ -3,7 +3,7 @@ use mathlib.Core.Path.{sym, _∙_}
 use Prim.Native.Nat.{ℕ, _-_}
 use lib.ListN.{length}
 use native.Mathlib.Omega.{arith}
-use Rattle.normal_steps.specs.Holds.{slices}
+use Rattle.normal_steps.specs.Holds.{work}
 use Rattle.normal_writer.specs.laws.Loops.{nothing-yet}
 use Rattle.normal_writer.specs.laws.Types.{ArgsSoFar, arg-refused, arg-next, count-refused, counted-next, args-end, args-again}
 use Rattle.normal_writer.proofs.cycle.args.Reads as args
@@ -11,7 +11,7 @@ use Rattle.normal_writer.proofs.cycle.+args+more+named+nested+parts+ref
 use Rattle.normal_writer.proofs.cycle.+args+more+named+nested+parts+referred+ty+with_args+wrap.Proof.Cycle.{args-at, args-calls}
 
 abbrev pub Inv-loop : lts.InvT-loop
-Inv-loop s out₀ notes₀ t next₀ of₀ t13 out notes next of = ArgsSoFar s (slices out₀ notes₀) next₀ of₀ (slices out notes) next of
+Inv-loop s out₀ notes₀ t next₀ of₀ t13 out notes next of = ArgsSoFar s (work out₀ notes₀) next₀ of₀ (work out notes) next of
 
 abbrev pub μ-loop : lts.MeasureT-loop
 μ-loop s out₀ notes₀ t next₀ of₀ t13 out notes next of = length s - next .at

@@ -7,7 +7,7 @@ use borrow.Author.Tests.{not-true, not-false}
 use native.Mathlib.Omega.{arith}
 use Rattle.grammar.specs.laws.Places.{starts-inside}
 use Rattle.normal_steps.specs.laws.Moves.{copied-ready, ready-out, ready-notes}
-use Rattle.normal_steps.specs.Holds.{slices}
+use Rattle.normal_steps.specs.Holds.{work}
 use Rattle.normal_writer.specs.laws.Types.{args-told, close-next, closed-next}
 use Rattle.normal_writer.specs.laws.Parts.{MoreSoFar, part-refused, part-next, part-answer, angled-barred, angled-refused, angled-answer, end-lone, end-answer, more-start, more-behind, more-again}
 use Rattle.normal_writer.proofs.cycle.more.Reads as more
@@ -16,7 +16,7 @@ use Rattle.normal_writer.proofs.cycle.+args+more+named+nested+parts+ref
 
 abbrev pub Inv-loop : lts.InvT-loop
 Inv-loop s out₀ notes₀ t lone from next₀ of₀ alone₀ t19 t20 t21 out notes next of alone =
-    MoreSoFar s from (slices out₀ notes₀) next₀ of₀ alone₀ (slices out notes) next of alone
+    MoreSoFar s from (work out₀ notes₀) next₀ of₀ alone₀ (work out notes) next of alone
 
 abbrev pub μ-loop : lts.MeasureT-loop
 μ-loop s out₀ notes₀ t lone from next₀ of₀ alone₀ t19 t20 t21 out notes next of alone = length s - next .at

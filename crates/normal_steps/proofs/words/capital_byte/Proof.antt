@@ -1,9 +1,9 @@
--- `normal_steps::marks::capital_byte` tells digits and capitals. Assumes nothing.
+-- `normal_steps::words::capital_byte` tells digits and capitals. Assumes nothing.
 use mathlib.Core.Path.{refl}
 use borrow.Author.Tests.{le-leb, lt-leb}
 use native.Mathlib.Omega.{arith}
-use Rattle.normal_steps.proofs.marks.capital_byte.Statement.{statement}
-use Rattle.normal_steps.proofs.marks.capital_byte.Tie as tie
+use Rattle.normal_steps.proofs.words.capital_byte.Statement.{statement}
+use Rattle.normal_steps.proofs.words.capital_byte.Tie as tie
 
 returns : tie.Need-returns
 returns c = let k = c .before .before .args .c in rw (le-leb 48 k (omega arith), le-leb k 57 (omega arith)) refl
