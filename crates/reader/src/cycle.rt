@@ -34,7 +34,7 @@ ghost use mathlib.Core.Path.{_≡_};
 ghost use mathlib.Core.List.{List, _∷_};
 ghost use Prim.Native.Nat.{ℕ, _+_, _-_, _≤_, _<_, min};
 ghost use lib.ListN.{drop};
-ghost use Rattle.grammar.specs.Grammar.{reading, ⟨type⟩, ⟨template-args⟩, ⟨template-arg⟩, ⟨expr-primary⟩, ⟨name⟩, ⟨nested-name⟩, ⟨unqualified-name⟩, ⟨operator-name⟩, type-inner, array-type, function-type, pointer-to-member-type, nested-type, class-type, s-type, name-inner, unscoped-name, std-ahead, std-name, s-name, local-name, local-encoding, prefix, prefix-args, pack};
+ghost use Rattle.grammar.specs.Grammar.{reading, ⟨type⟩, ⟨template-args⟩, ⟨template-arg⟩, ⟨expr-primary⟩, ⟨name⟩, ⟨nested-name⟩, ⟨unqualified-name⟩, ⟨operator-name⟩, type-inner, array-type, function-type, pointer-to-member-type, nested-type, class-type, name-inner, unscoped-name, std-ahead, std-name, local-name, local-encoding, prefix, prefix-args, pack};
 ghost use Rattle.parser.specs.Holds.{mem, Ready, Reads, keep};
 ghost use Rattle.reader.specs.Cycle.{ReadsWrapped, Instance};
 ghost use Rattle.reader.specs.Instances.{instance-of, at-S-of};

@@ -14,13 +14,8 @@ use Rattle.grammar.specs.Text.{Text, if_then_else_, b, same, starts, digit}
 use Rattle.grammar.specs.laws.Laws.{starts-nothing}
 use Rattle.grammar.specs.laws.Places.{starts-byte}
 use Rattle.grammar.specs.laws.NameSteps.{starts-one}
-<<<<<<< HEAD
 use Rattle.catalogue.specs.Bytes.{all, first, and-left, and-right, eqb-yes}
-use Rattle.catalogue.specs.Class.{leading-zero, numeral}
-=======
-use Rattle.catalogue.specs.Bytes.{all, first, and-left, and-right, same-eq, eqb-yes}
 use Rattle.catalogue.specs.Class.{listed, leading-zero, numeral}
->>>>>>> 7d871d6
 use Rattle.catalogue.specs.Recogniser.{if-next}
 use Rattle.catalogue.specs.laws.ReadsBack.{next-no}
 

@@ -2,7 +2,7 @@
 -- Places: `Opened` (`<` was put), `Listed` (the list was read: `last`, n), `Left` (behind E: next).
 use mathlib.Core.Bool.{true}
 use mathlib.Core.Path.{_≡_, sym, ap, _∙_}
-use Prim.Native.Nat.{ℕ, _+_, _≤_, _<_, min}
+use Prim.Native.Nat.{ℕ, _+_, _<_, min}
 use borrow.Author.Tests.{not-true, not-false}
 use Rattle.parser.specs.declared.state.Parser.{Parser}
 use Rattle.parser.specs.Holds.{Memory, mem, keep, Holds, Stands, refuses}
