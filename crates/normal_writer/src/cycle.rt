@@ -10,7 +10,7 @@ use normal_steps::steps;
 ghost use Prim.Native.Nat.{ℕ, _≤_, _<_};
 ghost use lib.ListN.{length};
 ghost use Rattle.catalogue.specs.Tree.{Wrap};
-ghost use Rattle.catalogue.specs.Recogniser.{lead-wrap, lead-digit, leadS, leadN};
+ghost use Rattle.catalogue.specs.Recogniser.{lead-wrap, lead-digit, lead-S, lead-N};
 ghost use Rattle.normal_nodes.specs.Nodes.{note-type, note-args, note-parts, note-more};
 ghost use Rattle.normal_steps.specs.Holds.{work, Ready, Fueled, most-number};
 ghost use Rattle.normal_writer.specs.Cycle.{Leads, WithArgs};
@@ -64,7 +64,7 @@ fn named(s: &[u8], out: &mut [u8], notes: &mut [u16], p: Writer) -> Told
 // S [<seq-id>] _ [I <template-args> E]
 fn referred(s: &[u8], out: &mut [u8], notes: &mut [u16], p: Writer) -> Told
     requires { ⌜ (p .at < length (now s)) × Ready (now s) (work (now out) (now notes)) p ⌝ }
-    ensures { λ r. ⌜ ((c : ℕ) → Leads leadS c (now (s .entry)) (work (now (out .entry)) (now (notes .entry))) (work (now (out .exit)) (now (notes .exit))) p r) ⌝ }
+    ensures { λ r. ⌜ ((c : ℕ) → Leads lead-S c (now (s .entry)) (work (now (out .entry)) (now (notes .entry))) (work (now (out .exit)) (now (notes .exit))) p r) ⌝ }
 {
     let from = p.out;
     let at = p.at;
@@ -119,7 +119,7 @@ pub fn args(s: &[u8], out: &mut [u8], notes: &mut [u16], p: Writer, t: usize) ->
 // N <parts> E
 fn nested(s: &[u8], out: &mut [u8], notes: &mut [u16], p: Writer) -> Told
     requires { ⌜ (p .at < length (now s)) × Ready (now s) (work (now out) (now notes)) p ⌝ }
-    ensures { λ r. ⌜ ((c : ℕ) → Leads leadN c (now (s .entry)) (work (now (out .entry)) (now (notes .entry))) (work (now (out .exit)) (now (notes .exit))) p r) ⌝ }
+    ensures { λ r. ⌜ ((c : ℕ) → Leads lead-N c (now (s .entry)) (work (now (out .entry)) (now (notes .entry))) (work (now (out .exit)) (now (notes .exit))) p r) ⌝ }
 {
     let from = p.out;
     let behind = steps::copy_byte(s, out, p);

@@ -8,7 +8,7 @@ use lib.Dec.{eqb}
 use lib.ListN.{length, drop, getD}
 use Rattle.grammar.specs.Text.{Text, if_then_else_, starts, run, past, number}
 use Rattle.catalogue.specs.Class.{name-ok}
-use Rattle.catalogue.specs.Recogniser.{Rd, rd, stop, cut, read-name, Lead, lead-letter, lead-wrap, lead-digit, leadS, leadN, leadL, leadNone, lead}
+use Rattle.catalogue.specs.Recogniser.{Rd, rd, stop, cut, read-name, Lead, lead-letter, lead-wrap, lead-digit, lead-S, lead-N, lead-L, lead-none, lead}
 use Rattle.normal_walk.specs.Walk.{name}
 use Rattle.normal_nodes.specs.Nodes.{Notes, Noter, Got, got, next, when, with, put, go-to, entered, entered-nested, tag-of, a-bare, a-class, at-reference, note-at-parts, note-at-more, note-end-or, note-args, note-parts, note-more}
 use Rattle.grammar.specs.laws.Places.{starts-byte}
@@ -40,7 +40,7 @@ module _ {s : Text} {ws ws₂ : Work} {o₁ : Text} {p p₁ : Writer} {r₁ : To
       by (ap (λ (from : ℕ). note-parts m from (put (c ∷ []) (go-to t σ))) x)
       (within (λ x y. spent-stands (omega (arith, k .0)) (passed-spent (k .0) (omega arith) y)) (u _ (k .1 ws σ h c t e) m (omega (arith, k .0))))
 
-  pub nested-refused : r₁ ≡ Bad → (c : ℕ) → Leads leadN c s ws ws₂ p Bad
+  pub nested-refused : r₁ ≡ Bad → (c : ℕ) → Leads lead-N c s ws ws₂ p Bad
   nested-refused e c σ h m l t i = by (on-bad _ (refused e (nested-at h m l c t i))) refuses
 
   module _ {p₂ : Writer} {d : ℕ} (e : r₁ ≡ Number p₂ d) where
@@ -49,7 +49,7 @@ module _ {s : Text} {ws ws₂ : Work} {o₁ : Text} {p p₁ : Writer} {r₁ : To
     nested-told l (σ, h) = answered e (within (λ x y. spent-less (omega arith) y) (nested-at h (length s) (omega arith) _ _ (first-byte h l)))
 
     pub nested-answer : {o₃ : Text} {ws₄ : Work} {p₃ p₄ : Writer} → Closes (ws₂ .out) o₃ p₂ p₃
-        → ((s : Text) → Does 0 1 5 (p .out) (entered-nested d (p .out)) s (out-to ws₂ o₃) ws₄ p₃ p₄) → (c : ℕ) → Leads leadN c s ws ws₄ p (Number p₄ d)
+        → ((s : Text) → Does 0 1 5 (p .out) (entered-nested d (p .out)) s (out-to ws₂ o₃) ws₄ p₃ p₄) → (c : ℕ) → Leads lead-N c s ws ws₄ p (Number p₄ d)
     nested-answer v w c σ h m l t i =
         let a = answered e (nested-at h m l c t i) in
         let b = v s ws₂ (a .state) (a .holds) in
@@ -80,10 +80,10 @@ module _ {s : Text} {ws : Work} {p : Writer} where
   parts-other (lead-letter l) i j σ h m f c t e = refuses
   parts-other (lead-wrap q) i j σ h m f c t e = refuses
   parts-other lead-digit i j σ h m f c t e = absurd (i refl)
-  parts-other leadS i j σ h m f c t e = absurd (j refl)
-  parts-other leadN i j σ h m f c t e = refuses
-  parts-other leadL i j σ h m f c t e = refuses
-  parts-other leadNone i j σ h m f c t e = refuses
+  parts-other lead-S i j σ h m f c t e = absurd (j refl)
+  parts-other lead-N i j σ h m f c t e = refuses
+  parts-other lead-L i j σ h m f c t e = refuses
+  parts-other lead-none i j σ h m f c t e = refuses
 
   module _ {ws₁ : Work} {r₁ : Told} (u : FirstPart by-name s ws ws₁ p r₁) where
     pub parts-unnamed : r₁ ≡ Bad → PartsBy lead-digit s ws ws₁ p Bad
@@ -97,13 +97,13 @@ module _ {s : Text} {ws : Work} {p : Writer} where
         (within (λ x y. spent-less (omega arith) (spent-spent (w .limits .1) y)) (v (w .state) (w .holds) m (omega (arith, w .limits .0))))
 
   module _ {ws₁ : Work} {r₁ : Told} (u : FirstPart by-reference s ws ws₁ p r₁) where
-    pub parts-unreferred : r₁ ≡ Bad → PartsBy leadS s ws ws₁ p Bad
+    pub parts-unreferred : r₁ ≡ Bad → PartsBy lead-S s ws ws₁ p Bad
     parts-unreferred e σ h m l c t i = by (on-bad _ (refused e (u σ h c t i))) refuses
 
     module _ {q : Writer} {d : ℕ} (e : r₁ ≡ Number q d) {tag : ℕ} (g : Tag (ws₁ .notes) q d tag) where
       referred-at : {σ : Notes} → Holds s ws p σ → (m c : ℕ) (t : Text) → σ .rest ≡ c ∷ t
           → (w : Answered s (Behind p) ws₁ q d (at-reference (p .out) (go-to t σ)))
-          × (note-at-parts leadS (p .out) t σ (λ u lone τ. note-more m u lone (p .out) τ) ≡ when (a-class tag) (note-more m d (eqb tag 48) (p .out) (w .state)))
+          × (note-at-parts lead-S (p .out) t σ (λ u lone τ. note-more m u lone (p .out) τ) ≡ when (a-class tag) (note-more m d (eqb tag 48) (p .out) (w .state)))
       referred-at {σ} h m c t i =
           let w = answered e (u σ h c t i) in (
             w,
@@ -111,12 +111,12 @@ module _ {s : Text} {ws : Work} {p : Writer} where
                 ∙ ap (λ (x : ℕ). when (a-class x) (note-more m d (eqb x 48) (p .out) (w .state))) (sym (g s ws₁ (w .state) (w .holds))),
           )
 
-      pub parts-barred : a-class tag ≡ false → PartsBy leadS s ws ws₁ p Bad
+      pub parts-barred : a-class tag ≡ false → PartsBy lead-S s ws ws₁ p Bad
       parts-barred z σ h m l c t i =
           let (w, f) = referred-at h m c t i in by (f ∙ ap (λ (b : Bool). when b (note-more m d (eqb tag 48) (p .out) (w .state))) z) refuses
 
       pub parts-referred : {ws₂ : Work} {r : Told} → a-class tag ≡ true
-          → Fueled 1 (p .out) 1 (λ m. note-more m d (eqb tag 48) (p .out)) s ws₁ ws₂ q r → PartsBy leadS s ws ws₂ p r
+          → Fueled 1 (p .out) 1 (λ m. note-more m d (eqb tag 48) (p .out)) s ws₁ ws₂ q r → PartsBy lead-S s ws ws₂ p r
       parts-referred z v σ h m l c t i =
           let (w, f) = referred-at h m c t i in
           by (f ∙ ap (λ (b : Bool). when b (note-more m d (eqb tag 48) (p .out) (w .state))) z)

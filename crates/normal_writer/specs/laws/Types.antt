@@ -8,7 +8,7 @@ use lib.Dec.{eqb}
 use lib.ListN.{length, drop, getD}
 use Rattle.grammar.specs.Text.{Text, starts}
 use Rattle.catalogue.specs.Tree.{Letter, Wrap}
-use Rattle.catalogue.specs.Recogniser.{if-next, Lead, lead-letter, lead-wrap, leadL, leadNone, lead}
+use Rattle.catalogue.specs.Recogniser.{if-next, Lead, lead-letter, lead-wrap, lead-L, lead-none, lead}
 use Rattle.normal_nodes.specs.Nodes.{Notes, Noter, Got, got, next, when, put, go-to, entered, note-at-lead, note-at-name, at-reference, note-with-args, note-type, note-args, note-parts}
 use Rattle.normal_steps.specs.States.{moved-to}
 use Rattle.normal_steps.specs.Holds.{Work, out-to, notes-to, Holds, Ready, ReadyOut, ReadyNotes, Room, Spent, Tag}
@@ -273,11 +273,11 @@ module _ {s : Text} {ws : Work} {p : Writer} where
       tells (k .1 ws σ h c t e) (let v = k .0 in record { at = omega arith; nodes = omega arith; table = omega arith; out = omega arith; args = omega arith; stands = omega arith }) y
 
   pub literal-answer : {ws' : Work} {q : Writer} {r : Told} (c : ℕ) → q ≡ moved-to p (p .at + 1) → Reads 1 (q .out) at-literal s ws ws' q r
-      → Leads leadL c s ws ws' p r
+      → Leads lead-L c s ws ws' p r
   literal-answer {ws'} {q} {r} c i u σ h m f t e = go (subst (λ (x : Writer). Reads 1 (x .out) at-literal s ws ws' x r) i u)
     where
       go : Reads 1 (p .out) at-literal s ws ws' (moved-to p (p .at + 1)) r → Refines s (Spent 1 (p .out) p) ws' r (at-literal (go-to t σ))
       go v = within (λ x (y, z). spent-less (omega arith) (passed-spent (passed-none p refl) (omega arith) z)) (v (go-to t σ) (holds-next h e refl))
 
-  pub none-answer : (c : ℕ) → Leads leadNone c s ws ws p Bad
+  pub none-answer : (c : ℕ) → Leads lead-none c s ws ws p Bad
   none-answer c σ h m f t e = refuses
