@@ -112,9 +112,9 @@ use Rattle.parser.proofs.memory.put.Reads as put-reads
 use Rattle.parser.proofs.memory.put_part.Reads as put-part-reads
 use Rattle.parser.proofs.memory.recorded.Reads as recorded-reads
 use Rattle.parser.proofs.memory.sum.Reads as sum-reads
-use Rattle.parser.proofs.names.before.Reads as before-reads
-use Rattle.parser.proofs.names.behind.Reads as behind-reads
-use Rattle.parser.proofs.names.here.Reads as here-reads
+use Rattle.grammar.proofs.text.before.Reads as before-reads
+use Rattle.grammar.proofs.text.behind.Reads as behind-reads
+use Rattle.grammar.proofs.text.here.Reads as here-reads
 use Rattle.parser.proofs.names.source_name.Reads as source-name-reads
 use Rattle.parser.proofs.names.substitution.Reads as substitution-reads
 use Rattle.parser.proofs.names.template_param.Reads as template-param-reads
