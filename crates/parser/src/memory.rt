@@ -1,10 +1,10 @@
 // Texts onto the stack and into the tables, with refusals 7 and 9 to 11.
 ghost use mathlib.Core.Bool.{false};
 ghost use mathlib.Core.Path.{_≡_};
-ghost use mathlib.Core.List.{List, []};
+ghost use mathlib.Core.List.{List, [], _++_};
 ghost use Prim.Native.Nat.{ℕ, _+_, _-_, _≤_, _<_, min};
 ghost use lib.ListN.{length, take, drop, getD, getElem?};
-ghost use Rattle.grammar.specs.Text.{Text, choose, same};
+ghost use Rattle.grammar.specs.Text.{Text, b, choose, same};
 ghost use Rattle.grammar.specs.Reader.{State, Reader, push-sub, push-arg, recorded, give, refuse};
 ghost use Rattle.grammar.specs.Grammar.{last};
 ghost use Rattle.grammar.specs.Words.{Inside, spelled};
@@ -74,6 +74,22 @@ pub fn cut(text: &mut [u8], p: Parser, k: usize, n: usize) -> Parser
 {
     let top = p.top;
     p.raised(stack::cut(text, top, k, n))
+}
+
+// The c bytes below the newest m go behind them, with a space between.
+pub fn turned(text: &mut [u8], p: Parser, c: usize, m: usize) -> Parser
+    requires { ⌜ (Stack (now text) (p .top)) × ((c ≤ 16384) × ((m ≤ 16384) × (c + m ≤ p .top))) ⌝ }
+    ensures { λ r. ⌜ ((s store ends : Text) (σ : State) → Holds s (mem (now (text .entry)) store ends) p σ → Holds s (mem (now (text .exit)) store ends) r σ)
+        × (((k d : ℕ) (s base : Text) (from : ℕ) (store ends x y : Text) (σ : State) → length x ≡ c → length y ≡ m
+        → Stands k d s base from (mem (now (text .entry)) store ends) p (c + m) (x ++ y) σ
+        → Stands k d s base from (mem (now (text .exit)) store ends) r (m + 1 + c) (y ++ b " " ++ x) σ)
+        × ((Stack (now (text .exit)) (r .top)) × (m + 1 + c ≤ r .top))) ⌝ }
+{
+    let spaced = put(text, p, b" ");
+    let d = c + m + 1;
+    let again = again(text, spaced, d, c);
+    let n = m + 1 + c;
+    cut(text, again, c, n)
 }
 
 // A text returned: 11 where it is too long.
