@@ -11,14 +11,12 @@ use reader::lists::Kind;
 use reader::lists::Texts;
 use store::stack;
 ghost use mathlib.Core.Path.{_≡_};
-ghost use mathlib.Core.List.{_++_};
-ghost use Prim.Native.Nat.{ℕ, _+_, _≤_, min};
+ghost use Prim.Native.Nat.{_+_, _≤_, min};
 ghost use lib.ListN.{length, drop};
 ghost use Rattle.grammar.specs.Text.{Text, b};
-ghost use Rattle.grammar.specs.Reader.{State};
 ghost use Rattle.grammar.specs.Grammar.{reading, ended, function-or-data};
 ghost use Rattle.store.specs.Stack.{Stack};
-ghost use Rattle.parser.specs.Holds.{mem, Holds, Ready, Reads, Stands, keep};
+ghost use Rattle.parser.specs.Holds.{mem, Ready, Reads, keep};
 ghost use Rattle.encoding.specs.Encodings.{Qualifies, LoneVoid, GoesOn, with-parameters, with-returned};
 
 // <function name> <bare-function-type> | <data name>
@@ -79,23 +77,8 @@ fn template_function(
     let Read::Text(last, r) = got else {
         return got;
     };
-    let next = turned(text, last, n, r);
+    let next = memory::turned(text, last, n, r);
     function(s, text, store, ends, next, r + 1 + n, from, to)
-}
-
-// The newest m bytes are a type, the c below them a name: the type, a space and the name.
-fn turned(text: &mut [u8], p: Parser, c: usize, m: usize) -> Parser
-    requires { ⌜ (Stack (now text) (p .top)) × ((c ≤ 16384) × ((m ≤ 16384) × (c + m ≤ p .top))) ⌝ }
-    ensures { λ r. ⌜ ((s store ends : Text) (σ : State) → Holds s (mem (now (text .entry)) store ends) p σ → Holds s (mem (now (text .exit)) store ends) r σ)
-        × ((k d : ℕ) (s base : Text) (from : ℕ) (store ends x y : Text) (σ : State) → length x ≡ c → length y ≡ m
-        → Stands k d s base from (mem (now (text .entry)) store ends) p (c + m) (x ++ y) σ
-        → Stands k d s base from (mem (now (text .exit)) store ends) r (m + 1 + c) (y ++ b " " ++ x) σ) ⌝ }
-{
-    let spaced = memory::put(text, p, b" ");
-    let d = c + m + 1;
-    let again = memory::again(text, spaced, d, c);
-    let n = m + 1 + c;
-    memory::cut(text, again, c, n)
 }
 
 // The parameters behind a name of n bytes.

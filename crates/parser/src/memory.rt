@@ -1,19 +1,21 @@
 // Texts onto the stack and into the tables, with refusals 7 and 9 to 11.
 ghost use mathlib.Core.Bool.{false};
 ghost use mathlib.Core.Path.{_≡_};
-ghost use mathlib.Core.List.{[]};
+ghost use mathlib.Core.List.{List, [], _++_};
 ghost use Prim.Native.Nat.{ℕ, _+_, _-_, _≤_, _<_, min};
-ghost use lib.ListN.{length, take, drop, getElem?};
-ghost use Rattle.grammar.specs.Text.{Text, choose, same};
+ghost use lib.ListN.{length, take, drop, getD, getElem?};
+ghost use Rattle.grammar.specs.Text.{Text, b, choose, same};
 ghost use Rattle.grammar.specs.Reader.{State, Reader, push-sub, push-arg, recorded, give, refuse};
 ghost use Rattle.grammar.specs.Grammar.{last};
 ghost use Rattle.grammar.specs.Words.{Inside, spelled};
-ghost use Rattle.store.specs.Stack.{Stack};
+ghost use Rattle.store.specs.Stack.{Stack, lent};
+ghost use Rattle.store.specs.Table.{Entries, Sized};
 ghost use Rattle.parser.specs.Holds.{Memory, mem, part, Holds, Ready, Reads, Stands, Refines, Puts, Cuts, Pushes, given-of};
-ghost use Rattle.parser.specs.Halves.{with-args};
+ghost use Rattle.parser.specs.Halves.{Room, Grows, with-args};
 ghost use Rattle.parser.specs.States.{subs-to, args-to};
 use crate::state::Parser;
 use crate::state::Read;
+use crate::state::Table;
 use grammar::codes;
 use grammar::codes::Word;
 use store::stack;
@@ -74,6 +76,22 @@ pub fn cut(text: &mut [u8], p: Parser, k: usize, n: usize) -> Parser
     p.raised(stack::cut(text, top, k, n))
 }
 
+// The c bytes below the newest m go behind them, with a space between.
+pub fn turned(text: &mut [u8], p: Parser, c: usize, m: usize) -> Parser
+    requires { ⌜ (Stack (now text) (p .top)) × ((c ≤ 16384) × ((m ≤ 16384) × (c + m ≤ p .top))) ⌝ }
+    ensures { λ r. ⌜ ((s store ends : Text) (σ : State) → Holds s (mem (now (text .entry)) store ends) p σ → Holds s (mem (now (text .exit)) store ends) r σ)
+        × (((k d : ℕ) (s base : Text) (from : ℕ) (store ends x y : Text) (σ : State) → length x ≡ c → length y ≡ m
+        → Stands k d s base from (mem (now (text .entry)) store ends) p (c + m) (x ++ y) σ
+        → Stands k d s base from (mem (now (text .exit)) store ends) r (m + 1 + c) (y ++ b " " ++ x) σ)
+        × ((Stack (now (text .exit)) (r .top)) × (m + 1 + c ≤ r .top))) ⌝ }
+{
+    let spaced = put(text, p, b" ");
+    let d = c + m + 1;
+    let again = again(text, spaced, d, c);
+    let n = m + 1 + c;
+    cut(text, again, c, n)
+}
+
 // A text returned: 11 where it is too long.
 pub fn given(p: Parser, n: usize) -> Read
     ensures { λ r. ⌜ r ≡ given-of p n ⌝ }
@@ -84,6 +102,33 @@ pub fn given(p: Parser, n: usize) -> Read
     Read::Text(p, n)
 }
 
+// Whether a table has room for a text of n bytes.
+fn has_room(table: Table, n: usize) -> bool
+    requires { ⌜ table .bytes ≤ 32768 ⌝ }
+    ensures { λ r. ⌜ Room (table .count) (table .bytes) n r ⌝ }
+{
+    if Parser::ENTRIES <= table.count {
+        return false;
+    }
+    n <= Parser::BYTES - table.bytes
+}
+
+// The newest n bytes become the next entry of a table, if it has room for them.
+fn push(text: &[u8], top: usize, store: &mut [u8], ends: &mut [u16], table: Table, n: usize) -> bool
+    requires { ⌜ (Sized (now store) (now ends)) × ((table .bytes ≤ 32768) × ((top ≤ length (now text)) × (min n 32768 ≤ top))) ⌝ }
+    ensures { λ r. ⌜ Grows (table .count) (table .bytes) n (lent (now (text .entry)) top n)
+        (now (store .entry)) (now (ends .entry)) (now (store .exit)) (now (ends .exit)) r ⌝ }
+{
+    if !has_room(table, n) {
+        return false;
+    }
+    let count = table.count;
+    let bytes = table.bytes;
+    let from = top - n;
+    table::push(store, ends, count, bytes, text, from, top);
+    true
+}
+
 // The newest n bytes become an entry: 9 where it does not fit.
 pub fn push_sub(text: &[u8], store: &mut [u8], ends: &mut [u16], p: Parser, n: usize) -> Read
     requires { ⌜ ((s : Text) × Ready s (mem (now text) (now store) (now ends)) p) × (min n 32768 ≤ p .top) ⌝ }
@@ -92,26 +137,11 @@ pub fn push_sub(text: &[u8], store: &mut [u8], ends: &mut [u16], p: Parser, n: u
         → Pushes s (mem (now (text .entry)) (now (store .exit)) (now (ends .exit))) n (subs-to p (p .subs .count + 1) (p .subs .bytes + n)) r (push-sub t σ)) ⌝ }
 {
     let subs = p.subs;
-    let count = subs.count;
-    let bytes = subs.bytes;
-    if Parser::ENTRIES <= count {
-        return Read::Refused(9);
-    }
-    if Parser::BYTES - bytes < n {
-        return Read::Refused(9);
-    }
     let top = p.top;
-    let from = top - n;
-    table::push(
-        &mut store[..32768],
-        &mut ends[..1024],
-        count,
-        bytes,
-        text,
-        from,
-        top,
-    );
-    Read::Text(p.with_subs(count + 1, bytes + n), n)
+    if !push(text, top, &mut store[..32768], &mut ends[..1024], subs, n) {
+        return Read::Refused(9);
+    }
+    Read::Text(p.with_subs(subs.count + 1, subs.bytes + n), n)
 }
 
 // The newest n bytes become a template argument: 10 where it does not fit.
@@ -122,26 +152,11 @@ pub fn push_arg(text: &[u8], store: &mut [u8], ends: &mut [u16], p: Parser, n: u
         → Pushes s (mem (now (text .entry)) (now (store .exit)) (now (ends .exit))) n (args-to p (p .args .count + 1) (p .args .bytes + n)) r (push-arg t σ)) ⌝ }
 {
     let args = p.args;
-    let count = args.count;
-    let bytes = args.bytes;
-    if Parser::ENTRIES <= count {
-        return Read::Refused(10);
-    }
-    if Parser::BYTES - bytes < n {
-        return Read::Refused(10);
-    }
     let top = p.top;
-    let from = top - n;
-    table::push(
-        &mut store[32768..],
-        &mut ends[1024..],
-        count,
-        bytes,
-        text,
-        from,
-        top,
-    );
-    Read::Text(p.with_args(count + 1, bytes + n), n)
+    if !push(text, top, &mut store[32768..], &mut ends[1024..], args, n) {
+        return Read::Refused(10);
+    }
+    Read::Text(p.with_args(args.count + 1, args.bytes + n), n)
 }
 
 // The text becomes an entry and is returned.
@@ -165,13 +180,10 @@ pub fn too_long(p: Parser, n: usize) -> Read
         → Holds s m p σ → n ≡ min (length t) 65536 → 16384 < n → Refines k d s base from m' r (recorded t σ)) ⌝ }
 {
     let subs = p.subs;
-    if Parser::ENTRIES <= subs.count {
-        return Read::Refused(9);
+    if has_room(subs, n) {
+        return Read::Refused(11);
     }
-    if Parser::BYTES - subs.bytes < n {
-        return Read::Refused(9);
-    }
-    Read::Refused(11)
+    Read::Refused(9)
 }
 
 // No template arguments are left.
@@ -181,17 +193,20 @@ pub fn clear_args(p: Parser) -> Parser
     p.with_args(0, 0)
 }
 
-// A part of the tables onto the stack: 11 where it is too long.
-pub fn entry(text: &mut [u8], store: &[u8], p: Parser, from: usize, end: usize) -> Read
-    requires { ⌜ (Stack (now text) (p .top)) × ((from ≤ end) × (end ≤ length (now store))) ⌝ }
-    ensures { λ r. ⌜ ((s ends : Text) → Reads (give (part (now (store .entry)) from end)) 34816 (p .at) s
-        (mem (now (text .entry)) (now (store .entry)) ends) (mem (now (text .exit)) (now (store .entry)) ends) p r) ⌝ }
+// Entry k of a table onto the stack: 11 where it is too long.
+fn entry(text: &mut [u8], store: &[u8], ends: &[u16], p: Parser, k: usize) -> Read
+    requires { ⌜ (Stack (now text) (p .top)) × ((l : List Text) × ((count : ℕ) × ((bytes : ℕ) × ((Entries l (now store) (now ends) count bytes) × (k < count))))) ⌝ }
+    ensures { λ r. ⌜ ((s bytes places : Text) (l : List Text) (c b : ℕ) → Entries l (now (store .entry)) (now (ends .entry)) c b → k < c
+        → Reads (give (getD l k [])) 34816 (p .at) s (mem (now (text .entry)) bytes places) (mem (now (text .exit)) bytes places) p r) ⌝ }
 {
-    let n = end - from;
+    let place = table::place_of(ends, k);
+    let from = place.from;
+    let to = place.to;
+    let n = to - from;
     if Parser::TEXT < n {
         return Read::Refused(11);
     }
-    Read::Text(put(text, p, &store[from..end]), n)
+    Read::Text(put(text, p, &store[from..to]), n)
 }
 
 // Entry k of the substitutions onto the stack: 7 where there is none.
@@ -205,9 +220,7 @@ pub fn recall(text: &mut [u8], store: &[u8], ends: &[u16], p: Parser, k: usize) 
     if subs.count <= k {
         return Read::Refused(7);
     }
-    let from = table::start(&ends[..1024], k);
-    let end = table::start(&ends[..1024], k + 1);
-    entry(text, store, p, from, end)
+    entry(text, &store[..32768], &ends[..1024], p, k)
 }
 
 // Template argument k, which there is, onto the stack.
@@ -217,11 +230,7 @@ pub fn recall_arg(text: &mut [u8], store: &[u8], ends: &[u16], p: Parser, k: usi
         (mem (now (text .entry)) (now (store .entry)) (now (ends .entry)))
         (mem (now (text .exit)) (now (store .entry)) (now (ends .entry))) p r) ⌝ }
 {
-    let first = table::start(&ends[1024..], k);
-    let last = table::start(&ends[1024..], k + 1);
-    let from = first + 32768;
-    let end = last + 32768;
-    entry(text, store, p, from, end)
+    entry(text, &store[32768..], &ends[1024..], p, k)
 }
 
 // Whether the newest n bytes are the newest entry.
@@ -236,13 +245,12 @@ pub fn newest_entry(text: &[u8], store: &[u8], ends: &[u16], p: Parser, n: usize
     if count == 0 {
         return false;
     }
-    let k = count - 1;
-    let from = table::start(&ends[..1024], k);
-    let end = table::start(&ends[..1024], k + 1);
-    if end - from != n {
+    let place = table::place_of(&ends[..1024], count - 1);
+    let from = place.from;
+    if place.to - from != n {
         return false;
     }
     let top = p.top;
     let low = top - n;
-    stack::same_long_part(text, low, store, from, n)
+    stack::same_long_part(text, low, &store[..32768], from, n)
 }

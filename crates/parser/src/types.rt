@@ -130,11 +130,7 @@ fn class_behind(text: &mut [u8], p: Parser, c: usize, m: usize) -> Parser
         → Stands k d s base from (mem (now (text .entry)) store ends) p (c + m) (x ++ y) σ
         → Stands k d s base from (mem (now (text .exit)) store ends) r (m + c + 4) (y ++ b " " ++ x ++ b "::*") σ)) ⌝ }
 {
-    let spaced = memory::put(text, p, b" ");
-    let d = c + m + 1;
-    let classed = memory::again(text, spaced, d, c);
-    let n = m + 1 + c;
-    let turned = memory::cut(text, classed, c, n);
+    let turned = memory::turned(text, p, c, m);
     memory::put(text, turned, b"::*")
 }
 

@@ -2,8 +2,8 @@
 -- may be anything.
 use mathlib.Core.Path.{_≡_}
 use mathlib.Core.List.{List, [], _∷_, _++_}
-use Prim.Native.Nat.{ℕ, _+_, _≤_}
-use lib.ListN.{length}
+use Prim.Native.Nat.{ℕ, _+_, _-_, _≤_}
+use lib.ListN.{length, take, drop, getD}
 use Rattle.grammar.specs.Text.{Text}
 use Rattle.grammar.specs.Reader.{bytes-of}
 
@@ -34,3 +34,9 @@ pub record Entries (l : List Text) (store ends : List ℕ) (count bytes : ℕ) :
 pub record Sized (store ends : List ℕ) : Type 0 where
   pub store-size : length store ≡ 32768
   pub ends-size : length ends ≡ 1024
+
+-- text k stands from `from` to `to`
+pub record Placed (l : List Text) (store : List ℕ) (k from to : ℕ) : Type 0 where
+  pub size : to ≡ from + length (getD l k [])
+  pub within : to ≤ 32768
+  pub is : take (to - from) (drop from store) ≡ getD l k []

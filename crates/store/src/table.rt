@@ -7,7 +7,13 @@ ghost use Prim.Native.Nat.{ℕ, _+_, _-_, _≤_, _<_};
 ghost use lib.ListN.{length, take, drop};
 ghost use Rattle.grammar.specs.Text.{Text};
 ghost use Rattle.grammar.specs.Reader.{bytes-of};
-ghost use Rattle.store.specs.Table.{Front, Entries, Sized, ends-from};
+ghost use Rattle.store.specs.Table.{Front, Entries, Sized, Placed, ends-from};
+
+// Where an entry stands in `store`.
+pub struct Place {
+    pub from: usize,
+    pub to: usize,
+}
 
 // text[from..to] becomes the next entry.
 pub fn push(
@@ -29,9 +35,18 @@ pub fn push(
 }
 
 // Where entry k begins, and entry k - 1 ends.
-pub fn start(ends: &[u16], k: usize) -> usize
+fn start(ends: &[u16], k: usize) -> usize
     requires { ⌜ k ≤ length (now ends) ⌝ }
     ensures { λ r. ⌜ ((l : List Text) (n : ℕ) → Front n (ends-from 0 l) (now (ends .entry)) → k ≤ length l → r ≡ bytes-of (take k l)) ⌝ }
 {
     if k == 0 { 0 } else { ends[k - 1] as usize }
+}
+
+pub fn place_of(ends: &[u16], k: usize) -> Place
+    requires { ⌜ k < length (now ends) ⌝ }
+    ensures { λ r. ⌜ ((l : List Text) (store : List ℕ) (count bytes : ℕ) → Entries l store (now (ends .entry)) count bytes → k < count → Placed l store k (r .from) (r .to)) ⌝ }
+{
+    let from = start(ends, k);
+    let to = start(ends, k + 1);
+    Place { from, to }
 }

@@ -8,22 +8,22 @@ use native.Mathlib.Omega.{arith}
 use borrow.Author.Tests.{le-leb, lt-leb, leb-true}
 use lib.Dec.{leb}
 use lib.ListN.{length, take, drop, getD, getElem?, length-append, length-take, length-drop}
-use lib.Seq.{take-take, drop-drop, length-take-le}
+use lib.Seq.{length-take-le}
 use Rattle.grammar.specs.Text.{Text, if_then_else_, choose, same}
 use Rattle.grammar.specs.Reader.{State, Result, ok, refused, Reader, onto, refuse, set-subs, set-args, bytes-of, fits, push-sub, push-arg, give, recorded}
 use Rattle.grammar.specs.Grammar.{last}
 use Rattle.store.specs.Stack.{lent}
 use Rattle.store.specs.Table.{Entries}
-use Rattle.store.specs.laws.Lists.{part-of, first-back, first-other, second-lent, second-back, second-other}
+use Rattle.store.specs.laws.Lists.{first-back, first-other, second-lent, second-back, second-other}
 use Rattle.store.specs.laws.Tails.{newest-lent, put-tail, whole}
-use Rattle.store.specs.laws.Entries.{entries-as, entries-sized, no-entries, entry-in, entry-within, next-start, some-entry, no-entry, bytes-append, bytes-one}
+use Rattle.store.specs.laws.Entries.{entries-as, entries-sized, no-entries, some-entry, no-entry, bytes-append, bytes-one}
 use Rattle.parser.specs.declared.state.Parser.{Parser}
 use Rattle.parser.specs.declared.state.Read.{Read}
 use Rattle.parser.specs.declared.state.Read.the-variants.{Text as read, Refused}
 use Rattle.parser.specs.States.{subs-to, args-to}
 use Rattle.parser.specs.Holds.{Memory, mem, window, part, Holds, Stands, Refines, refuses, Puts, Pushes, pushed, full, given-of, low-bytes, high-bytes, low-ends, high-ends}
 use Rattle.parser.specs.laws.Laws.{answers, given-refines, holds-puts}
-use Rattle.parser.specs.Halves.{with-subs, with-args}
+use Rattle.parser.specs.Halves.{with-subs, with-args, Grows}
 
 -- ---------------------------------------------------------------- sizes
 
@@ -39,32 +39,33 @@ module _ {s : Text} {m : Memory} {p : Parser} {σ : State} (h : Holds s m p σ) 
   unfolding low-ends high-ends
   ends-size = two-halves 1024 (m .ends) (entries-sized (h .subs) .ends-size) (entries-sized (h .args) .ends-size)
 
-  pub low-ends-size : length (take 1024 (m .ends)) ≡ 1024
-  unfolding low-ends
-  low-ends-size = entries-sized (h .subs) .ends-size
-
-  pub high-ends-size : length (take (length (m .ends) - 1024) (drop 1024 (m .ends))) ≡ 1024
-  unfolding high-ends
-  high-ends-size = ap length (second-lent 1024 (m .ends)) ∙ entries-sized (h .args) .ends-size
-
 -- ---------------------------------------------------------------- a half that was lent
+
+-- other tables
+holds-tables : {s text store ends store' ends' : Text} {p : Parser} {σ : State} {l r : List Text} {c b i j : ℕ} → Holds s (mem text store ends) p σ
+    → Entries l (low-bytes store') (low-ends ends') c b → Entries r (high-bytes store') (high-ends ends') i j
+    → Holds s (mem text store' ends') (args-to (subs-to p c b) i j) (with-args r (with-subs l σ))
+holds-tables h x y = record {
+  source = h .source;
+  place = h .place;
+  rest = h .rest;
+  depth = h .depth;
+  deep = h .deep;
+  text = h .text;
+  subs = x;
+  args = y;
+  cv = h .cv;
+  cv-within = h .cv-within;
+  templated = h .templated;
+}
 
 module _ {s text store ends : Text} {p : Parser} {σ : State} (h : Holds s (mem text store ends) p σ) {l : List Text} {ys zs : List ℕ} {c b : ℕ} (e : Entries l ys zs c b) where
   pub holds-subs : Holds s (mem text (ys ++ drop 32768 store) (zs ++ drop 1024 ends)) (subs-to p c b) (with-subs l σ)
   unfolding low-bytes high-bytes low-ends high-ends
-  holds-subs = record {
-    source = h .source;
-    place = h .place;
-    rest = h .rest;
-    depth = h .depth;
-    deep = h .deep;
-    text = h .text;
-    subs = entries-as (first-back 32768 store ys (entries-sized e .store-size)) (first-back 1024 ends zs (entries-sized e .ends-size)) e;
-    args = entries-as (first-other 32768 store ys (entries-sized e .store-size)) (first-other 1024 ends zs (entries-sized e .ends-size)) (h .args);
-    cv = h .cv;
-    cv-within = h .cv-within;
-    templated = h .templated;
-  }
+  holds-subs =
+      let u = entries-sized e .store-size in
+      let v = entries-sized e .ends-size in
+      holds-tables h (entries-as (first-back 32768 store ys u) (first-back 1024 ends zs v) e) (entries-as (first-other 32768 store ys u) (first-other 1024 ends zs v) (h .args))
 
   pub holds-args :
       Holds s
@@ -74,35 +75,17 @@ module _ {s text store ends : Text} {p : Parser} {σ : State} (h : Holds s (mem 
   holds-args =
       let u : 32768 ≤ length store = omega (arith, store-size h) in
       let v : 1024 ≤ length ends = omega (arith, ends-size h) in
-      record {
-        source = h .source;
-        place = h .place;
-        rest = h .rest;
-        depth = h .depth;
-        deep = h .deep;
-        text = h .text;
-        subs = entries-as (second-other 32768 store ys u) (second-other 1024 ends zs v) (h .subs);
-        args = entries-as (second-back 32768 store ys u) (second-back 1024 ends zs v) e;
-        cv = h .cv;
-        cv-within = h .cv-within;
-        templated = h .templated;
-      }
+      holds-tables h (entries-as (second-other 32768 store ys u) (second-other 1024 ends zs v) (h .subs)) (entries-as (second-back 32768 store ys u) (second-back 1024 ends zs v) e)
 
 -- no arguments are left, whatever their halves hold
 pub holds-no-args : {s : Text} {m : Memory} {p : Parser} {σ : State} → Holds s m p σ → Holds s m (args-to p 0 0) (with-args [] σ)
-holds-no-args h = record {
-  source = h .source;
-  place = h .place;
-  rest = h .rest;
-  depth = h .depth;
-  deep = h .deep;
-  text = h .text;
-  subs = h .subs;
-  args = no-entries (entries-sized (h .args));
-  cv = h .cv;
-  cv-within = h .cv-within;
-  templated = h .templated;
-}
+holds-no-args h = holds-tables h (h .subs) (no-entries (entries-sized (h .args)))
+
+-- the template arguments' halves, as code takes them
+pub args-lent : {s text store ends : Text} {p : Parser} {σ : State} → Holds s (mem text store ends) p σ
+    → Entries (σ .args) (take (length store - 32768) (drop 32768 store)) (take (length ends - 1024) (drop 1024 ends)) (p .args .count) (p .args .bytes)
+unfolding high-bytes high-ends
+args-lent {store = store} {ends = ends} h = entries-as (second-lent 32768 store) (second-lent 1024 ends) (h .args)
 
 -- ---------------------------------------------------------------- whether one entry more fits
 
@@ -126,22 +109,23 @@ module _ {l : List Text} {store ends : List ℕ} {c b : ℕ} (e : Entries l stor
       go true false x y = ap₂ (λ (q r : Bool). q && r) x y
       go false r x y = ap₂ (λ (q r : Bool). q && r) x y
 
+-- what a push answers, by whether the text fits
+abbrev Pushed : List Text → State → ℕ → Result (Unit {0})
+Pushed l σ j = if fits l then ok tt σ else refused j
+
+if-at : {A B : Type 0} (q : Bool) (f g : A → B) (x : A) → (if q then f else g) x ≡ (if q then f x else g x)
+unfolding if_then_else_
+if-at true f g x = refl
+if-at false f g x = refl
+
 module _ (t : Text) (σ : State) where
-  pub push-sub-yes : fits (σ .subs ++ (t ∷ [])) ≡ true → push-sub t σ ≡ ok tt (with-subs (σ .subs ++ (t ∷ [])) σ)
-  unfolding push-sub onto set-subs if_then_else_
-  push-sub-yes e = ap (λ (q : Bool). (if q then set-subs (σ .subs ++ (t ∷ [])) else refuse 9) σ) e
+  pub push-sub-is : push-sub t σ ≡ Pushed (σ .subs ++ (t ∷ [])) (with-subs (σ .subs ++ (t ∷ [])) σ) 9
+  unfolding push-sub onto set-subs
+  push-sub-is = if-at (fits (σ .subs ++ (t ∷ []))) (set-subs (σ .subs ++ (t ∷ []))) (refuse 9) σ
 
-  pub push-sub-no : fits (σ .subs ++ (t ∷ [])) ≡ false → push-sub t σ ≡ refused 9
-  unfolding push-sub onto set-subs if_then_else_
-  push-sub-no e = ap (λ (q : Bool). (if q then set-subs (σ .subs ++ (t ∷ [])) else refuse 9) σ) e
-
-  pub push-arg-yes : fits (σ .args ++ (t ∷ [])) ≡ true → push-arg t σ ≡ ok tt (with-args (σ .args ++ (t ∷ [])) σ)
-  unfolding push-arg onto set-args if_then_else_
-  push-arg-yes e = ap (λ (q : Bool). (if q then set-args (σ .args ++ (t ∷ [])) else refuse 10) σ) e
-
-  pub push-arg-no : fits (σ .args ++ (t ∷ [])) ≡ false → push-arg t σ ≡ refused 10
-  unfolding push-arg onto set-args if_then_else_
-  push-arg-no e = ap (λ (q : Bool). (if q then set-args (σ .args ++ (t ∷ [])) else refuse 10) σ) e
+  pub push-arg-is : push-arg t σ ≡ Pushed (σ .args ++ (t ∷ [])) (with-args (σ .args ++ (t ∷ [])) σ) 10
+  unfolding push-arg onto set-args
+  push-arg-is = if-at (fits (σ .args ++ (t ∷ []))) (set-args (σ .args ++ (t ∷ []))) (refuse 10) σ
 
 -- ---------------------------------------------------------------- pushes
 
@@ -157,29 +141,23 @@ module _ {s : Text} {m : Memory} {n : ℕ} {q : Parser} where
 pub newest-part : {k d : ℕ} {s base : Text} {from : ℕ} {m : Memory} {p : Parser} {n : ℕ} {t : Text} {σ : State} → Stands k d s base from m p n t σ → length t ≤ 32768 → (n ≤ p .top) × (lent (m .text) (p .top) n ≡ t)
 newest-part {base = base} {t = t} h l = newest-lent base t (h .holds .text) (h .tail) (omega (arith, h .size)) (omega (arith, h .least))
 
-newest-count : {k d : ℕ} {s base : Text} {from : ℕ} {m : Memory} {p : Parser} {n : ℕ} {t : Text} {σ : State} → Stands k d s base from m p n t σ → n ≤ 32768 → p .top - (p .top - n) ≡ n
-newest-count h l = omega (arith, newest-part h (omega (arith, h .size)) .0)
+-- a push onto one of the tables, which answers f
+module _ {k d : ℕ} {s base : Text} {from : ℕ} {m : Memory} {p : Parser} {n : ℕ} {t : Text} {σ : State} (h : Stands k d s base from m p n t σ)
+    {l : List Text} {ys zs ys' zs' : List ℕ} {c b : ℕ} {q : Bool} (e : Entries l ys zs c b) (g : Grows c b n (lent (m .text) (p .top) n) ys zs ys' zs' q)
+    (σ' : State) (j : ℕ) {f : Result (Unit {0})} (i : f ≡ Pushed (l ++ (t ∷ [])) σ' j) where
+  by-fit : (v : Bool) → fits (l ++ (t ∷ [])) ≡ v → f ≡ (if v then ok tt σ' else refused j)
+  by-fit v u = i ∙ ap (λ (x : Bool). if_then_else_ {A = Result (Unit {0})} x (ok tt σ') (refused j)) u
 
-module _ {k d : ℕ} {s base : Text} {from : ℕ} {text store ends : Text} {p : Parser} {n : ℕ} {t : Text} {σ : State} (h : Stands k d s base from (mem text store ends) p n t σ) {ys zs : List ℕ} {r : Parser} where
-  pub pushes-sub : n ≤ 32768 → p .subs .count < 1024 → p .subs .bytes + n ≤ 32768 → r ≡ subs-to p (p .subs .count + 1) (p .subs .bytes + n)
-      → Entries (σ .subs ++ (lent text (p .top) n ∷ [])) ys zs (p .subs .count + 1) (p .subs .bytes + (p .top - (p .top - n)))
-      → Pushes s (mem text (ys ++ drop 32768 store) (zs ++ drop 1024 ends)) n (subs-to p (p .subs .count + 1) (p .subs .bytes + n)) (read r n) (push-sub t σ)
-  pushes-sub l i j e g =
-      let z : n ≡ length t = omega (arith, h .size) in
-      let a : lent text (p .top) n ≡ t = newest-part h (omega arith) .1 in
-      let g' : Entries (σ .subs ++ (t ∷ [])) ys zs (p .subs .count + 1) (p .subs .bytes + n) = rw (a, newest-count h l) at g in
-      pushes-by (push-sub-yes t σ (fits-more (h .holds .subs) t i (omega arith))) (pushed-as e (holds-subs (h .holds) g'))
+  pub pushes-not : {m' : Memory} {r : Parser} → q ≡ false → Pushes s m' n r (Refused j) f
+  unfolding if_then_else_
+  pushes-not u = pushes-by (by-fit false (fits-not e t (λ x y. g .room .no u x (omega (arith, h .size))))) full
 
-  pub pushes-arg : n ≤ 32768 → p .args .count < 1024 → p .args .bytes + n ≤ 32768 → r ≡ args-to p (p .args .count + 1) (p .args .bytes + n)
-      → Entries (σ .args ++ (lent text (p .top) n ∷ [])) ys zs (p .args .count + 1) (p .args .bytes + (p .top - (p .top - n)))
-      → Pushes s
-      (mem text (take 32768 store ++ (ys ++ drop (length store - 32768) (drop 32768 store))) (take 1024 ends ++ (zs ++ drop (length ends - 1024) (drop 1024 ends))))
-      n (args-to p (p .args .count + 1) (p .args .bytes + n)) (read r n) (push-arg t σ)
-  pushes-arg l i j e g =
-      let z : n ≡ length t = omega (arith, h .size) in
-      let a : lent text (p .top) n ≡ t = newest-part h (omega arith) .1 in
-      let g' : Entries (σ .args ++ (t ∷ [])) ys zs (p .args .count + 1) (p .args .bytes + n) = rw (a, newest-count h l) at g in
-      pushes-by (push-arg-yes t σ (fits-more (h .holds .args) t i (omega arith))) (pushed-as e (holds-args (h .holds) g'))
+  pub pushes-entry : {m' : Memory} {r r' : Parser} → q ≡ true → r' ≡ r → (Entries (l ++ (t ∷ [])) ys' zs' (c + 1) (b + n) → Holds s m' r σ') → Pushes s m' n r (read r' n) f
+  unfolding if_then_else_
+  pushes-entry u v w =
+      let (x, y) = g .room .yes u in
+      let a : Entries (l ++ (t ∷ [])) ys' zs' (c + 1) (b + n) = rw (newest-part h (omega (arith, h .size)) .1) at (g .more u l e) in
+      pushes-by (by-fit true (fits-more e t x (omega (arith, h .size)))) (pushed-as v (w a))
 
 -- ---------------------------------------------------------------- texts that become entries and are returned
 
@@ -203,56 +181,18 @@ recorded-full {k} {d} {s} {s'} {base} {from} {m} {m'} {p} {n} t σ {r} {j} e u =
 
 module _ (t : Text) (σ : State) where
   pub recorded-no : fits (σ .subs ++ (t ∷ [])) ≡ false → recorded t σ ≡ refused 9
-  unfolding recorded onto
-  recorded-no e = ap (onto (λ _. give t)) (push-sub-no t σ e)
+  unfolding recorded onto if_then_else_
+  recorded-no e = rw (push-sub-is t σ, e)
 
   pub recorded-long : fits (σ .subs ++ (t ∷ [])) ≡ true → 16384 < length t → recorded t σ ≡ refused 11
   unfolding recorded onto give if_then_else_
-  recorded-long e l = ap (onto (λ _. give t)) (push-sub-yes t σ e) ∙ ap (λ (q : Bool). (if q then (λ u. ok t u) else refuse 11) (with-subs (σ .subs ++ (t ∷ [])) σ)) (lt-leb _ _ l)
+  recorded-long e l = rw (push-sub-is t σ, e, lt-leb (length t) 16384 l)
 
 -- ---------------------------------------------------------------- entries recalled
 
--- a part of the first n bytes, and of those behind them
-first-part : (n a e : ℕ) (l : List ℕ) → e ≤ n → a ≤ e → take (e - a) (drop a (take n l)) ≡ take (e - a) (drop a l)
-first-part n a e l i j = part-of a (e - a) n (take n l) l (omega arith) (take-take n n l (omega arith))
-
-second-part : (n a e : ℕ) (l : List ℕ) → take (e + n - (a + n)) (drop (a + n) l) ≡ take (e - a) (drop a (drop n l))
-second-part n a e l =
-    ap₂ (λ (i j : ℕ). take i (drop j l)) {x = e + n - (a + n)} {y = e - a} {u = a + n} {v = n + a} (omega arith) (omega arith) ∙ ap (take (e - a)) (sym (drop-drop a n l))
-
-module _ {l : List Text} {store ends : List ℕ} {c b : ℕ} (h : Entries l store ends c b) {k from end : ℕ} (i : k < c) (f : from ≡ bytes-of (take k l)) (e : end ≡ bytes-of (take (k + 1) l)) where
-  within : k < length l
-  within = omega (arith, h .count-is)
-
-  pub entry-size : end ≡ from + length (getD l k [])
-  entry-size = omega (arith, next-start l k within)
-
-  pub entry-room : end ≤ 32768
-  entry-room = omega (arith, entry-size, entry-within h k within, h .room)
-
-  pub entry-part : part store from end ≡ getD l k []
-  entry-part =
-      ap₂ (λ (x y : ℕ). take x (drop y store)) {x = end - from} {y = length (getD l k [])} {u = from} {v = bytes-of (take k l)} (omega (arith, entry-size)) f ∙ entry-in h k within
-
-module _ {s : Text} {m : Memory} {p : Parser} {σ : State} (h : Holds s m p σ) {k from end : ℕ} where
-  pub sub-part : k < p .subs .count → from ≡ bytes-of (take k (σ .subs)) → end ≡ bytes-of (take (k + 1) (σ .subs)) → part (m .store) from end ≡ getD (σ .subs) k []
-  unfolding low-bytes
-  sub-part i f e =
-      sym (first-part 32768 from end (m .store) (entry-room (h .subs) i f e) (omega (arith, entry-size (h .subs) i f e))) ∙ entry-part (h .subs) i f e
-
-  arg-part : k < p .args .count → from ≡ bytes-of (take k (σ .args)) → end ≡ bytes-of (take (k + 1) (σ .args)) → part (m .store) (from + 32768) (end + 32768) ≡ getD (σ .args) k []
-  unfolding high-bytes
-  arg-part i f e = second-part 32768 from end (m .store) ∙ entry-part (h .args) i f e
-
-  pub sub-given : (g : Reader Text) → k < p .subs .count → from ≡ bytes-of (take k (σ .subs)) → end ≡ bytes-of (take (k + 1) (σ .subs)) → choose (getElem? (σ .subs) k) give g σ ≡ give (part (m .store) from end) σ
-  unfolding choose
-  sub-given g i f e =
-      ap (λ (o : Option Text). choose o give g σ) (some-entry (σ .subs) k (omega (arith, h .subs .count-is))) ∙ ap (λ (t : Text). give t σ) (sym (sub-part i f e))
-
-  pub arg-given : (g : Reader Text) → k < p .args .count → from ≡ bytes-of (take k (σ .args)) → end ≡ bytes-of (take (k + 1) (σ .args)) → choose (getElem? (σ .args) k) give g σ ≡ give (part (m .store) (from + 32768) (end + 32768)) σ
-  unfolding choose
-  arg-given g i f e =
-      ap (λ (o : Option Text). choose o give g σ) (some-entry (σ .args) k (omega (arith, h .args .count-is))) ∙ ap (λ (t : Text). give t σ) (sym (arg-part i f e))
+pub some-given : (l : List Text) (k : ℕ) (g : Reader Text) (σ : State) → k < length l → choose (getElem? l k) give g σ ≡ give (getD l k []) σ
+unfolding choose
+some-given l k g σ i = ap (λ (o : Option Text). choose o give g σ) (some-entry l k i)
 
 pub none-given : (l : List Text) (k : ℕ) (g : Reader Text) (σ : State) → length l ≤ k → choose (getElem? l k) give g σ ≡ g σ
 unfolding choose

@@ -9,7 +9,7 @@ use lib.ListN.{length, take, drop, getD, set, getElem?, length-append}
 use lib.Seq.{take-at, drop-at, take-nil}
 use Rattle.grammar.specs.Text.{Text}
 use Rattle.grammar.specs.Reader.{bytes-of}
-use Rattle.store.specs.Table.{Front, concat, ends-from, Entries, Sized}
+use Rattle.store.specs.Table.{Front, concat, ends-from, Entries, Sized, Placed}
 use Rattle.store.specs.laws.Fronts.{front-none, front-as, front-at, front-written, front-set}
 
 -- ---- lists of texts
@@ -112,12 +112,16 @@ stored {n} {store} k l f h =
     ∙ take-at t (concat (drop (suc k) l) ++ z) (length t) refl
 
 module _ {l : List Text} {store ends : List ℕ} {count bytes : ℕ} (h : Entries l store ends count bytes) where
-  -- entry k lies in the store
-  pub entry-in : (k : ℕ) → k < length l → take (length (getD l k [])) (drop (bytes-of (take k l)) store) ≡ getD l k []
-  entry-in k i = stored k l (h .store-is) i
-
-  pub entry-within : (k : ℕ) → k < length l → bytes-of (take k l) + length (getD l k []) ≤ bytes
-  entry-within k i = omega (arith, next-start l k i, start-below l (k + 1), h .bytes-is)
+  -- what `place-of` returns
+  pub placed : {k from to : ℕ} → k < count → from ≡ bytes-of (take k l) → to ≡ bytes-of (take (k + 1) l) → Placed l store k from to
+  placed {k} {from} {to} i f e =
+      let w : k < length l = omega (arith, h .count-is) in
+      let n : to ≡ from + length (getD l k []) = omega (arith, next-start l k w) in
+      record {
+        size = n;
+        within = omega (arith, start-below l (k + 1), h .bytes-is, h .room);
+        is = ap₂ (λ (x y : ℕ). take x (drop y store)) {x = to - from} {y = length (getD l k [])} (omega arith) f ∙ stored k l (h .store-is) w;
+      }
 
   pub entries-sized : Sized store ends
   entries-sized = record { store-size = h .store-is .size; ends-size = h .ends-is .size }

@@ -26,7 +26,7 @@ returns c = (c .before2 .ensures .0 ∙ sym (c .before .before .before .before .
 loop-again : tie.Need-loop-again Inv-loop μ-loop
 loop-again c =
     let l = c .before .before .before .loop in
-    (omega arith, l .inv .1 ∙ feed-behind (c .before .before .before .before .args .s .now) (l .end) 16 (omega arith) (c .before .none-in-block .ensures (not-false _ (c .if1 .left))))
+    (omega arith, l .inv .1 ∙ feed-behind (c .before .before .before .before .before .args .s .now) (l .end) 16 (omega arith) (c .before .none-in-block .ensures (not-false _ (c .if1 .left))))
 
 returns-2 : tie.Need-returns-2 Inv-loop μ-loop
 returns-2 c = (c .before3 .ensures .0 ∙ sym (c .before .before .loop .inv .1), c .before3 .ensures .1)

@@ -8,13 +8,17 @@ use Rattle.parser.proofs.memory.too_long.Statement.{statement}
 use Rattle.parser.proofs.memory.too_long.Tie as tie
 
 returns : tie.Need-returns
-returns c k d s base from m m' t σ h e l = by (recorded-no t σ (fits-not (h .subs) t (λ i j. omega (arith, c .if1 .taken)))) refuses
+returns c k d s base from m m' t σ h e l =
+    let (i, j) = c .before .has-room .ensures .yes (c .if1 .taken) in
+    by (recorded-long t σ (fits-more (h .subs) t i (omega arith)) (omega arith)) refuses
 
 returns-2 : tie.Need-returns-2
-returns-2 c k d s base from m m' t σ h e l = by (recorded-no t σ (fits-not (h .subs) t (λ i j. omega (arith, c .if2 .taken, h .subs .room)))) refuses
-
-returns-3 : tie.Need-returns-3
-returns-3 c k d s base from m m' t σ h e l = by (recorded-long t σ (fits-more (h .subs) t (c .before .before .if1 .left) (omega (arith, c .if2 .left, h .subs .room))) (omega arith)) refuses
+returns-2 c k d s base from m m' t σ h e l = by (recorded-no t σ (fits-not (h .subs) t (λ i j. c .before .has-room .ensures .no (c .if1 .left) i (omega arith)))) refuses
 
 pub too-long-spec : {M : Type 1} → statement M
-too-long-spec = tie.close (tie.spec returns (λ c. search needs) returns-2 returns-3)
+too-long-spec =
+    tie.close
+    (tie.spec
+    (λ c κs. search needs)
+    returns
+    returns-2)

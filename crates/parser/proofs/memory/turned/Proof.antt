@@ -1,4 +1,4 @@
--- `encoding::functions::turned` puts a space and the name behind the type, and removes the name below it. Assumes nothing.
+-- `parser::memory::turned` puts a space and the c bytes on the top, and removes them below. Assumes nothing.
 use mathlib.Core.Path.{refl}
 use mathlib.Core.List.{[], _∷_}
 use Prim.Native.Nat.{ℕ, _+_, _-_, _≤_}
@@ -7,15 +7,15 @@ use lib.ListN.{take, drop, length-drop}
 use lib.Seq.{length-take-le}
 use Rattle.grammar.specs.Text.{Text, b}
 use Rattle.store.specs.Stack.{Stack}
 use Rattle.parser.specs.declared.state.Parser.{Parser}
 use Rattle.parser.specs.Holds.{Puts}
 use Rattle.parser.specs.laws.Laws.{holds-puts}
 use Rattle.parser.specs.laws.Wraps.{holds-cuts, puts-top, stands-turned}
 use borrow.Author.Needs.{needs}
-use Rattle.encoding.proofs.functions.turned.Statement.{statement}
-use Rattle.encoding.proofs.functions.turned.Tie as tie
+use Rattle.parser.proofs.memory.turned.Statement.{statement}
+use Rattle.parser.proofs.memory.turned.Tie as tie
 
--- the name stands once more on the top
+-- the c bytes stand once more on the top
 again-room : {text text₁ text₂ : Text} {p p₁ p₂ : Parser} {c m : ℕ} → Stack text (p .top) → c ≤ 16384 → m ≤ 16384 → c + m ≤ p .top
     → Puts text text₁ p p₁ (32 ∷ []) → Puts text₁ text₂ p₁ p₂ (take c (drop (p₁ .top - (c + m + 1)) text₁)) → c + m + 1 + c ≤ p₂ .top
 again-room {text₁ = text₁} {p₁ = p₁} {c = c} {m = m} h i j l u v =
@@ -43,9 +43,13 @@ returns c =
     let a = at-start in
     let u = c .before .before .before .before .before .before .before .before .before .before .put .ensures in
     let v = c .before .before .before .before .before .before .again .ensures in
-    let o = c .before .before .cut .ensures in (
+    let o = c .before .before .cut .ensures in
+    let l = again-room (a .pre .0) (a .pre .1 .0) (a .pre .1 .1 .0) (a .pre .1 .1 .1) u v in (
       (λ s store ends σ h. holds-cuts o (holds-puts v (holds-puts u h))),
-      (λ k d s base from store ends x y σ e f h. stands-turned x y (32 ∷ []) h e f refl (omega (arith, a .pre .1 .0, a .pre .1 .1 .0)) u v o),
+      (
+        (λ k d s base from store ends x y σ e f h. stands-turned x y (32 ∷ []) h e f refl (omega (arith, a .pre .1 .0, a .pre .1 .1 .0)) u v o),
+        (o .cut .stack, omega (arith, l, o .cut .top-is)),
+      ),
     )
 
 pub turned-spec : {M : Type 1} → statement M
