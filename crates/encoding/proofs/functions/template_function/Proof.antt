@@ -60,7 +60,7 @@ returns-2 c base at t σ h =
     let at-turned = c .before .before .before .before .before .before .before .before .before .before .before .before in
     let at-ty = before-turned at-turned in
     let at-start = before-ty at-ty in
-    type-returned (at-ty .ty .ensures) (at-start .args .from) (at-start .args .to) h (at-start .pre .1 .0) (at-turned .before .before .before .got .given .1) (at-turned .turned .ensures .1 .1) (c .before .before .before .before .before .before .function .ensures)
+    type-returned (at-ty .ty .ensures) (at-start .args .from) (at-start .args .to) h (at-start .pre .1 .0) (at-turned .before .before .before .got .given .1) (at-turned .turned .ensures .1 .0) (c .before .before .before .before .before .before .function .ensures)
 
 pub template-function-spec : {M : Type 1} → statement M
 template-function-spec =
