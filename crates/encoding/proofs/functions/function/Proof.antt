@@ -101,7 +101,9 @@ returns-2 c base at t σ h =
     let at-put = before-items at-items in
     let at-start = before-put at-put in
     let v = subst (LoneVoid _ _ _ _ _) (c .before .before .before .before .before .before .before .before .before .before .before .before .before .if1 .taken) (c .before .before .before .before .before .before .before .before .before .before .before .before .before .before .lone-void .ensures) in
-    void-given (at-put .put .ensures) (at-items .items .ensures) (at-start .args .from) (at-start .args .to) h (at-start .pre .1 .0) (at-list .list .given .1) v (c .before .before .before .before .before .before .before .before .before .before .before .cut .ensures) (c .before .before .before .before .before .before .put2 .ensures) (c .before .before .qualified .ensures)
+    void-given (at-put .put .ensures) (at-items .items .ensures) (at-start .args .from) (at-start .args .to) h (at-start .pre .1 .0) (at-list .list .given .1) v
+    (c .before .before .before .before .before .before .before .before .before .before .before .cut .ensures) (c .before .before .before .before .before .before .put2 .ensures)
+    (c .before .before .qualified .ensures)
 
 returns-3 : tie.Need-returns-3
 unfolding b

@@ -54,7 +54,9 @@ returns-3 : tie.Need-returns-3
 returns-3 c =
     let at-ended = c .before .before .before .before .before .before .before .before .before .before .before .before in
     let at-name = before-ended at-ended in
-    λ σ h. name-templated (at-name .name .ensures) h (at-ended .before .before .before .before .got .given .1) (at-ended .before .with-cv .ensures) (sym (at-ended .ended .ensures) ∙ c .before .before .before .before .before .before .before .before .before .before .before .if1 .left) (c .before .before .before .before .before .before .before .before .before .before .if2 .taken) (c .before .before .before .before .before .before .template-function .ensures)
+    λ σ h. name-templated (at-name .name .ensures) h (at-ended .before .before .before .before .got .given .1) (at-ended .before .with-cv .ensures)
+    (sym (at-ended .ended .ensures) ∙ c .before .before .before .before .before .before .before .before .before .before .before .if1 .left)
+    (c .before .before .before .before .before .before .before .before .before .before .if2 .taken) (c .before .before .before .before .before .before .template-function .ensures)
 
 function-requires : tie.Need-function-requires
 function-requires c κs =
@@ -76,7 +78,9 @@ returns-4 : tie.Need-returns-4
 returns-4 c =
     let at-ended = c .before .before .before .before .before .before .before .before .before .before .before .before in
     let at-name = before-ended at-ended in
-    λ σ h. name-plain (at-name .name .ensures) h (at-ended .before .before .before .before .got .given .1) (at-ended .before .with-cv .ensures) (sym (at-ended .ended .ensures) ∙ c .before .before .before .before .before .before .before .before .before .before .before .if1 .left) (c .before .before .before .before .before .before .before .before .before .before .if2 .left) (c .before .before .before .before .before .before .function .ensures)
+    λ σ h. name-plain (at-name .name .ensures) h (at-ended .before .before .before .before .got .given .1) (at-ended .before .with-cv .ensures)
+    (sym (at-ended .ended .ensures) ∙ c .before .before .before .before .before .before .before .before .before .before .before .if1 .left)
+    (c .before .before .before .before .before .before .before .before .before .before .if2 .left) (c .before .before .before .before .before .before .function .ensures)
 
 pub function-or-data-spec : {M : Type 1} → statement M
 function-or-data-spec =

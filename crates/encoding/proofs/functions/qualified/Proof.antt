@@ -30,7 +30,11 @@ sub-sum : tie.Need-sub-sum Inv-loop μ-loop
 sub-sum c = omega (arith, picked-at (c .before .before .before .before .before .before .before .before .qualifier .ensures) (c .before .before .before .before .before .before .w .given .1) .1)
 
 sum-requires : tie.Need-sum-requires Inv-loop μ-loop
-sum-requires c κs = (omega (arith, c .before .before .before .before .before .before .before .before .before .before .before .loop .inv .size-is), omega (arith, picked-at (c .before .before .before .before .before .before .before .before .qualifier .ensures) (c .before .before .before .before .before .before .w .given .1) .1))
+sum-requires c κs = (
+  omega (arith, c .before .before .before .before .before .before .before .before .before .before .before .loop .inv .size-is),
+  omega
+      (arith, picked-at (c .before .before .before .before .before .before .before .before .qualifier .ensures) (c .before .before .before .before .before .before .w .given .1) .1),
+)
 
 add-at : tie.Need-add-at Inv-loop μ-loop
 add-at c =

@@ -38,7 +38,9 @@ unfolding b
 returns-2 c =
     let at-label = c .before .before .before .before .before .before .before .before .before .before .before .before in
     let at-start = before-label at-label in
-    other-read (at-start .pre .0) (at-start .pre .1 .1) (at-label .label .ensures) (c .before .before .before .before .before .before .before .before .before .before .enum-told .given .1) (at-start .pre .1 .0) (sym (at-label .before .before .starts-with .ensures) ∙ at-label .before .if1 .left) (c .before .before .before .before .before .before .function-or-data .ensures)
+    other-read (at-start .pre .0) (at-start .pre .1 .1) (at-label .label .ensures)
+    (c .before .before .before .before .before .before .before .before .before .before .enum-told .given .1) (at-start .pre .1 .0)
+    (sym (at-label .before .before .starts-with .ensures) ∙ at-label .before .if1 .left) (c .before .before .before .before .before .before .function-or-data .ensures)
 
 put-word-requires : tie.Need-put-word-requires
 put-word-requires c κs =
@@ -84,7 +86,8 @@ returns-4 c =
     let at-label = before-put-word at-put-word in
     let at-start = before-label at-label in
     let i = subst Picked-inside (at-put-word .before .before .before .before .w .given .1) (at-label .label .ensures .inside) in
-    label-given (at-start .pre .0) (at-start .pre .1 .1) (at-label .label .ensures) (at-put-word .before .before .before .before .w .given .1) (at-put-word .before .moved .ensures) (at-put-word .put-word .ensures) (at-ty .ty .ensures) (c .before .before .before .got .given .1) (length-spelled _ i) i (c .given .ensures)
+    label-given (at-start .pre .0) (at-start .pre .1 .1) (at-label .label .ensures) (at-put-word .before .before .before .before .w .given .1) (at-put-word .before .moved .ensures)
+    (at-put-word .put-word .ensures) (at-ty .ty .ensures) (c .before .before .before .got .given .1) (length-spelled _ i) i (c .given .ensures)
 
 pub encoding-spec : {M : Type 1} → statement M
 encoding-spec =

@@ -152,7 +152,9 @@ returns-3 c =
     let at-encoding = c .before .before .before .before .before .before .before .before .before .before .before .before .before in
     let at-starts-with = before-encoding at-encoding in
     let at-start = before-starts-with at-starts-with in
-    clones-given (at-starts-with .before .before .loop .inv) (at-starts-with .before .before .before .new .ensures) (second-lent (at-starts-with .before .before .loop .at) (at-start .args .s .now)) (at-encoding .encoding .ensures) (c .before .before .before .if2 .left) (c .before .before .before .before .before .got .given .1) (c .before .before .moved .ensures) (c .before .sum2 .ensures) (c .given .ensures)
+    clones-given (at-starts-with .before .before .loop .inv) (at-starts-with .before .before .before .new .ensures)
+    (second-lent (at-starts-with .before .before .loop .at) (at-start .args .s .now)) (at-encoding .encoding .ensures) (c .before .before .before .if2 .left)
+    (c .before .before .before .before .before .got .given .1) (c .before .before .moved .ensures) (c .before .sum2 .ensures) (c .given .ensures)
 
 pub mangled-name-spec : {M : Type 1} → statement M
 mangled-name-spec =

@@ -10,7 +10,8 @@ copy-requires c κs = omega (arith, c .before .before .before .pre)
 
 returns : tie.Need-returns
 returns c =
-    let q = c .before .before .before .before .before .before .before in
+    let at-start = c .before .before .before .before .before .before .before in
+    let q = at-start in
     (c .begun .ensures, front-paste (front-none (q .pre .1)) (q .args .word .now) (omega (arith, q .pre .0)) (c .before .before .before .copy .ensures))
 
 pub begin-spec : {M : Type 1} → statement M

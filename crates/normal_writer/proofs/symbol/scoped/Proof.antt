@@ -7,43 +7,75 @@ use borrow.Author.Needs.{needs}
 use Rattle.normal_writer.proofs.symbol.scoped.Statement.{statement}
 use Rattle.normal_writer.proofs.symbol.scoped.Tie as tie
 
+-- Stages: places that later facts cite. Each function goes from one to the one before it.
+abbrev before-begin : tie.After-begin → tie.Start
+before-begin c = c .before .before .before .before .before .before
+
+abbrev before-parts : tie.After-parts → tie.After-begin
+before-parts c = c .before .before .before .before .before
+
+abbrev before-next : tie.After-next → tie.After-parts
+before-next c = c .before .before .before .before .before .before
+
 parts-requires : tie.Need-parts-requires
 parts-requires c κs =
-    let q = c .before .before .before .before .before .before .before .before .before .before in
+    let at-begin = c .before .before .before .before in
+    let at-start = before-begin at-begin in
+    let q = at-start in
     let b = begun-by (q .args .s .now) (q .args .word .now) (work (q .args .out .now) (q .args .notes .now)) (q .pre .0) (q .pre .1 .1) (c .before .before .before .before .begin .ensures) in
     (_, scoped-holds b)
 
 returns : tie.Need-returns
 returns c =
-    let q = c .before .before .before .before .before .before .before .before .before .before .before .before .before .before .before .before .before in
-    let b = begun-by (q .args .s .now) (q .args .word .now) (work (q .args .out .now) (q .args .notes .now)) (q .pre .0) (q .pre .1 .1) (c .before .before .before .before .before .before .before .before .before .before .before .begin .ensures) in
-    scoped-none b (c .before .before .before .before .before .before .parts .ensures) (q .args .constant) (c .enum-told .given .1)
+    let at-parts = c .before .before .before .before .before .before in
+    let at-begin = before-parts at-parts in
+    let at-start = before-begin at-begin in
+    let q = at-start in
+    let b = begun-by (q .args .s .now) (q .args .word .now) (work (q .args .out .now) (q .args .notes .now)) (q .pre .0) (q .pre .1 .1) (at-begin .begin .ensures) in
+    scoped-none b (at-parts .parts .ensures) (q .args .constant) (c .enum-told .given .1)
 
 tag-of-requires : tie.Need-tag-of-requires
 tag-of-requires c κs =
-    let q = c .before .before .before .before .before .before .before .before .before .before .before .before .before .before .before .before .before .before .before in
-    let b = begun-by (q .args .s .now) (q .args .word .now) (work (q .args .out .now) (q .args .notes .now)) (q .pre .0) (q .pre .1 .1) (c .before .before .before .before .before .before .before .before .before .before .before .before .before .begin .ensures) in
-    let t = scoped-ready b (c .before .before .before .before .before .before .before .before .parts .ensures) (c .before .before .next .given .1) in
+    let at-next = c .before .before in
+    let at-parts = before-next at-next in
+    let at-begin = before-parts at-parts in
+    let at-start = before-begin at-begin in
+    let q = at-start in
+    let b = begun-by (q .args .s .now) (q .args .word .now) (work (q .args .out .now) (q .args .notes .now)) (q .pre .0) (q .pre .1 .1) (at-begin .begin .ensures) in
+    let t = scoped-ready b (at-parts .parts .ensures) (c .before .before .next .given .1) in
     (_, ready-notes (t .state, t .holds))
 
 returns-2 : tie.Need-returns-2
 returns-2 c =
-    let q = c .before .before .before .before .before .before .before .before .before .before .before .before .before .before .before .before .before .before .before .before .before .before in
-    let b = begun-by (q .args .s .now) (q .args .word .now) (work (q .args .out .now) (q .args .notes .now)) (q .pre .0) (q .pre .1 .1) (c .before .before .before .before .before .before .before .before .before .before .before .before .before .before .before .before .begin .ensures) in
-    scoped-full b (c .before .before .before .before .before .before .before .before .before .before .before .parts .ensures) (c .before .before .before .before .before .next .given .1) (q .args .constant) (c .before .before .tag-of .ensures) (c .before .bare .ensures) (not-true _ (c .if1 .taken))
+    let at-next = c .before .before .before .before .before in
+    let at-parts = before-next at-next in
+    let at-begin = before-parts at-parts in
+    let at-start = before-begin at-begin in
+    let q = at-start in
+    let b = begun-by (q .args .s .now) (q .args .word .now) (work (q .args .out .now) (q .args .notes .now)) (q .pre .0) (q .pre .1 .1) (at-begin .begin .ensures) in
+    scoped-full b (at-parts .parts .ensures) (at-next .next .given .1) (q .args .constant) (c .before .before .tag-of .ensures) (c .before .bare .ensures) (not-true _ (c .if1 .taken))
 
 close-requires : tie.Need-close-requires
 close-requires c κs =
-    let q = c .before .before .before .before .before .before .before .before .before .before .before .before .before .before .before .before .before .before .before .before .before .before .before in
-    let b = begun-by (q .args .s .now) (q .args .word .now) (work (q .args .out .now) (q .args .notes .now)) (q .pre .0) (q .pre .1 .1) (c .before .before .before .before .before .before .before .before .before .before .before .before .before .before .before .before .before .begin .ensures) in
-    let t = scoped-ready b (c .before .before .before .before .before .before .before .before .before .before .before .before .parts .ensures) (c .before .before .before .before .before .before .next .given .1) in
-    (scoped-room b (c .before .before .before .before .before .before .before .before .before .before .before .before .parts .ensures) (c .before .before .before .before .before .before .next .given .1), (_, ready-out (t .state, t .holds)))
+    let at-next = c .before .before .before .before .before .before in
+    let at-parts = before-next at-next in
+    let at-begin = before-parts at-parts in
+    let at-start = before-begin at-begin in
+    let q = at-start in
+    let b = begun-by (q .args .s .now) (q .args .word .now) (work (q .args .out .now) (q .args .notes .now)) (q .pre .0) (q .pre .1 .1) (at-begin .begin .ensures) in
+    let t = scoped-ready b (at-parts .parts .ensures) (at-next .next .given .1) in
+    (scoped-room b (at-parts .parts .ensures) (at-next .next .given .1), (_, ready-out (t .state, t .holds)))
 
 returns-3 : tie.Need-returns-3
 returns-3 c =
-    let q = c .before .before .before .before .before .before .before .before .before .before .before .before .before .before .before .before .before .before .before .before .before .before .before .before .before .before in
-    let b = begun-by (q .args .s .now) (q .args .word .now) (work (q .args .out .now) (q .args .notes .now)) (q .pre .0) (q .pre .1 .1) (c .before .before .before .before .before .before .before .before .before .before .before .before .before .before .before .before .before .before .before .before .begin .ensures) in
-    scoped-heads b (c .before .before .before .before .before .before .before .before .before .before .before .before .before .before .before .parts .ensures) (c .before .before .before .before .before .before .before .before .before .next .given .1) (q .args .constant) (c .before .before .before .before .before .before .tag-of .ensures) (c .before .before .before .before .before .bare .ensures) (not-false _ (c .before .before .before .before .if1 .left)) (c .before .before .close .ensures)
+    let at-next = c .before .before .before .before .before .before .before .before .before in
+    let at-parts = before-next at-next in
+    let at-begin = before-parts at-parts in
+    let at-start = before-begin at-begin in
+    let q = at-start in
+    let b = begun-by (q .args .s .now) (q .args .word .now) (work (q .args .out .now) (q .args .notes .now)) (q .pre .0) (q .pre .1 .1) (at-begin .begin .ensures) in
+    scoped-heads b (at-parts .parts .ensures) (at-next .next .given .1) (q .args .constant) (c .before .before .before .before .before .before .tag-of .ensures)
+    (c .before .before .before .before .before .bare .ensures) (not-false _ (c .before .before .before .before .if1 .left)) (c .before .before .close .ensures)
 
 pub scoped-spec : {M : Type 1} → statement M
 scoped-spec =

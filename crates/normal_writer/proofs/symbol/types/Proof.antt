@@ -16,47 +16,70 @@ Inv-loop s out₀ notes₀ next₀ out notes next = Turned s (work out₀ notes�
 abbrev μ-loop : tie.MeasureT-loop
 μ-loop s out₀ notes₀ next₀ out notes next = length s - next .at
 
+-- Stages: places that later facts cite. Each function goes from one to the one before it.
+abbrev before-ty : tie.After-ty Inv-loop μ-loop → tie.Start Inv-loop μ-loop
+before-ty c = c .before .before .before .before .before .before .before .before .before
+
 loop-holds : tie.Need-loop-holds Inv-loop μ-loop
 loop-holds c = turned-none
 
 ty-requires : tie.Need-ty-requires Inv-loop μ-loop
-ty-requires c κs = let y = turned-from (c .before .before .before .before .loop .inv) (c .before .before .before .before .before .before .before .before .pre) in (y .state, y .holds)
+ty-requires c κs =
+    let at-start = c .before .before .before .before .before .before .before .before in
+    let y = turned-from (c .before .before .before .before .loop .inv) (at-start .pre) in (y .state, y .holds)
 
 same-length : tie.Need-same-length Inv-loop μ-loop
-same-length c = omega (arith, c .before .before .before .before .before .before .before .before .before .before .before .loop .inv .out-kept, c .before .before .before .before .before .before .ty .kept)
+same-length c =
+    let at-ty = c .before .before .before .before .before .before in
+    omega (arith, at-ty .before .before .before .before .before .loop .inv .out-kept, at-ty .ty .kept)
 
 same-length-2 : tie.Need-same-length-2 Inv-loop μ-loop
-same-length-2 c = omega (arith, c .before .before .before .before .before .before .before .before .before .before .before .loop .inv .notes-kept, c .before .before .before .before .before .before .ty .kept)
+same-length-2 c =
+    let at-ty = c .before .before .before .before .before .before in
+    omega (arith, at-ty .before .before .before .before .before .loop .inv .notes-kept, at-ty .ty .kept)
 
 returns : tie.Need-returns Inv-loop μ-loop
-returns c σ h m k = ends-broken (turn-none (c .before .before .before .before .before .before .before .before .before .before .before .loop .inv .goes σ h m k) (c .before .before .before .before .before .before .before .before .before .if1 .taken) (c .before .before .before .before .before .before .ty .ensures) (c .enum-told .given .1))
+returns c σ h m k =
+    let at-ty = c .before .before .before .before .before .before in
+    ends-broken (turn-none (at-ty .before .before .before .before .before .loop .inv .goes σ h m k) (at-ty .before .before .before .if1 .taken) (at-ty .ty .ensures) (c .enum-told .given .1))
 
 tag-of-requires : tie.Need-tag-of-requires Inv-loop μ-loop
 tag-of-requires c κs =
-    let t = turn-told (turned-from (c .before .before .before .before .before .before .before .before .before .before .before .before .before .loop .inv) (c .before .before .before .before .before .before .before .before .before .before .before .before .before .before .before .before .before .pre)) (c .before .before .before .before .before .before .before .before .before .before .before .if1 .taken) (c .before .before .before .before .before .before .before .before .ty .ensures) (c .before .before .q .given .1) in
+    let at-ty = c .before .before .before .before .before .before .before .before in
+    let at-start = before-ty at-ty in
+    let t = turn-told (turned-from (at-ty .before .before .before .before .before .loop .inv) (at-start .pre)) (at-ty .before .before .before .if1 .taken) (at-ty .ty .ensures) (c .before .before .q .given .1) in
     (_, ready-notes (t .state, t .holds))
 
 same-length-3 : tie.Need-same-length-3 Inv-loop μ-loop
-same-length-3 c = omega (arith, c .before .before .before .before .before .before .before .before .before .before .before .before .before .before .before .loop .inv .out-kept, c .before .before .before .before .before .before .before .before .before .before .ty .kept)
+same-length-3 c =
+    let at-ty = c .before .before .before .before .before .before .before .before .before .before in
+    omega (arith, at-ty .before .before .before .before .before .loop .inv .out-kept, at-ty .ty .kept)
 
 same-length-4 : tie.Need-same-length-4 Inv-loop μ-loop
-same-length-4 c = omega (arith, c .before .before .before .before .before .before .before .before .before .before .before .before .before .before .before .loop .inv .notes-kept, c .before .before .before .before .before .before .before .before .before .before .ty .kept)
+same-length-4 c =
+    let at-ty = c .before .before .before .before .before .before .before .before .before .before in
+    omega (arith, at-ty .before .before .before .before .before .loop .inv .notes-kept, at-ty .ty .kept)
 
 returns-2 : tie.Need-returns-2 Inv-loop μ-loop
 returns-2 c σ h m k =
-    ends-broken (turn-lit (c .before .before .before .before .before .before .before .before .before .before .before .before .before .before .before .loop .inv .goes σ h m k) (c .before .before .before .before .before .before .before .before .before .before .before .before .before .if1 .taken) (c .before .before .before .before .before .before .before .before .before .before .ty .ensures) (c .before .before .before .before .q .given .1) (c .before .tag-of .ensures) (c .if2 .taken))
+    let at-ty = c .before .before .before .before .before .before .before .before .before .before in
+    ends-broken (turn-lit (at-ty .before .before .before .before .before .loop .inv .goes σ h m k) (at-ty .before .before .before .if1 .taken) (at-ty .ty .ensures) (c .before .before .before .before .q .given .1) (c .before .tag-of .ensures) (c .if2 .taken))
 
 loop-less : tie.Need-loop-less Inv-loop μ-loop
 loop-less c =
-    let t = turn-told (turned-from (c .before .before .before .before .before .before .before .before .before .before .before .before .before .before .before .loop .inv) (c .before .before .before .before .before .before .before .before .before .before .before .before .before .before .before .before .before .before .before .pre)) (c .before .before .before .before .before .before .before .before .before .before .before .before .before .if1 .taken) (c .before .before .before .before .before .before .before .before .before .before .ty .ensures) (c .before .before .before .before .q .given .1) in
-    omega (arith, t .limits .at, c .before .before .before .before .before .before .before .before .before .before .before .before .before .if1 .taken)
+    let at-ty = c .before .before .before .before .before .before .before .before .before .before in
+    let at-start = before-ty at-ty in
+    let t = turn-told (turned-from (at-ty .before .before .before .before .before .loop .inv) (at-start .pre)) (at-ty .before .before .before .if1 .taken) (at-ty .ty .ensures) (c .before .before .before .before .q .given .1) in
+    omega (arith, t .limits .at, at-ty .before .before .before .if1 .taken)
 
 loop-again : tie.Need-loop-again Inv-loop μ-loop
-loop-again c = record {
-  out-kept = omega (arith, c .before .before .before .before .before .before .before .before .before .before .before .before .before .before .before .loop .inv .out-kept, c .before .before .before .before .before .before .before .before .before .before .ty .kept);
-  notes-kept = omega (arith, c .before .before .before .before .before .before .before .before .before .before .before .before .before .before .before .loop .inv .notes-kept, c .before .before .before .before .before .before .before .before .before .before .ty .kept);
-  goes = λ σ h m k. turn-more (c .before .before .before .before .before .before .before .before .before .before .before .before .before .before .before .loop .inv .goes σ h m k) (c .before .before .before .before .before .before .before .before .before .before .before .before .before .if1 .taken) (c .before .before .before .before .before .before .before .before .before .before .ty .ensures) (c .before .before .before .before .q .given .1) (c .before .tag-of .ensures) (c .if2 .left);
-}
+loop-again c =
+    let at-ty = c .before .before .before .before .before .before .before .before .before .before in
+    record {
+      out-kept = omega (arith, at-ty .before .before .before .before .before .loop .inv .out-kept, at-ty .ty .kept);
+      notes-kept = omega (arith, at-ty .before .before .before .before .before .loop .inv .notes-kept, at-ty .ty .kept);
+      goes = λ σ h m k. turn-more (at-ty .before .before .before .before .before .loop .inv .goes σ h m k) (at-ty .before .before .before .if1 .taken) (at-ty .ty .ensures) (c .before .before .before .before .q .given .1) (c .before .tag-of .ensures) (c .if2 .left);
+    }
 
 same-length-5 : tie.Need-same-length-5 Inv-loop μ-loop
 same-length-5 c = omega (arith, c .before .before .loop .inv .out-kept)

@@ -10,45 +10,66 @@ use borrow.Author.Needs.{needs}
 use Rattle.normal_writer.proofs.symbol.write_symbol.Statement.{statement}
 use Rattle.normal_writer.proofs.symbol.write_symbol.Tie as tie
 
+-- Stages: places that later facts cite. Each function goes from one to the one before it.
+abbrev before-function : tie.After-function → tie.Start
+before-function c = c .before .before .before .before .before .before .before .before .before
+
+abbrev before-types : tie.After-types → tie.After-function
+before-types c = c .before .before .before .before .before .before .before .before .before .before .before
+
 returns : tie.Need-returns
-returns c = outside-by (symbol-not (c .before .before .before .before .before .before .args .s .now) (sym (c .before .starts-with .ensures) ∙ not-true _ (c .if1 .taken)))
+returns c =
+    let at-start = c .before .before .before .before .before .before in
+    outside-by (symbol-not (at-start .args .s .now) (sym (c .before .starts-with .ensures) ∙ not-true _ (c .if1 .taken)))
 
 returns-2 : tie.Need-returns-2
 returns-2 c =
-    let y = sym (c .before .before .before .before .before .before .before .before .before .before .starts-with .ensures) ∙ not-false _ (c .before .before .before .before .before .before .before .before .before .if1 .left) in
-    outside-by (symbol-nameless y (c .before .before .before .before .before .before .function .ensures) (c .enum-told .given .1))
+    let at-function = c .before .before .before .before .before .before in
+    let y = sym (at-function .before .before .before .before .starts-with .ensures) ∙ not-false _ (at-function .before .before .before .if1 .left) in
+    outside-by (symbol-nameless y (at-function .function .ensures) (c .enum-told .given .1))
 
 returns-3 : tie.Need-returns-3
 returns-3 c =
-    let y = sym (c .before .before .before .before .before .before .before .before .before .before .before .before .before .before .starts-with .ensures) ∙ not-false _ (c .before .before .before .before .before .before .before .before .before .before .before .before .before .if1 .left) in
-    outside-by (symbol-alone y (c .before .before .before .before .before .before .before .before .before .before .function .ensures) (c .before .before .before .before .p .given .1) (c .before .before .if2 .taken) (c .if3 .taken))
+    let at-function = c .before .before .before .before .before .before .before .before .before .before in
+    let y = sym (at-function .before .before .before .before .starts-with .ensures) ∙ not-false _ (at-function .before .before .before .if1 .left) in
+    outside-by (symbol-alone y (at-function .function .ensures) (c .before .before .before .before .p .given .1) (c .before .before .if2 .taken) (c .if3 .taken))
 
 types-requires : tie.Need-types-requires
 types-requires c κs =
-    let y = sym (c .before .before .before .before .before .before .before .before .before .before .before .before .before .before .starts-with .ensures) ∙ not-false _ (c .before .before .before .before .before .before .before .before .before .before .before .before .before .if1 .left) in
-    let h = symbol-headed y (c .before .before .before .before .before .before .before .before .before .before .function .ensures) (c .before .before .before .before .p .given .1) in
+    let at-function = c .before .before .before .before .before .before .before .before .before .before in
+    let y = sym (at-function .before .before .before .before .starts-with .ensures) ∙ not-false _ (at-function .before .before .before .if1 .left) in
+    let h = symbol-headed y (at-function .function .ensures) (c .before .before .before .before .p .given .1) in
     (h .state, h .holds)
 
 returns-4 : tie.Need-returns-4
 returns-4 c =
-    let y = sym (c .before .before .before .before .before .before .before .before .before .before .before .before .before .before .before .before .before .before .before .before .before .starts-with .ensures) ∙ not-false _ (c .before .before .before .before .before .before .before .before .before .before .before .before .before .before .before .before .before .before .before .before .if1 .left) in
-    let h : c .before .before .before .before .before .before .before .before .before .before .before .p .given .0 .1 .0 ≡ true → c .before .before .before .before .before .before .before .before .before .before .before .p .given .0 .0 .at < length (c .before .before .before .before .before .before .before .before .before .before .before .before .before .before .before .before .before .before .before .before .before .before .before .before .before .before .args .s .now) =
-    λ x. ⊎-elim (λ w. w .2 .left) (λ w. absurd (false≢true (sym (w .left) ∙ x))) (c .before .before .before .before .before .before .before .before .before .if2 .came) in
-    outside-by (symbol-broken y (c .before .before .before .before .before .before .before .before .before .before .before .before .before .before .before .before .before .function .ensures) (c .before .before .before .before .before .before .before .before .before .before .before .p .given .1) h (c .before .before .before .before .before .before .types .ensures) (c .enum-told2 .given .1))
+    let at-types = c .before .before .before .before .before .before in
+    let at-function = before-types at-types in
+    let at-start = before-function at-function in
+    let y = sym (at-function .before .before .before .before .starts-with .ensures) ∙ not-false _ (at-function .before .before .before .if1 .left) in
+    let h : at-types .before .before .before .before .before .p .given .0 .1 .0 ≡ true → at-types .before .before .before .before .before .p .given .0 .0 .at < length (at-start .args .s .now) =
+    λ x. ⊎-elim (λ w. w .2 .left) (λ w. absurd (false≢true (sym (w .left) ∙ x))) (at-types .before .before .before .if2 .came) in
+    outside-by (symbol-broken y (at-function .function .ensures) (at-types .before .before .before .before .before .p .given .1) h (at-types .types .ensures) (c .enum-told2 .given .1))
 
 returns-5 : tie.Need-returns-5
 returns-5 c =
-    let y = sym (c .before .before .before .before .before .before .before .before .before .before .before .before .before .before .before .before .before .before .before .before .before .before .before .before .starts-with .ensures) ∙ not-false _ (c .before .before .before .before .before .before .before .before .before .before .before .before .before .before .before .before .before .before .before .before .before .before .before .if1 .left) in
-    let h : c .before .before .before .before .before .before .before .before .before .before .before .before .before .before .p .given .0 .1 .0 ≡ true → c .before .before .before .before .before .before .before .before .before .before .before .before .before .before .p .given .0 .0 .at < length (c .before .before .before .before .before .before .before .before .before .before .before .before .before .before .before .before .before .before .before .before .before .before .before .before .before .before .before .before .before .args .s .now) =
-    λ x. ⊎-elim (λ w. w .2 .left) (λ w. absurd (false≢true (sym (w .left) ∙ x))) (c .before .before .before .before .before .before .before .before .before .before .before .before .if2 .came) in
-    outside-by (symbol-many y (c .before .before .before .before .before .before .before .before .before .before .before .before .before .before .before .before .before .before .before .before .function .ensures) (c .before .before .before .before .before .before .before .before .before .before .before .before .before .before .p .given .1) h (c .before .before .before .before .before .before .before .before .before .types .ensures) (c .before .before .before .q .given .1) (c .if4 .taken))
+    let at-types = c .before .before .before .before .before .before .before .before .before in
+    let at-function = before-types at-types in
+    let at-start = before-function at-function in
+    let y = sym (at-function .before .before .before .before .starts-with .ensures) ∙ not-false _ (at-function .before .before .before .if1 .left) in
+    let h : at-types .before .before .before .before .before .p .given .0 .1 .0 ≡ true → at-types .before .before .before .before .before .p .given .0 .0 .at < length (at-start .args .s .now) =
+    λ x. ⊎-elim (λ w. w .2 .left) (λ w. absurd (false≢true (sym (w .left) ∙ x))) (at-types .before .before .before .if2 .came) in
+    outside-by (symbol-many y (at-function .function .ensures) (at-types .before .before .before .before .before .p .given .1) h (at-types .types .ensures) (c .before .before .before .q .given .1) (c .if4 .taken))
 
 returns-6 : tie.Need-returns-6
 returns-6 c =
-    let y = sym (c .before .before .before .before .before .before .before .before .before .before .before .before .before .before .before .before .before .before .before .before .before .before .before .before .starts-with .ensures) ∙ not-false _ (c .before .before .before .before .before .before .before .before .before .before .before .before .before .before .before .before .before .before .before .before .before .before .before .if1 .left) in
-    let h : c .before .before .before .before .before .before .before .before .before .before .before .before .before .before .p .given .0 .1 .0 ≡ true → c .before .before .before .before .before .before .before .before .before .before .before .before .before .before .p .given .0 .0 .at < length (c .before .before .before .before .before .before .before .before .before .before .before .before .before .before .before .before .before .before .before .before .before .before .before .before .before .before .before .before .before .args .s .now) =
-    λ x. ⊎-elim (λ w. w .2 .left) (λ w. absurd (false≢true (sym (w .left) ∙ x))) (c .before .before .before .before .before .before .before .before .before .before .before .before .if2 .came) in
-    symbol-writes y (c .before .before .before .before .before .before .before .before .before .before .before .before .before .before .before .before .before .before .before .before .function .ensures) (c .before .before .before .before .before .before .before .before .before .before .before .before .before .before .p .given .1) h (c .before .before .before .before .before .before .before .before .before .types .ensures) (c .before .before .before .q .given .1) (c .if4 .left)
+    let at-types = c .before .before .before .before .before .before .before .before .before in
+    let at-function = before-types at-types in
+    let at-start = before-function at-function in
+    let y = sym (at-function .before .before .before .before .starts-with .ensures) ∙ not-false _ (at-function .before .before .before .if1 .left) in
+    let h : at-types .before .before .before .before .before .p .given .0 .1 .0 ≡ true → at-types .before .before .before .before .before .p .given .0 .0 .at < length (at-start .args .s .now) =
+    λ x. ⊎-elim (λ w. w .2 .left) (λ w. absurd (false≢true (sym (w .left) ∙ x))) (at-types .before .before .before .if2 .came) in
+    symbol-writes y (at-function .function .ensures) (at-types .before .before .before .before .before .p .given .1) h (at-types .types .ensures) (c .before .before .before .q .given .1) (c .if4 .left)
 
 pub write-symbol-spec : {M : Type 1} → statement M
 write-symbol-spec =

@@ -6,13 +6,24 @@ use Rattle.normal_writer.proofs.cycle.named.Reads as named
 use Rattle.normal_writer.proofs.cycle.+args+more+named+nested+parts+referred+ty+with_args+wrap.Lts-named as lts
 use Rattle.normal_writer.proofs.cycle.+args+more+named+nested+parts+referred+ty+with_args+wrap.Proof.Cycle.{named-at, named-calls}
 
+-- Stages: places that later facts cite. Each function goes from one to the one before it.
+module _ (t : ℕ) where
+  abbrev before-first-name : lts.After-first-name (named-calls t) (named-at t) named.Post → lts.Start (named-calls t) (named-at t) named.Post
+  before-first-name c = c .before .before .before .before .before .before
+
 pub returns : (t : ℕ) → lts.Need-returns (named-calls t) (named-at t) named.Post
-returns t c = class-refused by-name (first-named (c .before .before .before .before .before .before .first-name .ensures)) (c .enum-told .given .1)
+returns t c =
+    let at-first-name = c .before .before .before .before .before .before in
+    class-refused by-name (first-named (at-first-name .first-name .ensures)) (c .enum-told .given .1)
 
 pub with-args-requires : (t : ℕ) → lts.Need-with-args-requires (named-calls t) (named-at t) named.Post
 with-args-requires t c κs =
-    let w = first-next by-name (first-named (c .before .before .before .before .before .before .before .before .before .first-name .ensures)) (c .before .before .before .next .given .1) (c .before .before .before .before .before .before .before .before .before .before .before .before .before .before .before .pre .1 .0) (c .before .before .before .before .before .before .before .before .before .before .before .before .before .before .before .pre .1 .1) in
-    (omega (arith, w .limits .0, w .holds .place, c .before .before .before .before .before .before .before .before .before .before .before .before .before .before .before .pre .0), ((w .small, w .limits .1 .stands), (w .state, w .holds)))
+    let at-first-name = c .before .before .before .before .before .before .before .before .before in
+    let at-start = before-first-name t at-first-name in
+    let w = first-next by-name (first-named (at-first-name .first-name .ensures)) (c .before .before .before .next .given .1) (at-start .pre .1 .0) (at-start .pre .1 .1) in
+    (omega (arith, w .limits .0, w .holds .place, at-start .pre .0), ((w .small, w .limits .1 .stands), (w .state, w .holds)))
 
 pub returns-2 : (t : ℕ) → lts.Need-returns-2 (named-calls t) (named-at t) named.Post
-returns-2 t c = class-answer by-name (first-named (c .before .before .before .before .before .before .before .before .before .before .before .before .before .before .first-name .ensures)) (c .before .before .before .before .before .before .before .before .next .given .1) (c .before .before .before .before .with-args .ensures)
+returns-2 t c =
+    let at-first-name = c .before .before .before .before .before .before .before .before .before .before .before .before .before .before in
+    class-answer by-name (first-named (at-first-name .first-name .ensures)) (c .before .before .before .before .before .before .before .before .next .given .1) (c .before .before .before .before .with-args .ensures)

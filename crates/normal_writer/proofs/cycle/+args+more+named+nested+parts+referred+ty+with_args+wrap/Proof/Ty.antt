@@ -11,53 +11,89 @@ use Rattle.normal_writer.proofs.cycle.ty.Reads as ty
 use Rattle.normal_writer.proofs.cycle.+args+more+named+nested+parts+referred+ty+with_args+wrap.Lts-ty as lts
 use Rattle.normal_writer.proofs.cycle.+args+more+named+nested+parts+referred+ty+with_args+wrap.Proof.Cycle.{ty-at, ty-calls}
 
+-- Stages: places that later facts cite. Each function goes from one to the one before it.
+module _ (t : ℕ) where
+  abbrev before-lead-of : lts.After-lead-of (ty-calls t) (ty-at t) ty.Post → lts.Start (ty-calls t) (ty-at t) ty.Post
+  before-lead-of c = c .before .before .before .before .before .before
+
 pub returns : (t : ℕ) → lts.Need-returns (ty-calls t) (ty-at t) ty.Post
 returns t c = type-end (c .if1 .taken)
 
 pub copy-byte-requires : (t : ℕ) → lts.Need-copy-byte-requires (ty-calls t) (ty-at t) ty.Post
-copy-byte-requires t c κs = (c .before .before .before .before .before .if1 .left, ready-out (c .before .before .before .before .before .before .before .before .before .pre .1))
+copy-byte-requires t c κs =
+    let at-lead-of = c .before .before .before in
+    let at-start = before-lead-of t at-lead-of in
+    (at-lead-of .before .before .if1 .left, ready-out (at-start .pre .1))
 
 pub cast-t16 : (t : ℕ) → lts.Need-cast-t16 (ty-calls t) (ty-at t) ty.Post
 cast-t16 t c =
-    let w = lead-is _ Letter (sym (c .before .before .before .before .enum-told .given .1) ∙ c .before .before .before .before .before .before .lead-of .ensures) in
+    let at-lead-of = c .before .before .before .before .before .before in
+    let w = lead-is _ Letter (sym (c .before .before .before .before .enum-told .given .1) ∙ at-lead-of .lead-of .ensures) in
     record { fits = omega (arith, letter-below (w .0), w .1 .1) }
 
 pub wrap-requires : (t : ℕ) → lts.Need-wrap-requires (ty-calls t) (ty-at t) ty.Post
-wrap-requires t c κs = (omega (arith, c .before .before .before .before .before .before .before .before .before .before .pre .0), (c .before .before .before .before .before .before .if1 .left, c .before .before .before .before .before .before .before .before .before .before .pre .1))
+wrap-requires t c κs =
+    let at-lead-of = c .before .before .before .before in
+    let at-start = before-lead-of t at-lead-of in
+    (omega (arith, at-start .pre .0), (at-lead-of .before .before .if1 .left, at-start .pre .1))
 
 pub named-requires : (t : ℕ) → lts.Need-named-requires (ty-calls t) (ty-at t) ty.Post
-named-requires t c κs = (omega (arith, c .before .before .before .before .before .before .before .before .before .before .pre .0), (c .before .before .before .before .before .before .if1 .left, c .before .before .before .before .before .before .before .before .before .before .pre .1))
+named-requires t c κs =
+    let at-lead-of = c .before .before .before .before in
+    let at-start = before-lead-of t at-lead-of in
+    (omega (arith, at-start .pre .0), (at-lead-of .before .before .if1 .left, at-start .pre .1))
 
 pub referred-requires : (t : ℕ) → lts.Need-referred-requires (ty-calls t) (ty-at t) ty.Post
-referred-requires t c κs = (omega (arith, c .before .before .before .before .before .before .before .before .before .before .pre .0), (c .before .before .before .before .before .before .if1 .left, c .before .before .before .before .before .before .before .before .before .before .pre .1))
+referred-requires t c κs =
+    let at-lead-of = c .before .before .before .before in
+    let at-start = before-lead-of t at-lead-of in
+    (omega (arith, at-start .pre .0), (at-lead-of .before .before .if1 .left, at-start .pre .1))
 
 pub nested-requires : (t : ℕ) → lts.Need-nested-requires (ty-calls t) (ty-at t) ty.Post
-nested-requires t c κs = (omega (arith, c .before .before .before .before .before .before .before .before .before .before .pre .0), (c .before .before .before .before .before .before .if1 .left, c .before .before .before .before .before .before .before .before .before .before .pre .1))
+nested-requires t c κs =
+    let at-lead-of = c .before .before .before .before in
+    let at-start = before-lead-of t at-lead-of in
+    (omega (arith, at-start .pre .0), (at-lead-of .before .before .if1 .left, at-start .pre .1))
 
 pub literal-requires : (t : ℕ) → lts.Need-literal-requires (ty-calls t) (ty-at t) ty.Post
-literal-requires t c κs = moved-ready (c .moved .ensures) (c .before .before .before .before .before .before .before .if1 .left) (c .before .before .before .before .before .before .before .before .before .before .before .pre .1)
+literal-requires t c κs =
+    let at-lead-of = c .before .before .before .before .before in
+    let at-start = before-lead-of t at-lead-of in
+    moved-ready (c .moved .ensures) (at-lead-of .before .before .if1 .left) (at-start .pre .1)
 
 pub returns-2 : (t : ℕ) → lts.Need-returns-2 (ty-calls t) (ty-at t) ty.Post
 returns-2 t c =
-    let w = lead-is _ Letter (sym (c .before .before .before .before .enum-told .given .1) ∙ c .before .before .before .before .before .before .lead-of .ensures) in
-    type-by (c .before .before .before .before .before .before .before .before .if1 .left) (w .1 .0) (letter-answer (w .0) _ (omega (arith, letter-below (w .0), w .1 .1)) (c .before .before .copy-byte .ensures))
+    let at-lead-of = c .before .before .before .before .before .before in
+    let w = lead-is _ Letter (sym (c .before .before .before .before .enum-told .given .1) ∙ at-lead-of .lead-of .ensures) in
+    type-by (at-lead-of .before .before .if1 .left) (w .1 .0) (letter-answer (w .0) _ (omega (arith, letter-below (w .0), w .1 .1)) (c .before .before .copy-byte .ensures))
 
 pub returns-3 : (t : ℕ) → lts.Need-returns-3 (ty-calls t) (ty-at t) ty.Post
 returns-3 t c =
-    let w = lead-is _ Wrap (sym (c .before .before .before .before .before .before .before .enum-told2 .given .1) ∙ c .before .before .before .before .before .before .before .before .before .lead-of .ensures) in
-    type-by (c .before .before .before .before .before .before .before .before .before .before .before .if1 .left) (w .1 .0) (c .before .before .before .before .wrap .ensures (w .0))
+    let at-lead-of = c .before .before .before .before .before .before .before .before .before in
+    let w = lead-is _ Wrap (sym (c .before .before .before .before .before .before .before .enum-told2 .given .1) ∙ at-lead-of .lead-of .ensures) in
+    type-by (at-lead-of .before .before .if1 .left) (w .1 .0) (c .before .before .before .before .wrap .ensures (w .0))
 
 pub returns-4 : (t : ℕ) → lts.Need-returns-4 (ty-calls t) (ty-at t) ty.Post
-returns-4 t c = type-by (c .before .before .before .before .before .before .before .before .before .before .before .if1 .left) (lead-is _ Digit (sym (c .before .before .before .before .before .before .before .enum-told3 .given .1) ∙ c .before .before .before .before .before .before .before .before .before .lead-of .ensures)) (c .before .before .before .before .named .ensures _)
+returns-4 t c =
+    let at-lead-of = c .before .before .before .before .before .before .before .before .before in
+    type-by (at-lead-of .before .before .if1 .left) (lead-is _ Digit (sym (c .before .before .before .before .before .before .before .enum-told3 .given .1) ∙ at-lead-of .lead-of .ensures)) (c .before .before .before .before .named .ensures _)
 
 pub returns-5 : (t : ℕ) → lts.Need-returns-5 (ty-calls t) (ty-at t) ty.Post
-returns-5 t c = type-by (c .before .before .before .before .before .before .before .before .before .before .before .if1 .left) (lead-is _ S (sym (c .before .before .before .before .before .before .before .enum-told4 .given .1) ∙ c .before .before .before .before .before .before .before .before .before .lead-of .ensures)) (c .before .before .before .before .referred .ensures _)
+returns-5 t c =
+    let at-lead-of = c .before .before .before .before .before .before .before .before .before in
+    type-by (at-lead-of .before .before .if1 .left) (lead-is _ S (sym (c .before .before .before .before .before .before .before .enum-told4 .given .1) ∙ at-lead-of .lead-of .ensures)) (c .before .before .before .before .referred .ensures _)
 
 pub returns-6 : (t : ℕ) → lts.Need-returns-6 (ty-calls t) (ty-at t) ty.Post
-returns-6 t c = type-by (c .before .before .before .before .before .before .before .before .before .before .before .if1 .left) (lead-is _ N (sym (c .before .before .before .before .before .before .before .enum-told5 .given .1) ∙ c .before .before .before .before .before .before .before .before .before .lead-of .ensures)) (c .before .before .before .before .nested .ensures _)
+returns-6 t c =
+    let at-lead-of = c .before .before .before .before .before .before .before .before .before in
+    type-by (at-lead-of .before .before .if1 .left) (lead-is _ N (sym (c .before .before .before .before .before .before .before .enum-told5 .given .1) ∙ at-lead-of .lead-of .ensures)) (c .before .before .before .before .nested .ensures _)
 
 pub returns-7 : (t : ℕ) → lts.Need-returns-7 (ty-calls t) (ty-at t) ty.Post
-returns-7 t c = type-by (c .before .before .before .before .before .before .before .before .before .before .before .before .if1 .left) (lead-is _ L (sym (c .before .before .before .before .before .before .before .before .enum-told6 .given .1) ∙ c .before .before .before .before .before .before .before .before .before .before .lead-of .ensures)) (literal-answer _ (c .before .before .before .before .before .moved .ensures) (c .before .before .before .before .literal .ensures))
+returns-7 t c =
+    let at-lead-of = c .before .before .before .before .before .before .before .before .before .before in
+    type-by (at-lead-of .before .before .if1 .left)
+    (lead-is _ L (sym (c .before .before .before .before .before .before .before .before .enum-told6 .given .1) ∙ at-lead-of .lead-of .ensures))
+    (literal-answer _ (c .before .before .before .before .before .moved .ensures) (c .before .before .before .before .literal .ensures))
 
 pub returns-8 : (t : ℕ) → lts.Need-returns-8 (ty-calls t) (ty-at t) ty.Post
 returns-8 t c = type-by (c .before .before .before .before .if1 .left) (lead-is _ None (sym (c .enum-told7 .given .1) ∙ c .before .before .lead-of .ensures)) (none-answer _)

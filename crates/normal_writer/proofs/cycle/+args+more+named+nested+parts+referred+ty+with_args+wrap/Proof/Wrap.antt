@@ -7,17 +7,38 @@ use Rattle.normal_writer.proofs.cycle.wrap.Reads as wrap
 use Rattle.normal_writer.proofs.cycle.+args+more+named+nested+parts+referred+ty+with_args+wrap.Lts-wrap as lts
 use Rattle.normal_writer.proofs.cycle.+args+more+named+nested+parts+referred+ty+with_args+wrap.Proof.Cycle.{wrap-at, wrap-calls}
 
+-- Stages: places that later facts cite. Each function goes from one to the one before it.
+module _ (t : ℕ) where
+  abbrev before-copy-byte : lts.After-copy-byte (wrap-calls t) (wrap-at t) wrap.Post → lts.Start (wrap-calls t) (wrap-at t) wrap.Post
+  before-copy-byte c = c .before .before .before .before .before
+
+  abbrev before-ty : lts.After-ty (wrap-calls t) (wrap-at t) wrap.Post → lts.After-copy-byte (wrap-calls t) (wrap-at t) wrap.Post
+  before-ty c = c .before .before .before .before .before
+
 pub copy-byte-requires : (t : ℕ) → lts.Need-copy-byte-requires (wrap-calls t) (wrap-at t) wrap.Post
 copy-byte-requires t c κs = (c .before .before .before .before .pre .1 .0, ready-out (c .before .before .before .before .pre .1 .1))
 
 pub ty-requires : (t : ℕ) → lts.Need-ty-requires (wrap-calls t) (wrap-at t) wrap.Post
-ty-requires t c κs = (omega (arith, c .before .before .before .before .before .before .before .before .before .pre .0, c .before .before .before .before .before .before .before .before .before .pre .1 .0, c .before .before .before .before .copy-byte .ensures .0), copied-ready (c .before .before .before .before .copy-byte .ensures) (c .before .before .before .before .before .before .before .before .before .pre .1 .0) (c .before .before .before .before .before .before .before .before .before .pre .1 .1))
+ty-requires t c κs =
+    let at-copy-byte = c .before .before .before .before in
+    let at-start = before-copy-byte t at-copy-byte in
+    (omega (arith, at-start .pre .0, at-start .pre .1 .0, c .before .before .before .before .copy-byte .ensures .0), copied-ready (c .before .before .before .before .copy-byte .ensures) (at-start .pre .1 .0) (at-start .pre .1 .1))
 
 pub returns : (t : ℕ) → lts.Need-returns (wrap-calls t) (wrap-at t) wrap.Post
-returns t c = λ q. wrap-refused (c .before .before .before .before .before .before .before .before .before .before .before .copy-byte .ensures) (c .before .before .before .before .before .before .ty .ensures) q _ (c .enum-told .given .1)
+returns t c =
+    let at-ty = c .before .before .before .before .before .before in
+    let at-copy-byte = before-ty t at-ty in
+    λ q. wrap-refused (at-copy-byte .copy-byte .ensures) (at-ty .ty .ensures) q _ (c .enum-told .given .1)
 
 pub wrap-requires : (t : ℕ) → lts.Need-wrap-requires (wrap-calls t) (wrap-at t) wrap.Post
-wrap-requires t c κs = wrap-next (c .before .before .before .before .before .before .before .before .before .before .before .before .before .before .copy-byte .ensures) (c .before .before .before .before .before .before .before .before .before .ty .ensures) (c .before .before .before .next .given .1) (c .before .before .before .before .before .before .before .before .before .before .before .before .before .before .before .before .before .before .before .pre .1 .0) (c .before .before .before .before .before .before .before .before .before .before .before .before .before .before .before .before .before .before .before .pre .1 .1)
+wrap-requires t c κs =
+    let at-ty = c .before .before .before .before .before .before .before .before .before in
+    let at-copy-byte = before-ty t at-ty in
+    let at-start = before-copy-byte t at-copy-byte in
+    wrap-next (at-copy-byte .copy-byte .ensures) (at-ty .ty .ensures) (c .before .before .before .next .given .1) (at-start .pre .1 .0) (at-start .pre .1 .1)
 
 pub returns-2 : (t : ℕ) → lts.Need-returns-2 (wrap-calls t) (wrap-at t) wrap.Post
-returns-2 t c = λ q. wrap-answer (c .before .before .before .before .before .before .before .before .before .before .before .before .before .before .before .before .before .before .before .copy-byte .ensures) (c .before .before .before .before .before .before .before .before .before .before .before .before .before .before .ty .ensures) (c .before .before .before .before .before .before .before .before .next .given .1) q _ (c .before .before .before .before .wrap .ensures)
+returns-2 t c =
+    let at-ty = c .before .before .before .before .before .before .before .before .before .before .before .before .before .before in
+    let at-copy-byte = before-ty t at-ty in
+    λ q. wrap-answer (at-copy-byte .copy-byte .ensures) (at-ty .ty .ensures) (c .before .before .before .before .before .before .before .before .next .given .1) q _ (c .before .before .before .before .wrap .ensures)
