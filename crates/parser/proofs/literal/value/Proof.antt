@@ -14,14 +14,16 @@ returns c =
 returns-2 : tie.Need-returns-2
 unfolding b
 returns-2 c =
-    let a = c .before .before .before .before .before .before .before .before .before .before .before .before .before .before .args in
-    adds-by (signed-minus (a .s .now) (a .from) (a .to) (c .before .before .before .before .before .before .before .before .before .before .before .if1 .left) (c .before .before .before .before .before .before .before .before .before .before .before .before .before .before .pre .1 .1 .0) (c .before .before .before .before .before .before .before .before .before .if2 .taken))
-    (adds-more (adds-one (c .before .before .before .before .before .before .before .before .before .before .before .before .before .before .pre .0) (c .before .before .before .before .before .before .put .ensures)) (c .before .before .put-part .ensures))
+    let at-start = c .before .before .before .before .before .before .before .before .before .before .before .before .before .before in
+    let a = at-start .args in
+    adds-by (signed-minus (a .s .now) (a .from) (a .to) (c .before .before .before .before .before .before .before .before .before .before .before .if1 .left) (at-start .pre .1 .1 .0) (c .before .before .before .before .before .before .before .before .before .if2 .taken))
+    (adds-more (adds-one (at-start .pre .0) (c .before .before .before .before .before .before .put .ensures)) (c .before .before .put-part .ensures))
 
 returns-3 : tie.Need-returns-3
 returns-3 c =
-    let a = c .before .before .before .before .before .before .before .before .before .args in
-    adds-by (signed-plain (a .s .now) (a .from) (a .to) (c .before .before .before .before .before .before .if1 .left) (c .before .before .before .before .before .before .before .before .before .pre .1 .1 .0) (c .before .before .before .before .if2 .left)) (adds-one (c .before .before .before .before .before .before .before .before .before .pre .0) (c .before .before .put-part2 .ensures))
+    let at-start = c .before .before .before .before .before .before .before .before .before in
+    let a = at-start .args in
+    adds-by (signed-plain (a .s .now) (a .from) (a .to) (c .before .before .before .before .before .before .if1 .left) (at-start .pre .1 .1 .0) (c .before .before .before .before .if2 .left)) (adds-one (at-start .pre .0) (c .before .before .put-part2 .ensures))
 
 pub value-spec : {M : Type 1} → statement M
 value-spec =

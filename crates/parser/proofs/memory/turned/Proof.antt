@@ -26,12 +26,26 @@ again-room {text₁ = text₁} {p₁ = p₁} {c = c} {m = m} h i j l u v =
 again-requires : tie.Need-again-requires
 again-requires c κs =
     let at-start = c .before .before .before .before .before .before .before in
-    let a = at-start in
-    (c .before .before .before .put .ensures .put .stack, (omega arith, (omega (arith, puts-top (a .args .c + a .args .m) (a .pre .0) (c .before .before .before .put .ensures) (a .pre .1 .1 .1) (omega (arith, a .pre .1 .0, a .pre .1 .1 .0))), (omega (arith, a .pre .1 .0, a .pre .1 .1 .0), a .pre .1 .0))))
+    let at-start = at-start in
+    let a = at-start in (
+      c .before .before .before .put .ensures .put .stack,
+      (
+        omega arith,
+        (
+          omega (
+            arith,
+            puts-top (a .args .c + a .args .m) (a .pre .0) (c .before .before .before .put .ensures) (a .pre .1 .1 .1)
+                (omega (arith, a .pre .1 .0, a .pre .1 .1 .0)),
+          ),
+          (omega (arith, a .pre .1 .0, a .pre .1 .1 .0), a .pre .1 .0),
+        ),
+      ),
+    )
 
 cut-requires : tie.Need-cut-requires
 cut-requires c κs =
     let at-start = c .before .before .before .before .before .before .before .before .before .before .before in
+    let at-start = at-start in
     let a = at-start in
     let u = c .before .before .before .before .before .before .before .put .ensures in
     (c .before .before .before .again .ensures .put .stack, omega (arith, again-room (a .pre .0) (a .pre .1 .0) (a .pre .1 .1 .0) (a .pre .1 .1 .1) u (c .before .before .before .again .ensures)))
@@ -40,6 +54,7 @@ returns : tie.Need-returns
 unfolding b
 returns c =
     let at-start = c .before .before .before .before .before .before .before .before .before .before .before .before .before .before in
+    let at-start = at-start in
     let a = at-start in
     let u = c .before .before .before .before .before .before .before .before .before .before .put .ensures in
     let v = c .before .before .before .before .before .before .again .ensures in

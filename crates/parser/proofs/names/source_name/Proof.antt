@@ -18,6 +18,13 @@ Inv-loop s text₀ next₀ n₀ tags₀ t12 text next n tags = Tagging s text₀
 abbrev μ-loop : tie.MeasureT-loop
 μ-loop s text₀ next₀ n₀ tags₀ t12 text next n tags = length s - next .at
 
+-- Stages: places that later facts cite. Each function goes from one to the one before it.
+abbrev before-from : tie.After-from Inv-loop μ-loop → tie.Start Inv-loop μ-loop
+before-from c = c .before .before .before .before .before .before
+
+abbrev before-sum : tie.After-sum Inv-loop μ-loop → tie.After-from Inv-loop μ-loop
+before-sum c = c .before .before .before .before .before .before .before
+
 loop-holds : tie.Need-loop-holds Inv-loop μ-loop
 loop-holds c = tagging-start (c .before .before .pre .0) (c .before .before .pre .1 .1)
 
@@ -25,7 +32,9 @@ identifier-requires : tie.Need-identifier-requires Inv-loop μ-loop
 identifier-requires c κs = (c .loop .inv .place, c .before .before .before .pre .1 .0)
 
 same-length : tie.Need-same-length Inv-loop μ-loop
-same-length c = omega (arith, c .before .before .before .loop .inv .adds .stack .size, c .before .before .before .before .before .before .pre .1 .1 .size)
+same-length c =
+    let at-start = c .before .before .before .before .before .before in
+    omega (arith, c .before .before .before .loop .inv .adds .stack .size, at-start .pre .1 .1 .size)
 
 returns : tie.Need-returns Inv-loop μ-loop
 returns c = λ store ends. tagging-refuses (c .before .before .before .loop .inv) (sym (c .before .before .identifier .ensures) ∙ c .enum-told .given .1)
@@ -35,65 +44,95 @@ sub-size c = let l = located (c .before .before .before .before .loop .inv) (sym
 
 put-part-requires : tie.Need-put-part-requires Inv-loop μ-loop
 put-part-requires c κs =
-    let l = located (c .before .before .before .before .before .before .loop .inv) (sym (c .before .before .before .before .before .identifier .ensures) ∙ c .before .before .before .from .given .1) in
-    (stack-by (c .moved .ensures) (c .before .before .before .before .before .before .loop .inv .adds .stack), (omega (arith, l .some), (l .inside, omega (arith, l .inside, c .before .before .before .before .before .before .before .before .before .pre .1 .0))))
+    let at-from = c .before .before .before in
+    let at-start = before-from at-from in
+    let l = located (at-from .before .before .before .loop .inv) (sym (at-from .before .before .identifier .ensures) ∙ c .before .before .before .from .given .1) in
+    (stack-by (c .moved .ensures) (at-from .before .before .before .loop .inv .adds .stack), (omega (arith, l .some), (l .inside, omega (arith, l .inside, at-start .pre .1 .0))))
 
 sum-requires : tie.Need-sum-requires Inv-loop μ-loop
 sum-requires c κs =
-    let l = located (c .before .before .before .before .before .before .before .before .before .loop .inv) (sym (c .before .before .before .before .before .before .before .before .identifier .ensures) ∙ c .before .before .before .before .before .before .from .given .1) in
-    (omega (arith, c .before .before .before .before .before .before .before .before .before .loop .inv .size), omega (arith, l .inside, c .before .before .before .before .before .before .before .before .before .before .before .before .pre .1 .0))
+    let at-from = c .before .before .before .before .before .before in
+    let at-start = before-from at-from in
+    let l = located (at-from .before .before .before .loop .inv) (sym (at-from .before .before .identifier .ensures) ∙ at-from .from .given .1) in
+    (omega (arith, at-from .before .before .before .loop .inv .size), omega (arith, l .inside, at-start .pre .1 .0))
 
 close-tags-requires : tie.Need-close-tags-requires Inv-loop μ-loop
-close-tags-requires c κs = c .before .before .before .before .before .before .put-part .ensures .put .stack
+close-tags-requires c κs =
+    let at-sum = c .before .before .before in
+    at-sum .before .before .before .put-part .ensures .put .stack
 
 sum-requires-2 : tie.Need-sum-requires-2 Inv-loop μ-loop
 sum-requires-2 c κs =
-    let g = c .before .before .before .before .before .before .before .before .before .before .before .before .before .before .before .before .loop .inv in
-    (omega (arith, c .before .before .before .before .before .before .sum .ensures), omega (arith, g .more, g .place, c .before .before .before .before .before .before .before .before .before .before .before .before .before .before .before .before .before .before .before .pre .1 .0))
+    let at-sum = c .before .before .before .before .before .before in
+    let at-from = before-sum at-sum in
+    let at-start = before-from at-from in
+    let g = at-from .before .before .before .loop .inv in
+    (omega (arith, at-sum .sum .ensures), omega (arith, g .more, g .place, at-start .pre .1 .0))
 
 same-length-2 : tie.Need-same-length-2 Inv-loop μ-loop
-same-length-2 c = omega (arith, c .before .before .before .before .close-tags .ensures .stack .size, c .before .before .before .before .before .before .before .before .before .before .before .before .before .before .before .before .before .before .before .before .before .pre .1 .1 .size)
+same-length-2 c =
+    let at-sum = c .before .before .before .before .before .before .before .before in
+    let at-from = before-sum at-sum in
+    let at-start = before-from at-from in
+    omega (arith, c .before .before .before .before .close-tags .ensures .stack .size, at-start .pre .1 .1 .size)
 
 returns-2 : tie.Need-returns-2 Inv-loop μ-loop
-returns-2 c = λ store ends.
-    tagging-ends (c .before .before .before .before .before .before .before .before .before .before .before .before .before .before .before .before .before .before .loop .inv) (sym (c .before .before .before .before .before .before .before .before .before .before .before .before .before .before .before .before .before .identifier .ensures) ∙ c .before .before .before .before .before .before .before .before .before .before .before .before .before .before .before .from .given .1)
+returns-2 c =
+    let at-sum = c .before .before .before .before .before .before .before .before in
+    let at-from = before-sum at-sum in
+    λ store ends.
+    tagging-ends (at-from .before .before .before .loop .inv) (sym (at-from .before .before .identifier .ensures) ∙ at-from .from .given .1)
     (sym (c .before .before .before .before .before .before .before .here .ensures) ∙ not-true _ (c .before .before .before .before .before .before .if1 .taken))
-    (c .before .before .before .before .before .before .before .before .before .before .before .before .moved .ensures)
-    (c .before .before .before .before .before .before .before .before .before .before .before .put-part .ensures)
-    (c .before .before .before .before .before .before .before .before .sum .ensures)
+    (at-sum .before .before .before .before .moved .ensures)
+    (at-sum .before .before .before .put-part .ensures)
+    (at-sum .sum .ensures)
     (c .before .before .before .before .close-tags .ensures)
     (c .before .sum2 .ensures)
     (c .given .ensures)
 
 add-moved : tie.Need-add-moved Inv-loop μ-loop
 add-moved c =
-    let l = located (c .before .before .before .before .before .before .before .before .before .before .before .before .before .loop .inv) (sym (c .before .before .before .before .before .before .before .before .before .before .before .before .identifier .ensures) ∙ c .before .before .before .before .before .before .before .before .before .before .from .given .1) in
-    omega (arith, l .inside, c .before .before .before .before .before .before .before .before .before .before .before .before .before .before .before .before .pre .1 .0)
+    let at-sum = c .before .before .before in
+    let at-from = before-sum at-sum in
+    let at-start = before-from at-from in
+    let l = located (at-from .before .before .before .loop .inv) (sym (at-from .before .before .identifier .ensures) ∙ at-from .from .given .1) in
+    omega (arith, l .inside, at-start .pre .1 .0)
 
 put-requires : tie.Need-put-requires Inv-loop μ-loop
-put-requires c κs = (stack-by (c .before .moved2 .ensures) (c .before .before .before .before .before .before .before .before .put-part .ensures .put .stack), omega arith)
+put-requires c κs =
+    let at-sum = c .before .before .before .before .before in
+    (stack-by (c .before .moved2 .ensures) (at-sum .before .before .before .put-part .ensures .put .stack), omega arith)
 
 sum-requires-3 : tie.Need-sum-requires-3 Inv-loop μ-loop
-sum-requires-3 c κs = (omega (arith, c .before .before .before .before .before .before .before .before .sum .ensures), omega arith)
+sum-requires-3 c κs =
+    let at-sum = c .before .before .before .before .before .before .before .before in
+    (omega (arith, at-sum .sum .ensures), omega arith)
 
 add-tags : tie.Need-add-tags Inv-loop μ-loop
 add-tags c =
-    let g = c .before .before .before .before .before .before .before .before .before .before .before .before .before .before .before .before .before .before .before .loop .inv in
-    omega (arith, g .more, g .place, c .before .before .before .before .before .before .before .before .before .before .before .before .before .before .before .before .before .before .before .before .before .before .pre .1 .0)
+    let at-sum = c .before .before .before .before .before .before .before .before .before in
+    let at-from = before-sum at-sum in
+    let at-start = before-from at-from in
+    let g = at-from .before .before .before .loop .inv in
+    omega (arith, g .more, g .place, at-start .pre .1 .0)
 
 loop-less : tie.Need-loop-less Inv-loop μ-loop
 loop-less c =
-    let l = located (c .before .before .before .before .before .before .before .before .before .before .before .before .before .before .before .before .before .before .before .loop .inv) (sym (c .before .before .before .before .before .before .before .before .before .before .before .before .before .before .before .before .before .before .identifier .ensures) ∙ c .before .before .before .before .before .before .before .before .before .before .before .before .before .before .before .before .from .given .1) in
+    let at-sum = c .before .before .before .before .before .before .before .before .before in
+    let at-from = before-sum at-sum in
+    let l = located (at-from .before .before .before .loop .inv) (sym (at-from .before .before .identifier .ensures) ∙ at-from .from .given .1) in
     omega (arith, l .behind, l .some, l .inside, puts-at (c .before .before .before .before .before .moved2 .ensures) (c .before .before .before .put .ensures))
 
 loop-again : tie.Need-loop-again Inv-loop μ-loop
 loop-again c =
+    let at-sum = c .before .before .before .before .before .before .before .before .before in
+    let at-from = before-sum at-sum in
     let t = sym (c .before .before .before .before .before .before .before .before .here .ensures) ∙ not-false _ (c .before .before .before .before .before .before .before .if1 .left) in
-    tagging-more (c .before .before .before .before .before .before .before .before .before .before .before .before .before .before .before .before .before .before .before .loop .inv) (sym (c .before .before .before .before .before .before .before .before .before .before .before .before .before .before .before .before .before .before .identifier .ensures) ∙ c .before .before .before .before .before .before .before .before .before .before .before .before .before .before .before .before .from .given .1) t
+    tagging-more (at-from .before .before .before .loop .inv) (sym (at-from .before .before .identifier .ensures) ∙ at-from .from .given .1) t
     (starts-inside _ _ _ t)
-    (c .before .before .before .before .before .before .before .before .before .before .before .before .before .moved .ensures)
-    (c .before .before .before .before .before .before .before .before .before .before .before .before .put-part .ensures)
-    (c .before .before .before .before .before .before .before .before .before .sum .ensures)
+    (at-sum .before .before .before .before .moved .ensures)
+    (at-sum .before .before .before .put-part .ensures)
+    (at-sum .sum .ensures)
     (c .before .before .before .before .before .moved2 .ensures)
     (c .before .before .before .put .ensures)
     (c .sum3 .ensures)

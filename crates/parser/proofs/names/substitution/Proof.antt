@@ -11,32 +11,50 @@ use borrow.Author.Needs.{needs}
 use Rattle.parser.proofs.names.substitution.Statement.{statement}
 use Rattle.parser.proofs.names.substitution.Tie as tie
 
+-- Stages: places that later facts cite. Each function goes from one to the one before it.
+abbrev before-abbreviation : tie.After-abbreviation → tie.Start
+before-abbreviation c = c .before .before .before .before .before .before .before .before .before
+
 returns : tie.Need-returns
-returns c = λ σ h. by (sub-none (c .before .before .before .before .before .before .args .s .now) (c .before .before .before .before .before .before .args .p .at) σ (h .rest) (sym (c .before .here .ensures) ∙ not-true _ (c .if1 .taken))) refuses
+returns c =
+    let at-start = c .before .before .before .before .before .before in
+    λ σ h. by (sub-none (at-start .args .s .now) (at-start .args .p .at) σ (h .rest) (sym (c .before .here .ensures) ∙ not-true _ (c .if1 .taken))) refuses
 
 returns-2 : tie.Need-returns-2
 returns-2 c = λ σ h. by (sub-end _ _ σ (h .rest) (sym (c .before .before .here .ensures) ∙ not-false _ (c .before .if1 .left)) (c .if2 .taken)) refuses
 
 old-entry-requires : tie.Need-old-entry-requires
-old-entry-requires c κs = ready-moved _ (c .moved .ensures) (c .before .before .before .before .before .before .before .before .before .before .before .before .before .pre .1) (omega (arith, c .before .before .before .before .before .before .if2 .left))
+old-entry-requires c κs =
+    let at-abbreviation = c .before .before .before .before in
+    let at-start = before-abbreviation at-abbreviation in
+    ready-moved _ (c .moved .ensures) (at-start .pre .1) (omega (arith, at-abbreviation .before .before .if2 .left))
 
 returns-3 : tie.Need-returns-3
 unfolding word-of
-returns-3 c = λ σ h.
+returns-3 c =
+    let at-abbreviation = c .before .before .before .before .before .before .before in
+    λ σ h.
     by
-    (sub-entry _ _ σ (h .rest) (sym (c .before .before .before .before .before .before .before .before .before .before .before .here .ensures) ∙ not-false _ (c .before .before .before .before .before .before .before .before .before .before .if1 .left)) (c .before .before .before .before .before .before .before .before .before .if2 .left) (ap word-of (sym (c .before .before .before .before .before .enum-told .given .1)) ∙ c .before .before .before .before .before .before .before .abbreviation .ensures .is))
-    (reads-moved (c .before .before .before .moved .ensures) (c .before .before .old-entry .ensures) h (omega (arith, c .before .before .before .before .before .before .before .before .before .if2 .left)) (omega arith))
+    (sub-entry _ _ σ (h .rest) (sym (at-abbreviation .before .before .before .before .here .ensures) ∙ not-false _ (at-abbreviation .before .before .before .if1 .left))
+    (at-abbreviation .before .before .if2 .left) (ap word-of (sym (c .before .before .before .before .before .enum-told .given .1)) ∙ at-abbreviation .abbreviation .ensures .is))
+    (reads-moved (c .before .before .before .moved .ensures) (c .before .before .old-entry .ensures) h (omega (arith, at-abbreviation .before .before .if2 .left)) (omega arith))
 
 word-requires : tie.Need-word-requires
 word-requires c κs =
-    (stack-by (c .moved2 .ensures) (c .before .before .before .before .before .before .before .before .before .before .before .before .before .before .pre .1 .text), subst Picked-inside (c .before .before .before .picked .given .1) (c .before .before .before .before .before .abbreviation .ensures .inside))
+    let at-abbreviation = c .before .before .before .before .before in
+    let at-start = before-abbreviation at-abbreviation in
+    (stack-by (c .moved2 .ensures) (at-start .pre .1 .text), subst Picked-inside (c .before .before .before .picked .given .1) (at-abbreviation .abbreviation .ensures .inside))
 
 returns-4 : tie.Need-returns-4
 unfolding word-of
-returns-4 c = λ σ h.
+returns-4 c =
+    let at-abbreviation = c .before .before .before .before .before .before .before .before in
+    λ σ h.
     by
-    (sub-word _ _ σ (h .rest) (sym (c .before .before .before .before .before .before .before .before .before .before .before .before .here .ensures) ∙ not-false _ (c .before .before .before .before .before .before .before .before .before .before .before .if1 .left)) (c .before .before .before .before .before .before .before .before .before .before .if2 .left) _ (ap word-of (sym (c .before .before .before .before .before .before .picked .given .1)) ∙ c .before .before .before .before .before .before .before .before .abbreviation .ensures .is))
-    (reads-moved (c .before .before .before .moved2 .ensures) (c .before .before .word .ensures _ _ _) h (omega (arith, c .before .before .before .before .before .before .before .before .before .before .if2 .left)) (omega arith))
+    (sub-word _ _ σ (h .rest) (sym (at-abbreviation .before .before .before .before .here .ensures) ∙ not-false _ (at-abbreviation .before .before .before .if1 .left))
+    (at-abbreviation .before .before .if2 .left) _
+    (ap word-of (sym (c .before .before .before .before .before .before .picked .given .1)) ∙ at-abbreviation .abbreviation .ensures .is))
+    (reads-moved (c .before .before .before .moved2 .ensures) (c .before .before .word .ensures _ _ _) h (omega (arith, at-abbreviation .before .before .if2 .left)) (omega arith))
 
 pub substitution-spec : {M : Type 1} → statement M
 substitution-spec =

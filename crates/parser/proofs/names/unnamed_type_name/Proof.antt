@@ -23,32 +23,42 @@ returns-2 : tie.Need-returns-2
 returns-2 c = λ store ends σ h. by (unnamed-open _ _ σ (h .rest) (c .before .before .before .before .if1 .left) (c .before .before .if2 .taken) (omega (arith, c .before .before2 .ensures .0, c .if3 .taken))) refuses
 
 put-requires : tie.Need-put-requires
-put-requires c κs = (stack-by (c .before .moved .ensures) (c .before .before .before .before .before .before .before .before .before .before .before .pre), omega arith)
+put-requires c κs =
+    let at-start = c .before .before .before .before .before .before .before .before .before .before .before in
+    (stack-by (c .before .moved .ensures) (at-start .pre), omega arith)
 
 returns-3 : tie.Need-returns-3
-returns-3 c = λ store ends σ h.
-    let s = c .before .before .before .before .before .before .before .before .before .before .before .before .before .before .args .s .now in
+returns-3 c =
+    let at-start = c .before .before .before .before .before .before .before .before .before .before .before .before .before .before in
+    λ store ends σ h.
+    let s = at-start .args .s .now in
     let x = c .before .before .before .before .before .before .numbered in
     let y = c .before .before .before .before .before .before .before .before .before2 in
     let e = x .ensures .0 ∙ ap (λ (i : ℕ). behind-number s (i + 1)) (y .ensures .0) in
     by
-    (unnamed-lambda _ _ σ (h .rest) (c .before .before .before .before .before .before .before .before .before .before .before .if1 .left) (c .before .before .before .before .before .before .before .before .before .if2 .taken) (omega (arith, y .ensures .0, c .before .before .before .before .before .before .before .if3 .left))
+    (unnamed-lambda _ _ σ (h .rest) (c .before .before .before .before .before .before .before .before .before .before .before .if1 .left)
+    (c .before .before .before .before .before .before .before .before .before .if2 .taken)
+    (omega (arith, y .ensures .0, c .before .before .before .before .before .before .before .if3 .left))
     ∙ ap (λ (i : ℕ). give lambda (moved (drop i s) σ)) (sym e))
     (wrote-one (holds-moved h (x .result) (x .ensures .1)) (puts-from (c .before .before .before .before .moved .ensures) (c .before .before .put .ensures)) refl (omega arith)
     (omega (arith, x .ensures .0, number-more s (y .result + 1), y .ensures .0)))
 
 put-requires-2 : tie.Need-put-requires-2
-put-requires-2 c κs = (stack-by (c .before .moved2 .ensures) (c .before .before .before .before .before .before .before .before .before .pre), omega arith)
+put-requires-2 c κs =
+    let at-start = c .before .before .before .before .before .before .before .before .before in
+    (stack-by (c .before .moved2 .ensures) (at-start .pre), omega arith)
 
 returns-4 : tie.Need-returns-4
-returns-4 c = λ store ends σ h.
-    let s = c .before .before .before .before .before .before .before .before .before .before .before .before .args .s .now in
+returns-4 c =
+    let at-start = c .before .before .before .before .before .before .before .before .before .before .before .before in
+    λ store ends σ h.
+    let s = at-start .args .s .now in
     let x = c .before .before .before .before .before .before .numbered2 in
     by
     (unnamed-other _ _ σ (h .rest) (c .before .before .before .before .before .before .before .before .before .if1 .left) (c .before .before .before .before .before .before .before .if2 .left)
     ∙ ap (λ (i : ℕ). give no-name (moved (drop i s) σ)) (sym (x .ensures .0)))
     (wrote-one (holds-moved h (x .result) (x .ensures .1)) (puts-from (c .before .before .before .before .moved2 .ensures) (c .before .before .put2 .ensures)) refl (omega arith)
-    (omega (arith, x .ensures .0, number-more s (c .before .before .before .before .before .before .before .before .before .before .before .before .args .p .at + 1))))
+    (omega (arith, x .ensures .0, number-more s (at-start .args .p .at + 1))))
 
 pub unnamed-type-name-spec : {M : Type 1} → statement M
 unnamed-type-name-spec =

@@ -40,6 +40,10 @@ words-of x u e =
     (sym (ap (λ (o : Option (Wrapper × Text)). choose o (λ r. some (b (r .0 .0), b (r .0 .1))) none) (e []))
     ∙ by-pair (x ∷ []) [] (λ t v w. some (t, v)) none wrappers tt)
 
+-- Stages: places that later facts cite. Each function goes from one to the one before it.
+abbrev before-wrapper : tie.After-wrapper → tie.Start
+before-wrapper c = c .before .before .before .before .before .before .before
+
 returns : tie.Need-returns
 returns c k d s base from t σ u e h = absurd (some-not (sym (words-of _ u e .0) ∙ picked-none (c .before .before .wrapper .ensures) (c .enum-told .given .1)))
 
@@ -47,41 +51,66 @@ sub-more : tie.Need-sub-more
 sub-more c = picked-at (c .before .before .before .before .wrapper .ensures) (c .before .before .picked .given .1) .1 .0
 
 add-size : tie.Need-add-size
-add-size c = omega (arith, picked-at (c .before .before .before .before .wrapper .ensures) (c .before .before .picked .given .1) .1 .1, c .before .before .before .before .before .before .before .before .before .before .before .pre .1 .1)
+add-size c =
+    let at-wrapper = c .before .before .before .before in
+    let at-start = before-wrapper at-wrapper in
+    omega (arith, picked-at (c .before .before .before .before .wrapper .ensures) (c .before .before .picked .given .1) .1 .1, at-start .pre .1 .1)
 
 put-word-requires : tie.Need-put-word-requires
-put-word-requires c κs = (c .before .before .before .before .before .before .before .before .before .before .before .before .pre .0 .1 .1 .text, picked-at (c .before .before .before .before .before .wrapper .ensures) (c .before .before .before .picked .given .1) .1)
+put-word-requires c κs =
+    let at-wrapper = c .before .before .before .before .before in
+    let at-start = before-wrapper at-wrapper in
+    (at-start .pre .0 .1 .1 .text, picked-at (at-wrapper .wrapper .ensures) (c .before .before .before .picked .given .1) .1)
 
 recorded-requires : tie.Need-recorded-requires
 recorded-requires c κs =
-    let a = c .before .before .before .before .before .before .before .before .before .before .before .before .before .before .before .before .before .before in
+    let at-wrapper = c .before .before .before .before .before .before .before .before .before .before .before in
+    let at-start = before-wrapper at-wrapper in
+    let a = at-start in
     let h = a .pre .0 .1 .1 in
-    let x = picked-at (c .before .before .before .before .before .before .before .before .before .before .before .wrapper .ensures) (c .before .before .before .before .before .before .before .before .before .picked .given .1) in (
+    let x = picked-at (at-wrapper .wrapper .ensures) (c .before .before .before .before .before .before .before .before .before .picked .given .1) in (
       (a .pre .0 .0, (a .pre .0 .1 .0, holds-puts (c .before .before .before .before .before .put-word .ensures) h)),
       omega (arith, puts-top (a .args .n) (h .text) (c .before .before .before .before .before .put-word .ensures) (a .pre .1 .0) (omega (arith, a .pre .1 .1)), length-spelled _ (x .1)),
     )
 
 returns-2 : tie.Need-returns-2
 returns-2 c k d s base from t σ u e h =
-    let a = c .before .before .before .before .before .before .before .before .before .before .before .before .before .before .before .before .before .before .before .before .before .before .before in
+    let at-wrapper = c .before .before .before .before .before .before .before .before .before .before .before .before .before .before .before .before in
+    let at-start = before-wrapper at-wrapper in
+    let a = at-start in
     let l : length t ≡ a .args .n = omega (arith, h .size, a .pre .1 .1) in
-    let x = picked-at (c .before .before .before .before .before .before .before .before .before .before .before .before .before .before .before .before .wrapper .ensures) (c .before .before .before .before .before .before .before .before .before .before .before .before .before .before .picked .given .1) in
+    let x = picked-at (at-wrapper .wrapper .ensures) (c .before .before .before .before .before .before .before .before .before .before .before .before .before .before .picked .given .1) in
     let f = some-is (sym (words-of _ u e .0) ∙ x .0) in
     let g = newest-part h (omega (arith, l, a .pre .1 .1)) .1 in
     let z = length-spelled _ (x .1) in
-    by (ap (λ (y : Text). recorded y σ) (behind t (at-slots (b (u .1)) t) (t ++ b (u .0)) (ap slots-in (sym g) ∙ sym (c .before .before .before .before .before .before .before .before .before .before .before .before .before .before .before .before .before .before .slots .ensures .0) ∙ c .before .before .before .before .before .before .before .before .before .before .before .before .before .before .before .before .before .if1 .taken) ∙ ap (λ (y : Text). t ++ y) f))
-    (c .before .before .before .before .recorded .ensures k d s base from _ σ (stands-puts h (c .before .before .before .before .before .before .before .before .before .before .put-word .ensures) (omega (arith, length-append t (spelled (c .before .before .before .before .before .before .before .before .before .before .before .before .before .before .picked .given .0 .0)), z, l, x .1 .1, a .pre .1 .1))))
+    by (ap (λ (y : Text). recorded y σ) (behind t (at-slots (b (u .1)) t) (t ++ b (u .0)) (ap slots-in (sym g) ∙ sym (at-wrapper .before .before .slots .ensures .0) ∙ at-wrapper .before .if1 .taken) ∙ ap (λ (y : Text). t ++ y) f))
+    (c .before .before .before .before .recorded .ensures k d s base from _ σ
+    (stands-puts h (c .before .before .before .before .before .before .before .before .before .before .put-word .ensures)
+    (omega (
+      arith,
+      length-append t
+          (spelled (c .before .before .before .before .before .before .before .before .before .before .before .before .before .before .picked .given .0 .0)),
+      z,
+      l,
+      x .1 .1,
+      a .pre .1 .1,
+    ))))
 
 wrap-slots-requires : tie.Need-wrap-slots-requires
 wrap-slots-requires c κs =
-    let a = c .before .before .before .before .before .before .before .before .before in
+    let at-start = c .before .before .before .before .before .before .before .before .before in
+    let a = at-start in
     (a .pre .0, (a .pre .1 .0, (a .pre .1 .1, (omega (arith, c .before .before .before .before .slots .ensures .1), c .before .before .before .before .slots .ensures .0 ∙ ap slots-in (sym (drop-take (a .args .p .top - a .args .n) (a .args .p .top) (a .args .text .now)))))))
 
 returns-3 : tie.Need-returns-3
 returns-3 c k d s base from t σ u e h =
-    let a = c .before .before .before .before .before .before .before .before .before .before .before .before .before .before .before .before in
+    let at-start = c .before .before .before .before .before .before .before .before .before .before .before .before .before .before .before .before in
+    let a = at-start in
     let g = newest-part h (omega (arith, h .size, a .pre .1 .1)) .1 in
-    by (ap (λ (y : Text). recorded y σ) (inside t (at-slots (b (u .1)) t) (t ++ b (u .0)) (λ z. c .before .before .before .before .before .before .before .before .before .before .if1 .left (c .before .before .before .before .before .before .before .before .before .before .before .slots .ensures .0 ∙ ap slots-in g ∙ z))))
+    by (ap (λ (y : Text). recorded y σ)
+    (inside t (at-slots (b (u .1)) t) (t ++ b (u .0))
+    (λ z. c .before .before .before .before .before .before .before .before .before .before .if1 .left
+    (c .before .before .before .before .before .before .before .before .before .before .before .slots .ensures .0 ∙ ap slots-in g ∙ z))))
     (c .before .before .before .before .before .before .wrap-slots .ensures k d s base from t σ (b (u .1)) (words-of _ u e .1) h)
 
 pub wrap-spec : {M : Type 1} → statement M

@@ -27,6 +27,10 @@ short-word {x} {r} {w} h e =
     let p = picked-at h e in
     (p .1, omega (arith, word-within 9 at-slot (x ∷ []) tt (p .0), length-spelled w (p .1)))
 
+-- Stages: places that later facts cite. Each function goes from one to the one before it.
+abbrev before-else1 : tie.Else1 → tie.Start
+before-else1 c = c .before .before .before .before .before .before .before .before .before .before
+
 returns : tie.Need-returns
 returns c k d s base from t σ w e h = absurd (some-not (sym e ∙ picked-none (c .before .before .slot-wrapper .ensures) (c .enum-told .given .1)))
 
@@ -35,12 +39,14 @@ sub-each c = short-word (c .before .before .before .before .slot-wrapper .ensure
 
 woven-requires : tie.Need-woven-requires
 woven-requires c κs =
-    let a = c .before .before .before .before .before .before .before .before .pre in
+    let at-start = c .before .before .before .before .before .before .before .before in
+    let a = at-start .pre in
     (omega (arith, a .1 .1 .0), (omega (arith, a .1 .1 .0, a .1 .1 .1 .0), omega (arith, short-word (c .before .before .before .before .slot-wrapper .ensures) (c .before .before .picked .given .1) .1)))
 
 returns-2 : tie.Need-returns-2
 returns-2 c k d s base from t σ w e h =
-    let a = c .before .before .before .before .before .before .before .before .before .before .before in
+    let at-start = c .before .before .before .before .before .before .before .before .before .before .before in
+    let a = at-start in
     let l : length t ≡ a .args .n = omega (arith, h .size, a .pre .1 .1 .0) in
     let x = picked-at (c .before .before .before .before .before .before .before .slot-wrapper .ensures) (c .before .before .before .before .before .picked .given .1) in
     let f = some-is (sym (x .0) ∙ e) in
@@ -49,40 +55,61 @@ returns-2 c k d s base from t σ w e h =
 
 weave-word-requires : tie.Need-weave-word-requires
 weave-word-requires c κs =
-    let a = c .before .before .before .before .before .before .before .before .before .before .before in
-    let w = c .before .before .before .before .before .picked .given .0 .0 in
-    let x = short-word (c .before .before .before .before .before .before .before .slot-wrapper .ensures) (c .before .before .before .before .before .picked .given .1) in
+    let at-else1 = c .before in
+    let at-start = before-else1 at-else1 in
+    let a = at-start in
+    let w = at-else1 .before .before .before .before .picked .given .0 .0 in
+    let x = short-word (at-else1 .before .before .before .before .before .before .slot-wrapper .ensures) (at-else1 .before .before .before .before .picked .given .1) in
     (a .pre .0 .1 .1 .text, (x .0, (x .1, (a .pre .1 .0, omega (arith, c .before .if1 .left, c .before .before .woven .ensures, ap (λ (j : ℕ). j * (w .to - w .from)) (a .pre .1 .1 .1 .1))))))
 
 cut-requires : tie.Need-cut-requires
 cut-requires c κs =
-    let a = c .before .before .before .before .before .before .before .before .before .before .before .before .before .before .before in
+    let at-else1 = c .before .before .before .before .before in
+    let at-start = before-else1 at-else1 in
+    let a = at-start in
     let h = a .pre .0 .1 .1 in
-    let x = picked-at (c .before .before .before .before .before .before .before .before .before .before .before .slot-wrapper .ensures) (c .before .before .before .before .before .before .before .before .before .picked .given .1) in
-    let z = woven-size (spelled (c .before .before .before .before .before .before .before .before .before .picked .given .0 .0)) (newest (a .args .text .now) (a .args .p .top) (a .args .n)) (newest-size (a .args .n) (h .text) (a .pre .1 .0)) (sym (a .pre .1 .1 .1 .1)) (length-spelled _ (x .1)) in
-    (c .before .before .before .weave-word .ensures .put .stack, omega (arith, puts-top (a .args .n) (h .text) (c .before .before .before .weave-word .ensures) (a .pre .1 .0) (omega (arith, a .pre .1 .1 .0)), z, c .before .before .before .before .before .before .woven .ensures, c .before .before .before .before .before .if1 .left))
+    let x = picked-at (at-else1 .before .before .before .before .before .before .slot-wrapper .ensures) (at-else1 .before .before .before .before .picked .given .1) in
+    let z = woven-size (spelled (at-else1 .before .before .before .before .picked .given .0 .0)) (newest (a .args .text .now) (a .args .p .top) (a .args .n)) (newest-size (a .args .n) (h .text) (a .pre .1 .0)) (sym (a .pre .1 .1 .1 .1)) (length-spelled _ (x .1)) in
+    (c .before .before .before .weave-word .ensures .put .stack, omega (arith, puts-top (a .args .n) (h .text) (c .before .before .before .weave-word .ensures) (a .pre .1 .0) (omega (arith, a .pre .1 .1 .0)), z, at-else1 .before .woven .ensures, at-else1 .if1 .left))
 
 recorded-requires : tie.Need-recorded-requires
 recorded-requires c κs =
-    let a = c .before .before .before .before .before .before .before .before .before .before .before .before .before .before .before .before .before .before .before .before .before in
+    let at-else1 = c .before .before .before .before .before .before .before .before .before .before .before in
+    let at-start = before-else1 at-else1 in
+    let a = at-start in
     let h = a .pre .0 .1 .1 in
-    let x = picked-at (c .before .before .before .before .before .before .before .before .before .before .before .before .before .before .before .before .before .slot-wrapper .ensures) (c .before .before .before .before .before .before .before .before .before .before .before .before .before .before .before .picked .given .1) in
-    let z = woven-size (spelled (c .before .before .before .before .before .before .before .before .before .before .before .before .before .before .before .picked .given .0 .0)) (newest (a .args .text .now) (a .args .p .top) (a .args .n)) (newest-size (a .args .n) (h .text) (a .pre .1 .0)) (sym (a .pre .1 .1 .1 .1)) (length-spelled _ (x .1)) in (
+    let x = picked-at (at-else1 .before .before .before .before .before .before .slot-wrapper .ensures) (at-else1 .before .before .before .before .picked .given .1) in
+    let z = woven-size (spelled (at-else1 .before .before .before .before .picked .given .0 .0)) (newest (a .args .text .now) (a .args .p .top) (a .args .n)) (newest-size (a .args .n) (h .text) (a .pre .1 .0)) (sym (a .pre .1 .1 .1 .1)) (length-spelled _ (x .1)) in (
       (a .pre .0 .0, (a .pre .0 .1 .0, holds-cuts (c .before .before .before .before .before .cut .ensures) (holds-puts (c .before .before .before .before .before .before .before .before .before .weave-word .ensures) h))),
-      omega (arith, puts-top (a .args .n) (h .text) (c .before .before .before .before .before .before .before .before .before .weave-word .ensures) (a .pre .1 .0) (omega (arith, a .pre .1 .1 .0)), z, c .before .before .before .before .before .before .before .before .before .before .before .before .woven .ensures, c .before .before .before .before .before .before .before .before .before .before .before .if1 .left, c .before .before .before .before .before .cut .ensures .cut .top-is),
+      omega (
+        arith,
+        puts-top (a .args .n) (h .text) (c .before .before .before .before .before .before .before .before .before .weave-word .ensures) (a .pre .1 .0)
+            (omega (arith, a .pre .1 .1 .0)),
+        z,
+        at-else1 .before .woven .ensures,
+        at-else1 .if1 .left,
+        c .before .before .before .before .before .cut .ensures .cut .top-is,
+      ),
     )
 
 returns-3 : tie.Need-returns-3
 returns-3 c k d s base from t σ w e h =
-    let a = c .before .before .before .before .before .before .before .before .before .before .before .before .before .before .before .before .before .before .before .before .before .before .before .before .before .before in
+    let at-else1 = c .before .before .before .before .before .before .before .before .before .before .before .before .before .before .before .before in
+    let at-start = before-else1 at-else1 in
+    let a = at-start in
     let l : length t ≡ a .args .n = omega (arith, h .size, a .pre .1 .1 .0) in
-    let x = picked-at (c .before .before .before .before .before .before .before .before .before .before .before .before .before .before .before .before .before .before .before .before .before .before .slot-wrapper .ensures) (c .before .before .before .before .before .before .before .before .before .before .before .before .before .before .before .before .before .before .before .before .picked .given .1) in
+    let x = picked-at (at-else1 .before .before .before .before .before .before .slot-wrapper .ensures) (at-else1 .before .before .before .before .picked .given .1) in
     let f = some-is (sym (x .0) ∙ e) in
     let g = newest-text h (omega (arith, l, a .pre .1 .1 .0)) in
     let z = woven-size w t l (ap slots-in (sym g) ∙ sym (a .pre .1 .1 .1 .1)) (ap length (sym f) ∙ length-spelled _ (x .1)) in
-    let u = subst (λ (y : Text). Puts (a .args .text .now) (c .before .before .before .before .before .before .before .before .before .before .before .before .before .before .weave-word .last .0) (a .args .p) (c .before .before .before .before .before .before .before .before .before .before .before .before .before .before .weave-word .result) y) (ap₂ at-slots f g) (c .before .before .before .before .before .before .before .before .before .before .before .before .before .before .weave-word .ensures) in
+    let u = subst (λ (y : Text). Puts (a .args .text .now)
+    (c .before .before .before .before .before .before .before .before .before .before .before .before .before .before .weave-word .last .0) (a .args .p)
+    (c .before .before .before .before .before .before .before .before .before .before .before .before .before .before .weave-word .result) y) (ap₂ at-slots f g)
+    (c .before .before .before .before .before .before .before .before .before .before .before .before .before .before .weave-word .ensures) in
     c .before .before .before .before .recorded .ensures k d s base from (at-slots w t) σ
-    (stands-replaced h u (c .before .before .before .before .before .before .before .before .before .before .cut .ensures) l (omega (arith, z, c .before .before .before .before .before .before .before .before .before .before .before .before .before .before .before .before .before .woven .ensures, c .before .before .before .before .before .before .before .before .before .before .before .before .before .before .before .before .if1 .left)) (omega (arith, z, c .before .before .before .before .before .before .before .before .before .before .before .before .before .before .before .before .before .woven .ensures, c .before .before .before .before .before .before .before .before .before .before .before .before .before .before .before .before .if1 .left)) (omega (arith, l, a .pre .1 .1 .0)) (omega (arith, c .before .before .before .before .before .before .before .before .before .before .before .before .before .before .before .before .if1 .left)))
+    (stands-replaced h u (c .before .before .before .before .before .before .before .before .before .before .cut .ensures) l
+    (omega (arith, z, at-else1 .before .woven .ensures, at-else1 .if1 .left)) (omega (arith, z, at-else1 .before .woven .ensures, at-else1 .if1 .left))
+    (omega (arith, l, a .pre .1 .1 .0)) (omega (arith, at-else1 .if1 .left)))
 
 pub wrap-slots-spec : {M : Type 1} → statement M
 wrap-slots-spec =

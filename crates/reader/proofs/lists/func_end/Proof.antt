@@ -33,22 +33,30 @@ listed c t ts h l f g =
     (c .if1 .came))
 
 add-recorded : tie.Need-add-recorded
-add-recorded c = record { fits = omega (arith, c .before .before .before .before .before .before .before .before .before .before .before .before .before .before .before .before .before .before .before .before .before .pre .1 .0) }
+add-recorded c =
+    let at-start = c .before .before .before .before .before .before .before .before .before .before .before .before .before .before .before .before .before .before .before .before .before in
+    record { fits = omega (arith, at-start .pre .1 .0) }
 
 recorded-requires : tie.Need-recorded-requires
 recorded-requires c κs =
-    let a = c .before .before .before .before .before .before .before .before .before .before .before .before .before .before .before .before .before .before .before .before .before in
+    let at-start = c .before .before .before .before .before .before .before .before .before .before .before .before .before .before .before .before .before .before .before .before .before in
+    let a = at-start in
     let u = c .before .before .before .before .before .before .before .before .before .before .cut .ensures in
-    let v = c .before .before .before .before .before .put .ensures in
-    ((a .pre .0 .0, (a .pre .0 .1 .0, holds-puts v (holds-cuts u (a .pre .0 .1 .1)))), omega (arith, puts-least (u .cut .stack) v, u .cut .top-is, a .pre .1, c .before .before .before .before .before .before .before .before .before .before .before .before .before .before .before .before .if2 .taken))
+    let v = c .before .before .before .before .before .put .ensures in (
+      (a .pre .0 .0, (a .pre .0 .1 .0, holds-puts v (holds-cuts u (a .pre .0 .1 .1)))),
+      omega
+          (arith, puts-least (u .cut .stack) v, u .cut .top-is, a .pre .1, c .before .before .before .before .before .before .before .before .before .before .before .before .before .before .before .before .if2 .taken),
+    )
 
 returns : tie.Need-returns
 unfolding b
 returns c s base from t ts σ h e f g =
-    let a = c .before .before .before .before .before .before .before .before .before .before .before .before .before .before .before .before .before .before .before .before .before .before .before .before .before .before in
+    let at-start = c .before .before .before .before .before .before .before .before .before .before .before .before .before .before .before .before .before .before .before .before .before .before .before .before .before .before in
+    let a = at-start in
     let j : length (join (b ", ") ts) ≡ 4 = omega (arith, f, c .before .before .before .before .before .before .before .before .before .before .before .before .before .before .before .before .before .before .before .before .before .if2 .taken) in
     let l : length t ≤ 16384 = omega (arith, e, a .pre .1 .0) in
-    let q = ap (λ (y : Text). same y (b "void")) (sym (newest-four t (join (b ", ") ts) h l j)) ∙ sym (c .before .before .before .before .before .before .before .before .before .before .before .before .before .before .before .before .before .before .same .ensures) ∙ c .before .before .before .before .before .before .before .before .before .before .before .before .before .before .before .before .before .if3 .taken in
+    let q = ap (λ (y : Text). same y (b "void")) (sym (newest-four t (join (b ", ") ts) h l j)) ∙ sym
+    (c .before .before .before .before .before .before .before .before .before .before .before .before .before .before .before .before .before .before .same .ensures) ∙ c .before .before .before .before .before .before .before .before .before .before .before .before .before .before .before .before .before .if3 .taken in
     let w = stands-without t (join (b ", ") ts) h l j (keep (a .args .p .depth)) (omega arith) (omega arith) (c .before .before .before .before .before .before .before .before .before .before .before .before .before .before .before .cut .ensures) in
     by (ap (λ (x : Text). recorded x σ) (function-bare t ts (only-one ts (omega (arith, g, c .before .before .before .before .before .before .before .before .before .before .before .before .before .before .before .before .before .before .before .before .before .before .if1 .taken)) ∙ q)))
     (c .before .before .before .before .recorded .ensures (keep (a .args .p .depth)) (a .args .p .depth) s base from _ σ
@@ -56,13 +64,15 @@ returns c s base from t ts σ h e f g =
 
 recorded-requires-2 : tie.Need-recorded-requires-2
 recorded-requires-2 c κs =
-    let a = c .before .before .before .before .before .before .before .before .before .before .before .before .before in
+    let at-start = c .before .before .before .before .before .before .before .before .before .before .before .before .before in
+    let a = at-start in
     let v = c .before .before .before .before .before .before .put2 .ensures in
     ((a .pre .0 .0, (a .pre .0 .1 .0, holds-puts v (a .pre .0 .1 .1))), omega (arith, puts-least (a .pre .0 .1 .1 .text) v, c .sum .ensures, a .pre .1))
 
 returns-2 : tie.Need-returns-2
 returns-2 c s base from t ts σ h e f g =
-    let a = c .before .before .before .before .before .before .before .before .before .before .before .before .before .before .before .before .before .before in
+    let at-start = c .before .before .before .before .before .before .before .before .before .before .before .before .before .before .before .before .before .before in
+    let a = at-start in
     let z = length-append (t ++ (opening ++ join (b ", ") ts)) (41 ∷ []) in
     by (ap (λ (x : Text). recorded x σ) (function-listed t ts (listed (c .before .before .before .before .before .before .before .before .before .before .before .before .before .before) t ts h (omega (arith, e, a .pre .1 .0)) f g)))
     (less (omega arith)

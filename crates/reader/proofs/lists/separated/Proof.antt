@@ -11,7 +11,9 @@ returns c = puts-none (b "::") (c .before .before .before .args .parts .count) (
 
 returns-2 : tie.Need-returns-2
 unfolding b
-returns-2 c = puts-some (b "::") (c .before .before .before .before .before .before .before .before .args .parts .count) (omega arith) (c .before .before .put .ensures)
+returns-2 c =
+    let at-start = c .before .before .before .before .before .before .before .before in
+    puts-some (b "::") (at-start .args .parts .count) (omega arith) (c .before .before .put .ensures)
 
 pub separated-spec : {M : Type 1} → statement M
 separated-spec = tie.close (tie.spec returns (λ c. search needs) (λ c κs. search needs) (λ c. search needs) returns-2)
