@@ -13,7 +13,7 @@ use lib.Dec.{eqb, leb}
 use lib.ListN.{getElem?}
 use Rattle.grammar.specs.Text.{Text, b, if_then_else_, same, digit}
 use Rattle.catalogue.specs.Bytes.{all, first}
-use Rattle.catalogue.specs.Tree.{Wrap, Kind, Ty, Args, Enc, w-p, wR, wO, wK, wV, kb, ki, kj, kl, km, letter, wrap, root, sub, app, lit, one, also, enc, same-ty, is-lit, is-class, is-bare, single, is-ref, is-qual}
+use Rattle.catalogue.specs.Tree.{Wrap, Kind, Ty, Args, Enc, wP, wR, wO, wK, wV, kb, ki, kj, kl, km, letter, wrap, root, sub, app, lit, one, also, enc, same-ty, is-lit, is-class, is-bare, single, is-ref, is-qual}
 use Rattle.catalogue.specs.Spelling.{Sp, Pre, SpArgs, SpName, Sym, s-letter, s-wrap, s-ref, plain, templ, retempl, nest-sub, nest-app, s-lit, p-ref, p-root, p-sub, p-app, s-one, s-also, flat, scoped, symbol, spell-sym}
 
 -- ---------------------------------------------------------------- source names and values
@@ -70,7 +70,7 @@ lit-ok km g v = not g && numeral v
 
 -- "P, R, O, K or V before a type": no literal. "R and O never stand directly on R or O, nor K and V on K or V"
 unfoldable pub stands : Wrap → Ty → Bool
-stands w-p t = not (is-lit t)
+stands wP t = not (is-lit t)
 stands wR t = not (is-lit t || is-ref t)
 stands wO t = not (is-lit t || is-ref t)
 stands wK t = not (is-lit t || is-qual t)

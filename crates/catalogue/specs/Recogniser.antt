@@ -9,7 +9,7 @@ use lib.Dec.{eqb, leb}
 use lib.ListN.{length, take, drop}
 use Rattle.grammar.specs.Text.{Text, if_then_else_, choose, same, run, past, digit, number}
 use Rattle.grammar.specs.Grammar.{index}
-use Rattle.catalogue.specs.Tree.{Letter, Wrap, Kind, Enc, letter-code, wrap-code, kind-code, lv, lw, lb, lc, la, lh, ls, lt, li, lj, ll, lm, lx, ly, ln, lo, lf, ld, le, lg, lz, w-p, wR, wO, wK, wV, kb, ki, kj, kl, km}
+use Rattle.catalogue.specs.Tree.{Letter, Wrap, Kind, Enc, letter-code, wrap-code, kind-code, lv, lw, lb, lc, la, lh, ls, lt, li, lj, ll, lm, lx, ly, ln, lo, lf, ld, le, lg, lz, wP, wR, wO, wK, wV, kb, ki, kj, kl, km}
 use Rattle.catalogue.specs.Spelling.{Sp, Pre, SpArgs, SpName, Sym, s-letter, s-wrap, s-ref, plain, templ, retempl, nest-sub, nest-app, s-lit, p-ref, p-root, p-sub, p-app, s-one, s-also, flat, scoped, symbol, spell-sym}
 use Rattle.catalogue.specs.Class.{Res, wrong, provided, valid}
 
@@ -49,7 +49,7 @@ all-letters =
     lv ∷ lw ∷ lb ∷ lc ∷ la ∷ lh ∷ ls ∷ lt ∷ li ∷ lj ∷ ll ∷ lm ∷ lx ∷ ly ∷ ln ∷ lo ∷ lf ∷ ld ∷ le ∷ lg ∷ lz ∷ []
 
 abbrev pub all-wraps : List Wrap
-all-wraps = w-p ∷ wR ∷ wO ∷ wK ∷ wV ∷ []
+all-wraps = wP ∷ wR ∷ wO ∷ wK ∷ wV ∷ []
 
 abbrev pub all-kinds : List Kind
 all-kinds = kb ∷ ki ∷ kj ∷ kl ∷ km ∷ []
@@ -71,15 +71,15 @@ read-lit (c ∷ s) = signed (with-code kind-code c all-kinds) s
 pub data Lead : Type 0 where
   lead-letter : Letter → Lead
   lead-wrap : Wrap → Lead
-  lead-digit leadS leadN leadL leadNone : Lead
+  lead-digit lead-S lead-N lead-L lead-none : Lead
 
 unfoldable pub lead : ℕ → Lead
 lead c =
     if digit 10 c then lead-digit else
-    if eqb c (code "S") then leadS else
-    if eqb c (code "N") then leadN else
-    if eqb c (code "L") then leadL else
-    choose (with-code wrap-code c all-wraps) lead-wrap (choose (with-code letter-code c all-letters) lead-letter leadNone)
+    if eqb c (code "S") then lead-S else
+    if eqb c (code "N") then lead-N else
+    if eqb c (code "L") then lead-L else
+    choose (with-code wrap-code c all-wraps) lead-wrap (choose (with-code letter-code c all-letters) lead-letter lead-none)
 
 -- at E: N with one part is no class
 abbrev pub finish : Pre → Text → Rd Sp
@@ -93,20 +93,20 @@ at-lead (lead-letter l) c s type args nest = rd (s-letter l) s
 at-lead (lead-wrap w) c s type args nest = bind (type s) (λ x r. rd (s-wrap w x) r)
 at-lead lead-digit c s type args nest =
     bind (read-name (c ∷ s)) (λ n r. if-next (code "I") r (λ r′. bind (args r′) (λ ss r″. rd (templ n ss) r″)) (rd (plain n) r))
-at-lead leadS c s type args nest =
+at-lead lead-S c s type args nest =
     bind (read-ref s) (λ i r. if-next (code "I") r (λ r′. bind (args r′) (λ ss r″. rd (retempl i ss) r″)) (rd (s-ref i) r))
-at-lead leadN c s type args nest = nest s
-at-lead leadL c s type args nest = read-lit s
-at-lead leadNone c s type args nest = stop
+at-lead lead-N c s type args nest = nest s
+at-lead lead-L c s type args nest = read-lit s
+at-lead lead-none c s type args nest = stop
 
 abbrev pub at-nest : Lead → ℕ → Text → (Pre → Text → Rd Sp) → Rd Sp
 at-nest (lead-letter l) c s more = stop
 at-nest (lead-wrap w) c s more = stop
 at-nest lead-digit c s more = bind (read-name (c ∷ s)) (λ n r. more (p-root n) r)
-at-nest leadS c s more = bind (read-ref s) (λ i r. more (p-ref i) r)
-at-nest leadN c s more = stop
-at-nest leadL c s more = stop
-at-nest leadNone c s more = stop
+at-nest lead-S c s more = bind (read-ref s) (λ i r. more (p-ref i) r)
+at-nest lead-N c s more = stop
+at-nest lead-L c s more = stop
+at-nest lead-none c s more = stop
 
 abbrev pub at-more : Bool → Bool → Pre → ℕ → Text → (Text → Rd SpArgs) → (Pre → Text → Rd Sp) → Rd Sp
 at-more true i q c s args more = finish q s

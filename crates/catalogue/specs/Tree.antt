@@ -17,7 +17,7 @@ pub data Letter : Type 0 where
 
 -- P, R, O, K and V before a type
 pub data Wrap : Type 0 where
-  w-p wR wO wK wV : Wrap
+  wP wR wO wK wV : Wrap
   deriving Discrete as Wrap-discrete
 
 -- b, i, j, l and m of a literal
@@ -115,7 +115,7 @@ single (lit k g v) = false
 -- R or O stands on top
 abbrev pub is-ref : Ty → Bool
 is-ref (letter l) = false
-is-ref (wrap w-p t) = false
+is-ref (wrap wP t) = false
 is-ref (wrap wR t) = true
 is-ref (wrap wO t) = true
 is-ref (wrap wK t) = false
@@ -128,7 +128,7 @@ is-ref (lit k g v) = false
 -- K or V stands on top
 abbrev pub is-qual : Ty → Bool
 is-qual (letter l) = false
-is-qual (wrap w-p t) = false
+is-qual (wrap wP t) = false
 is-qual (wrap wR t) = false
 is-qual (wrap wO t) = false
 is-qual (wrap wK t) = true
@@ -164,7 +164,7 @@ letter-code lg = code "g"
 letter-code lz = code "z"
 
 abbrev pub wrap-code : Wrap → ℕ
-wrap-code w-p = code "P"
+wrap-code wP = code "P"
 wrap-code wR = code "R"
 wrap-code wO = code "O"
 wrap-code wK = code "K"
@@ -184,7 +184,7 @@ unfoldable pub word : Letter → Text
 word l = choose (word-for letters (letter-code l ∷ [])) (λ w. w) []
 
 abbrev pub suffix : Wrap → Text
-suffix w-p = b "*"
+suffix wP = b "*"
 suffix wR = b "&"
 suffix wO = b "&&"
 suffix wK = b " const"

@@ -11,7 +11,7 @@ use Rattle.grammar.specs.Text.{Text, if_then_else_, choose, same}
 use Rattle.catalogue.specs.Tree.{Ty, letter, wrap, root, sub, app, lit, kind-code}
 use Rattle.catalogue.specs.Spelling.{ref-bytes, name-bytes}
 use Rattle.catalogue.specs.Class.{most-arguments}
-use Rattle.catalogue.specs.Recogniser.{Rd, rd, stop, if-next, Lead, lead-letter, lead-wrap, lead-digit, leadS, leadN, leadL, leadNone, lead}
+use Rattle.catalogue.specs.Recogniser.{Rd, rd, stop, if-next, Lead, lead-letter, lead-wrap, lead-digit, lead-S, lead-N, lead-L, lead-none, lead}
 use Rattle.normal_walk.specs.Walk.{name, reference, literal, lit-bytes}
 
 -- ---------------------------------------------------------------- nodes
@@ -224,25 +224,25 @@ note-at-lead (lead-wrap q) c from s σ type args parts =
 -- <source-name> [I <template-args> E]
 note-at-lead lead-digit c from s σ type args parts = next (note-at-name from σ) (λ t τ. note-with-args t from args τ)
 -- S [<seq-id>] _ [I <template-args> E]
-note-at-lead leadS c from s σ type args parts = next (at-reference from (go-to s σ)) (λ t τ. note-with-args t from args τ)
+note-at-lead lead-S c from s σ type args parts = next (at-reference from (go-to s σ)) (λ t τ. note-with-args t from args τ)
 -- N <parts> E, two or more
-note-at-lead leadN c from s σ type args parts =
+note-at-lead lead-N c from s σ type args parts =
     next (parts (suc from) (put (c ∷ []) (go-to s σ))) (λ u τ. got u (entered-nested u from (put (code "E" ∷ []) τ)))
 -- L <literal> E
-note-at-lead leadL c from s σ type args parts =
+note-at-lead lead-L c from s σ type args parts =
     with (literal s) (λ t r. got (number-of (lit-node t) (σ .nodes)) (put (lit-bytes t) (noted (lit-node t) (go-to r σ))))
-note-at-lead leadNone c from s σ type args parts = bad
+note-at-lead lead-none c from s σ type args parts = bad
 
 -- <parts> ::= <source-name> <more> | S [<seq-id>] _ <more>
 abbrev pub note-at-parts : Lead → ℕ → Text → Notes → (ℕ → Bool → Noter ℕ) → Got ℕ
 note-at-parts (lead-letter l) from s σ more = bad
 note-at-parts (lead-wrap q) from s σ more = bad
 note-at-parts lead-digit from s σ more = next (note-at-name from σ) (λ t τ. more t true τ)
-note-at-parts leadS from s σ more =
+note-at-parts lead-S from s σ more =
     next (at-reference from (go-to s σ)) (λ t τ. when (a-class (tag-of (τ .nodes) t)) (more t (eqb (tag-of (τ .nodes) t) (code "0")) τ))
-note-at-parts leadN from s σ more = bad
-note-at-parts leadL from s σ more = bad
-note-at-parts leadNone from s σ more = bad
+note-at-parts lead-N from s σ more = bad
+note-at-parts lead-L from s σ more = bad
+note-at-parts lead-none from s σ more = bad
 
 -- behind one more part or its arguments: E, where there is not one part alone; or u is leading parts and enters the table
 abbrev pub note-end-or : ℕ → (ℕ → Bool → Noter ℕ) → ℕ → Bool → Noter ℕ

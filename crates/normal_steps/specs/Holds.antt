@@ -49,6 +49,22 @@ Inside s (x ∷ xs) = ((x .from ≤ x .to) × (x .to ≤ length s)) × Inside s 
 abbrev pub Noting : List Row → List ℕ → Text → Type 0
 Noting rows ds n = Regions (flat rows) ds (firsts ds) n
 
+-- ---------------------------------------------------------------- the work slices
+
+pub record Work : Type 0 where
+  pub out : Text
+  pub notes : Text
+
+abbrev pub work : Text → Text → Work
+work out notes = record { out = out; notes = notes }
+
+-- where one slice alone is lent, the others stay as they are
+abbrev pub out-to : Work → Text → Work
+out-to ws out = record { out = out; notes = ws .notes }
+
+abbrev pub notes-to : Work → Text → Work
+notes-to ws notes = record { out = ws .out; notes = notes }
+
 -- ---------------------------------------------------------------- the state
 
 -- so large is no number of a tree
@@ -59,19 +75,19 @@ unfoldable pub small : ℕ → Bool
 small d = ltb d most-number
 
 -- the state and the slices hold what is kept
-pub record Holds (s out notes : Text) (p : Writer) (σ : Notes) : Type 0 where
+pub record Holds (s : Text) (ws : Work) (p : Writer) (σ : Notes) : Type 0 where
   pub source : length s ≤ 4096
   pub place : p .at ≤ length s
   pub rest : σ .rest ≡ drop (p .at) s
   pub rows : List Row
   pub inside : Inside s rows
   pub nodes-are : σ .nodes ≡ nodes-in s rows
-  pub notes-are : Noting rows (σ .table) notes
+  pub notes-are : Noting rows (σ .table) (ws .notes)
   pub nodes-count : p .nodes ≡ length rows
   pub table-count : p .table ≡ length (σ .table)
   pub firsts-count : p .firsts ≡ length (firsts (σ .table))
   pub numbers : all small (σ .table) ≡ true
-  pub out-is : Front 65536 (σ .out) out
+  pub out-is : Front 65536 (σ .out) (ws .out)
   pub out-count : p .out ≡ length (σ .out)
   pub args-count : p .args ≡ σ .args
   pub few-nodes : p .nodes ≤ p .at
@@ -79,12 +95,18 @@ pub record Holds (s out notes : Text) (p : Writer) (σ : Notes) : Type 0 where
   pub few-args : p .args ≤ p .at
   pub short : p .out ≤ 16 * p .at
 
-abbrev pub Ready : Text → Text → Text → Writer → Type 0
-Ready s out notes p = (σ : Notes) × Holds s out notes p σ
+abbrev pub Ready : Text → Work → Writer → Type 0
+Ready s ws p = (σ : Notes) × Holds s ws p σ
+
+abbrev pub ReadyOut : Text → Text → Writer → Type 0
+ReadyOut s out p = (ws : Work) × Ready s (out-to ws out) p
+
+abbrev pub ReadyNotes : Text → Text → Writer → Type 0
+ReadyNotes s notes p = (ws : Work) × Ready s (notes-to ws notes) p
 
 -- the number d has the tag c, whatever else is held
 abbrev pub Tag : Text → Writer → ℕ → ℕ → Type 0
-Tag notes p d c = (s o : Text) (σ : Notes) → Holds s o notes p σ → c ≡ tag-of (σ .nodes) d
+Tag notes p d c = (s : Text) (ws : Work) (σ : Notes) → Holds s (notes-to ws notes) p σ → c ≡ tag-of (σ .nodes) d
 
 -- there is room for so many nodes, entries and bytes more
 pub record Room (n t o : ℕ) (p : Writer) : Type 0 where
@@ -114,30 +136,30 @@ pub record Spent (k b : ℕ) (p p' : Writer) : Type 0 where
 -- ---------------------------------------------------------------- what a step promises
 
 -- the answer is that of the walk with numbers, and L holds of the next state
-pub data Refines (s : Text) (L : Writer → Type 0) (out notes : Text) : Told → Got ℕ → Type 0 where
-  tells : {p : Writer} {d : ℕ} {σ : Notes} → Holds s out notes p σ → L p → d < most-number → Refines s L out notes (Number p d) (got d σ)
-  refuses : Refines s L out notes Bad bad
+pub data Refines (s : Text) (L : Writer → Type 0) (ws : Work) : Told → Got ℕ → Type 0 where
+  tells : {p : Writer} {d : ℕ} {σ : Notes} → Holds s ws p σ → L p → d < most-number → Refines s L ws (Number p d) (got d σ)
+  refuses : Refines s L ws Bad bad
 
 -- a reading of j bytes at least
-abbrev pub Reads : ℕ → ℕ → Noter ℕ → Text → Text → Text → Text → Text → Writer → Told → Type 0
-Reads j b f s o n o' n' p r = (σ : Notes) → Holds s o n p σ → Refines s (λ p'. (p .at + j ≤ p' .at) × Spent 1 b p p') o' n' r (f σ)
+abbrev pub Reads : ℕ → ℕ → Noter ℕ → Text → Work → Work → Writer → Told → Type 0
+Reads j b f s ws ws' p r = (σ : Notes) → Holds s ws p σ → Refines s (λ p'. (p .at + j ≤ p' .at) × Spent 1 b p p') ws' r (f σ)
 
 -- a reading with fuel, which is never below the number of bytes left and e
-abbrev pub Fueled : ℕ → ℕ → ℕ → (ℕ → Noter ℕ) → Text → Text → Text → Text → Text → Writer → Told → Type 0
-Fueled k b e f s o n o' n' p r =
-    (σ : Notes) → Holds s o n p σ → (m : ℕ) → length s + e ≤ m + p .at → Refines s (Spent k b p) o' n' r (f m σ)
+abbrev pub Fueled : ℕ → ℕ → ℕ → (ℕ → Noter ℕ) → Text → Work → Work → Writer → Told → Type 0
+Fueled k b e f s ws ws' p r =
+    (σ : Notes) → Holds s ws p σ → (m : ℕ) → length s + e ≤ m + p .at → Refines s (Spent k b p) ws' r (f m σ)
 
 -- a step that reads nothing
-abbrev pub Steps : ℕ → ℕ → ℕ → ℕ → Noter ℕ → Text → Text → Text → Text → Text → Writer → Told → Type 0
-Steps x y z b f s o n o' n' p r = (σ : Notes) → Holds s o n p σ → Refines s (Took x y z b p) o' n' r (f σ)
+abbrev pub Steps : ℕ → ℕ → ℕ → ℕ → Noter ℕ → Text → Work → Work → Writer → Told → Type 0
+Steps x y z b f s ws ws' p r = (σ : Notes) → Holds s ws p σ → Refines s (Took x y z b p) ws' r (f σ)
 
 -- a step that is never refused
-pub record Went (s out notes : Text) (L : Writer → Type 0) (p : Writer) (σ : Notes) : Type 0 where
-  pub holds : Holds s out notes p σ
+pub record Went (s : Text) (ws : Work) (L : Writer → Type 0) (p : Writer) (σ : Notes) : Type 0 where
+  pub holds : Holds s ws p σ
   pub limits : L p
 
-abbrev pub Does : ℕ → ℕ → ℕ → ℕ → (Notes → Notes) → Text → Text → Text → Text → Text → Writer → Writer → Type 0
-Does x y z b f s o n o' n' p p' = (σ : Notes) → Holds s o n p σ → Went s o' n' (Took x y z b p) p' (f σ)
+abbrev pub Does : ℕ → ℕ → ℕ → ℕ → (Notes → Notes) → Text → Work → Work → Writer → Writer → Type 0
+Does x y z b f s ws ws' p p' = (σ : Notes) → Holds s ws p σ → Went s ws' (Took x y z b p) p' (f σ)
 
 -- what is before the place `to` was read, k bytes were written, and nothing was noted
 pub record Passed (to k : ℕ) (p p' : Writer) : Type 0 where
@@ -150,13 +172,14 @@ pub record Passed (to k : ℕ) (p p' : Writer) : Type 0 where
 -- the next byte was written, and taken
 abbrev pub Copies : Text → Text → Text → Writer → Writer → Type 0
 Copies s o o' p p' =
-    Passed (p .at + 1) 1 p p' × ((n : Text) (σ : Notes) → Holds s o n p σ → (c : ℕ) (t : Text) → σ .rest ≡ c ∷ t → Holds s o' n p' (put (c ∷ []) (go-to t σ)))
+    Passed (p .at + 1) 1 p p'
+    × ((ws : Work) (σ : Notes) → Holds s (out-to ws o) p σ → (c : ℕ) (t : Text) → σ .rest ≡ c ∷ t → Holds s (out-to ws o') p' (put (c ∷ []) (go-to t σ)))
 
 -- a text was written
 abbrev pub Puts : Text → Text → Text → Writer → Writer → Type 0
 Puts w o o' p p' =
     (p' ≡ written-to p (p .out + length w))
-    × ((s n : Text) (σ : Notes) → Holds s o n p σ → p .out + length w ≤ 16 * p .at → Holds s o' n p' (put w σ))
+    × ((s : Text) (ws : Work) (σ : Notes) → Holds s (out-to ws o) p σ → p .out + length w ≤ 16 * p .at → Holds s (out-to ws o') p' (put w σ))
 
 -- ---------------------------------------------------------------- readings and steps
 
@@ -180,3 +203,6 @@ wraps c t from σ = when (may-stand c (tag-of (σ .nodes) t)) (enter (wrap-node 
 
 abbrev pub closed : Notes → Notes
 closed σ = put (code "E" ∷ []) σ
+
+abbrev pub Closes : Text → Text → Writer → Writer → Type 0
+Closes o o' p p' = (s : Text) (ws : Work) → Does 0 0 1 (p .out) closed s (out-to ws o) (out-to ws o') p p'

@@ -2,7 +2,7 @@
 use mathlib.Core.Bool.{Bool, true, false}
 use mathlib.Core.Option.{Option, none, some}
 use Rattle.grammar.specs.Text.{digit}
-use Rattle.catalogue.specs.Recogniser.{Lead as First, lead-letter, lead-wrap, lead-digit, leadS, leadN, leadL, leadNone, lead}
+use Rattle.catalogue.specs.Recogniser.{Lead as First, lead-letter, lead-wrap, lead-digit, lead-S, lead-N, lead-L, lead-none, lead}
 use Rattle.normal_steps.specs.declared.lead.Lead.{Lead}
 use Rattle.normal_steps.specs.declared.lead.Lead.the-variants.{Letter, Wrap, Digit, S, N, L, None}
 
@@ -10,10 +10,10 @@ abbrev pub class : First → Lead
 class (lead-letter l) = Letter
 class (lead-wrap q) = Wrap
 class lead-digit = Digit
-class leadS = S
-class leadN = N
-class leadL = L
-class leadNone = None
+class lead-S = S
+class lead-N = N
+class lead-L = L
+class lead-none = None
 
 abbrev pub there : {A : Type 0} → Option A → Bool
 there none = false

@@ -1,4 +1,5 @@
 pub mod Parts
+pub mod Alphabets
 pub mod Answers
 pub mod Leads
 pub mod Written

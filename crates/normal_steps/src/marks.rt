@@ -1,5 +1,6 @@
 // References behind S, and literals behind L.
 use crate::words;
+use crate::words::Alphabet;
 use grammar::numbers;
 use grammar::text;
 ghost use mathlib.Core.Path.{_≡_};
@@ -10,7 +11,6 @@ ghost use Rattle.grammar.specs.Text.{digit};
 ghost use Rattle.catalogue.specs.Bytes.{all};
 ghost use Rattle.catalogue.specs.Tree.{kb, ki, kj};
 ghost use Rattle.catalogue.specs.Class.{leading-zero, numeral as numeral-ok, lit-ok};
-ghost use Rattle.normal_walk.specs.Walk.{capital};
 ghost use Rattle.normal_steps.specs.Parts.{part};
 ghost use Rattle.normal_steps.specs.Answers.{RefIs, ValueIs, LitIs, valid-by};
 
@@ -24,30 +24,6 @@ pub enum Referred {
 pub enum Valued {
     To(usize, u8, bool, usize),
     Bad,
-}
-
-fn capital_byte(c: u8) -> bool
-    ensures { λ r. ⌜ r ≡ capital c ⌝ }
-{
-    match c {
-        b'0'..=b'9' => true,
-        b'A'..=b'Z' => true,
-        _ => false,
-    }
-}
-
-fn capitals(s: &[u8], from: usize, to: usize) -> bool
-    requires { ⌜ to ≤ length (now s) ⌝ }
-    ensures { λ r. ⌜ r ≡ all capital (part (now (s .entry)) from to) ⌝ }
-{
-    let mut i = from;
-    while i < to {
-        if !capital_byte(s[i]) {
-            return false;
-        }
-        i += 1;
-    }
-    true
 }
 
 fn leading_zero(s: &[u8], from: usize, to: usize) -> bool
@@ -72,7 +48,7 @@ pub fn reference(s: &[u8], at: usize) -> Referred
     if !text::starts_with(s, end, b"_") {
         return Referred::Bad;
     }
-    if !capitals(s, at, end) {
+    if !words::all_in(s, at, end, Alphabet::Capitals) {
         return Referred::Bad;
     }
     if leading_zero(s, at, end) {

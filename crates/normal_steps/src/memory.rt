@@ -15,7 +15,7 @@ ghost use Rattle.catalogue.specs.Spelling.{name-bytes};
 ghost use Rattle.normal_nodes.specs.Nodes.{Notes, node, same-node, note-last-is, settled, pushed};
 ghost use Rattle.normal_steps.specs.Parts.{part};
 ghost use Rattle.normal_steps.specs.Seeks.{Sought};
-ghost use Rattle.normal_steps.specs.Holds.{Holds, Ready, Tag, Room, Steps, Does, Puts, Inside, node-in, nodes-in, notes-node, most-number};
+ghost use Rattle.normal_steps.specs.Holds.{Work, work, notes-to, Holds, Ready, ReadyNotes, Tag, Room, Steps, Does, Puts, Inside, node-in, nodes-in, notes-node, most-number};
 ghost use Rattle.normal_steps.specs.Rows.{row-at, rows-of};
 
 // A byte is written.
@@ -51,7 +51,7 @@ pub fn put_name(out: &mut [u8], p: Writer, s: &[u8], from: usize, to: usize) -> 
 
 // The tag of the tree with the number d.
 pub fn tag_of(notes: &[u16], p: Writer, d: usize) -> usize
-    requires { ⌜ ((s : Text) × ((o : Text) × Ready s o (now notes) p)) ⌝ }
+    requires { ⌜ ((s : Text) × ReadyNotes s (now notes) p) ⌝ }
     ensures { λ r. ⌜ Tag (now (notes .entry)) p d r ⌝ }
 {
     if d < Writer::LEAST {
@@ -66,16 +66,16 @@ pub fn tag_of(notes: &[u16], p: Writer, d: usize) -> usize
 
 // The number of entry i of the table.
 pub fn entry(notes: &[u16], p: Writer, i: usize) -> usize
-    requires { ⌜ (i < p .table) × ((s : Text) × ((o : Text) × Ready s o (now notes) p)) ⌝ }
-    ensures { λ r. ⌜ ((s o : Text) (σ : Notes) → Holds s o (now (notes .entry)) p σ → (getElem? (σ .table) i ≡ some r) × (r < most-number)) ⌝ }
+    requires { ⌜ (i < p .table) × ((s : Text) × ReadyNotes s (now notes) p) ⌝ }
+    ensures { λ r. ⌜ ((s : Text) (ws : Work) (σ : Notes) → Holds s (notes-to ws (now (notes .entry))) p σ → (getElem? (σ .table) i ≡ some r) × (r < most-number)) ⌝ }
 {
     notes[Writer::TABLE + i] as usize
 }
 
 // Whether the newest entry of the table is d.
 pub fn newest(notes: &[u16], p: Writer, d: usize) -> bool
-    requires { ⌜ ((s : Text) × ((o : Text) × Ready s o (now notes) p)) ⌝ }
-    ensures { λ r. ⌜ ((s o : Text) (σ : Notes) → Holds s o (now (notes .entry)) p σ → r ≡ note-last-is d (σ .table)) ⌝ }
+    requires { ⌜ ((s : Text) × ReadyNotes s (now notes) p) ⌝ }
+    ensures { λ r. ⌜ ((s : Text) (ws : Work) (σ : Notes) → Holds s (notes-to ws (now (notes .entry))) p σ → r ≡ note-last-is d (σ .table)) ⌝ }
 {
     let n = p.table;
     if n == 0 {
@@ -101,8 +101,8 @@ fn seek(numbers: &[u16], n: usize, d: usize) -> usize
 
 // Where what has the number d is in the table, its reference takes the place of what was written from `from` on.
 pub fn settle(out: &mut [u8], notes: &[u16], p: Writer, d: usize, from: usize) -> Writer
-    requires { ⌜ (from ≤ p .out) × ((Room 0 0 5 p) × ((s : Text) × Ready s (now out) (now notes) p)) ⌝ }
-    ensures { λ r. ⌜ ((s : Text) → Does 0 0 5 from (settled d from) s (now (out .entry)) (now (notes .entry)) (now (out .exit)) (now (notes .entry)) p r) ⌝ }
+    requires { ⌜ (from ≤ p .out) × ((Room 0 0 5 p) × ((s : Text) × Ready s (work (now out) (now notes)) p)) ⌝ }
+    ensures { λ r. ⌜ ((s : Text) → Does 0 0 5 from (settled d from) s (work (now (out .entry)) (now (notes .entry))) (work (now (out .exit)) (now (notes .entry))) p r) ⌝ }
 {
     let n = p.firsts;
     let i = seek(&notes[Writer::FIRSTS..], n, d);
@@ -115,8 +115,8 @@ pub fn settle(out: &mut [u8], notes: &[u16], p: Writer, d: usize, from: usize) -
 
 // What has the number d is the newest entry of the table.
 pub fn push(notes: &mut [u16], p: Writer, d: usize) -> Writer
-    requires { ⌜ (d < most-number) × ((Room 0 1 0 p) × ((s : Text) × ((o : Text) × Ready s o (now notes) p))) ⌝ }
-    ensures { λ r. ⌜ ((s o : Text) → Does 0 1 0 (p .out) (pushed d) s o (now (notes .entry)) o (now (notes .exit)) p r) ⌝ }
+    requires { ⌜ (d < most-number) × ((Room 0 1 0 p) × ((s : Text) × ReadyNotes s (now notes) p)) ⌝ }
+    ensures { λ r. ⌜ ((s : Text) (ws : Work) → Does 0 1 0 (p .out) (pushed d) s (notes-to ws (now (notes .entry))) (notes-to ws (now (notes .exit))) p r) ⌝ }
 {
     let n = p.table;
     let m = p.firsts;
@@ -186,9 +186,9 @@ pub fn note(
     to: usize,
 ) -> Told
     requires { ⌜ ((tag < 65536) × (of < 65536)) × (((from ≤ to) × (to ≤ length (now s)))
-        × ((Room 1 0 0 p) × ((o : Text) × Ready (now s) o (now notes) p))) ⌝ }
-    ensures { λ r. ⌜ ((o : Text) → Steps 1 0 0 (p .out) (notes-node (node tag of (part (now (s .entry)) from to)))
-        (now (s .entry)) o (now (notes .entry)) o (now (notes .exit)) p r) ⌝ }
+        × ((Room 1 0 0 p) × ReadyNotes (now s) (now notes) p)) ⌝ }
+    ensures { λ r. ⌜ ((ws : Work) → Steps 1 0 0 (p .out) (notes-node (node tag of (part (now (s .entry)) from to)))
+        (now (s .entry)) (notes-to ws (now (notes .entry))) (notes-to ws (now (notes .exit))) p r) ⌝ }
 {
     let n = p.nodes;
     let i = node_place(s, notes, n, tag, of, from, to);

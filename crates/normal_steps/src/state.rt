@@ -3,11 +3,17 @@ ghost use mathlib.Core.Path.{_≡_};
 ghost use Rattle.normal_steps.specs.States.{begun-at, moved-to, written-to, noted-to, entered-to, counted-to};
 
 pub struct Writer {
+    // the place in the symbol of the next byte to be read
     pub at: usize,
+    // the bytes of the normal symbol that are written
     pub out: usize,
+    // the nodes: a number for each tree that is not a letter
     pub nodes: usize,
+    // the entries of the reading's table
     pub table: usize,
+    // the entries of the normal symbol's table: those without later doubles
     pub firsts: usize,
+    // the template arguments read, of all lists together
     pub args: usize,
 }
 

@@ -14,11 +14,11 @@ ghost use lib.Dec.{eqb};
 ghost use lib.ListN.{length};
 ghost use Rattle.grammar.specs.Text.{Text};
 ghost use Rattle.normal_nodes.specs.Nodes.{note-at-name, at-reference, a-bare, a-class, may-stand, signed-kind, entered, entered-nested};
-ghost use Rattle.normal_steps.specs.Holds.{Ready, Room, Reads, Steps, Does, Copies, most-number, at-literal, at-part, counts-arg, wraps, closed};
+ghost use Rattle.normal_steps.specs.Holds.{Work, work, notes-to, Ready, ReadyOut, ReadyNotes, Room, Reads, Steps, Does, Copies, Closes, most-number, at-literal, at-part, counts-arg, wraps};
 
 // The next byte is written, and taken.
 pub fn copy_byte(s: &[u8], out: &mut [u8], p: Writer) -> Writer
-    requires { ⌜ (p .at < length (now s)) × ((n : Text) × Ready (now s) (now out) n p) ⌝ }
+    requires { ⌜ (p .at < length (now s)) × ReadyOut (now s) (now out) p ⌝ }
     ensures { λ r. ⌜ Copies (now (s .entry)) (now (out .entry)) (now (out .exit)) p r ⌝ }
 {
     let at = p.at;
@@ -27,16 +27,16 @@ pub fn copy_byte(s: &[u8], out: &mut [u8], p: Writer) -> Writer
 
 // E is written.
 pub fn close(out: &mut [u8], p: Writer) -> Writer
-    requires { ⌜ (Room 0 0 1 p) × ((s : Text) × ((n : Text) × Ready s (now out) n p)) ⌝ }
-    ensures { λ r. ⌜ ((s n : Text) → Does 0 0 1 (p .out) closed s (now (out .entry)) n (now (out .exit)) n p r) ⌝ }
+    requires { ⌜ (Room 0 0 1 p) × ((s : Text) × ReadyOut s (now out) p) ⌝ }
+    ensures { λ r. ⌜ Closes (now (out .entry)) (now (out .exit)) p r ⌝ }
 {
     memory::put_byte(out, p, b'E')
 }
 
 // <source-name>, a first part
 pub fn first_name(s: &[u8], out: &mut [u8], notes: &mut [u16], p: Writer) -> Told
-    requires { ⌜ Ready (now s) (now out) (now notes) p ⌝ }
-    ensures { λ r. ⌜ Reads 2 (p .out) (note-at-name (p .out)) (now (s .entry)) (now (out .entry)) (now (notes .entry)) (now (out .exit)) (now (notes .exit)) p r ⌝ }
+    requires { ⌜ Ready (now s) (work (now out) (now notes)) p ⌝ }
+    ensures { λ r. ⌜ Reads 2 (p .out) (note-at-name (p .out)) (now (s .entry)) (work (now (out .entry)) (now (notes .entry))) (work (now (out .exit)) (now (notes .exit))) p r ⌝ }
 {
     let at = p.at;
     let Named::At(from, to) = words::source_name(s, at) else {
@@ -52,8 +52,8 @@ pub fn first_name(s: &[u8], out: &mut [u8], notes: &mut [u16], p: Writer) -> Tol
 
 // [<seq-id>] _, behind S: an entry of the table
 pub fn first_reference(s: &[u8], out: &mut [u8], notes: &mut [u16], p: Writer) -> Told
-    requires { ⌜ Ready (now s) (now out) (now notes) p ⌝ }
-    ensures { λ r. ⌜ Reads 1 (p .out) (at-reference (p .out)) (now (s .entry)) (now (out .entry)) (now (notes .entry)) (now (out .exit)) (now (notes .exit)) p r ⌝ }
+    requires { ⌜ Ready (now s) (work (now out) (now notes)) p ⌝ }
+    ensures { λ r. ⌜ Reads 1 (p .out) (at-reference (p .out)) (now (s .entry)) (work (now (out .entry)) (now (notes .entry))) (work (now (out .exit)) (now (notes .exit))) p r ⌝ }
 {
     let at = p.at;
     let Referred::To(i, end) = marks::reference(s, at) else {
@@ -79,8 +79,8 @@ fn signed(kind: u8, minus: bool) -> usize
 
 // A literal, behind L
 pub fn literal(s: &[u8], out: &mut [u8], notes: &mut [u16], p: Writer) -> Told
-    requires { ⌜ Ready (now s) (now out) (now notes) p ⌝ }
-    ensures { λ r. ⌜ Reads 1 (p .out) at-literal (now (s .entry)) (now (out .entry)) (now (notes .entry)) (now (out .exit)) (now (notes .exit)) p r ⌝ }
+    requires { ⌜ Ready (now s) (work (now out) (now notes)) p ⌝ }
+    ensures { λ r. ⌜ Reads 1 (p .out) at-literal (now (s .entry)) (work (now (out .entry)) (now (notes .entry))) (work (now (out .exit)) (now (notes .exit))) p r ⌝ }
 {
     let at = p.at;
     let Valued::To(to, kind, minus, from) = marks::literal(s, at) else {
@@ -101,8 +101,8 @@ pub fn literal(s: &[u8], out: &mut [u8], notes: &mut [u16], p: Writer) -> Told
 
 // One more part behind what has the number t
 pub fn part(s: &[u8], out: &mut [u8], notes: &mut [u16], p: Writer, t: usize) -> Told
-    requires { ⌜ (t < most-number) × Ready (now s) (now out) (now notes) p ⌝ }
-    ensures { λ r. ⌜ Reads 1 (p .out) (at-part t) (now (s .entry)) (now (out .entry)) (now (notes .entry)) (now (out .exit)) (now (notes .exit)) p r ⌝ }
+    requires { ⌜ (t < most-number) × Ready (now s) (work (now out) (now notes)) p ⌝ }
+    ensures { λ r. ⌜ Reads 1 (p .out) (at-part t) (now (s .entry)) (work (now (out .entry)) (now (notes .entry))) (work (now (out .exit)) (now (notes .exit))) p r ⌝ }
 {
     let at = p.at;
     let Named::At(from, to) = words::source_name(s, at) else {
@@ -114,8 +114,8 @@ pub fn part(s: &[u8], out: &mut [u8], notes: &mut [u16], p: Writer, t: usize) ->
 
 // The argument x behind what has the number t
 pub fn arg(s: &[u8], notes: &mut [u16], p: Writer, t: usize, x: usize) -> Told
-    requires { ⌜ (t < most-number) × ((x < most-number) × ((Room 1 0 0 p) × ((o : Text) × Ready (now s) o (now notes) p))) ⌝ }
-    ensures { λ r. ⌜ ((o : Text) → Steps 1 0 0 (p .out) (counts-arg t x) (now (s .entry)) o (now (notes .entry)) o (now (notes .exit)) p r) ⌝ }
+    requires { ⌜ (t < most-number) × ((x < most-number) × ((Room 1 0 0 p) × ReadyNotes (now s) (now notes) p)) ⌝ }
+    ensures { λ r. ⌜ ((ws : Work) → Steps 1 0 0 (p .out) (counts-arg t x) (now (s .entry)) (notes-to ws (now (notes .entry))) (notes-to ws (now (notes .exit))) p r) ⌝ }
 {
     let Told::Number(noted, u) = memory::note(s, notes, p, x + Writer::LEAST, t, 0, 0) else {
         return Told::Bad;
@@ -176,8 +176,8 @@ pub fn wrap(
     t: usize,
     from: usize,
 ) -> Told
-    requires { ⌜ (t < most-number) × ((from ≤ p .out) × ((Room 1 1 5 p) × Ready (now s) (now out) (now notes) p)) ⌝ }
-    ensures { λ r. ⌜ Steps 1 1 5 from (wraps c t from) (now (s .entry)) (now (out .entry)) (now (notes .entry)) (now (out .exit)) (now (notes .exit)) p r ⌝ }
+    requires { ⌜ (t < most-number) × ((from ≤ p .out) × ((Room 1 1 5 p) × Ready (now s) (work (now out) (now notes)) p)) ⌝ }
+    ensures { λ r. ⌜ Steps 1 1 5 from (wraps c t from) (now (s .entry)) (work (now (out .entry)) (now (notes .entry))) (work (now (out .exit)) (now (notes .exit))) p r ⌝ }
 {
     if !may_stand(c, memory::tag_of(notes, p, t)) {
         return Told::Bad;
@@ -190,8 +190,8 @@ pub fn wrap(
 
 // What has the number u enters the table.
 pub fn enter(out: &mut [u8], notes: &mut [u16], p: Writer, u: usize, from: usize) -> Writer
-    requires { ⌜ (u < most-number) × ((from ≤ p .out) × ((Room 0 1 5 p) × ((s : Text) × Ready s (now out) (now notes) p))) ⌝ }
-    ensures { λ r. ⌜ ((s : Text) → Does 0 1 5 from (entered u from) s (now (out .entry)) (now (notes .entry)) (now (out .exit)) (now (notes .exit)) p r) ⌝ }
+    requires { ⌜ (u < most-number) × ((from ≤ p .out) × ((Room 0 1 5 p) × ((s : Text) × Ready s (work (now out) (now notes)) p))) ⌝ }
+    ensures { λ r. ⌜ ((s : Text) → Does 0 1 5 from (entered u from) s (work (now (out .entry)) (now (notes .entry))) (work (now (out .exit)) (now (notes .exit))) p r) ⌝ }
 {
     let settled = memory::settle(out, notes, p, u, from);
     memory::push(notes, settled, u)
@@ -199,8 +199,8 @@ pub fn enter(out: &mut [u8], notes: &mut [u16], p: Writer, u: usize, from: usize
 
 // A nested type enters the table, where the newest entry is another.
 pub fn enter_nested(out: &mut [u8], notes: &mut [u16], p: Writer, u: usize, from: usize) -> Writer
-    requires { ⌜ (u < most-number) × ((from ≤ p .out) × ((Room 0 1 5 p) × ((s : Text) × Ready s (now out) (now notes) p))) ⌝ }
-    ensures { λ r. ⌜ ((s : Text) → Does 0 1 5 from (entered-nested u from) s (now (out .entry)) (now (notes .entry)) (now (out .exit)) (now (notes .exit)) p r) ⌝ }
+    requires { ⌜ (u < most-number) × ((from ≤ p .out) × ((Room 0 1 5 p) × ((s : Text) × Ready s (work (now out) (now notes)) p))) ⌝ }
+    ensures { λ r. ⌜ ((s : Text) → Does 0 1 5 from (entered-nested u from) s (work (now (out .entry)) (now (notes .entry))) (work (now (out .exit)) (now (notes .exit))) p r) ⌝ }
 {
     if memory::tag_of(notes, p, u) == b'N' as usize {
         if memory::newest(notes, p, u) {

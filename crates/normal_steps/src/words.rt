@@ -4,16 +4,24 @@ use grammar::text;
 use store::stack;
 ghost use mathlib.Core.Path.{_≡_};
 ghost use Prim.Native.Nat.{_≤_};
-ghost use lib.ListN.{length, drop};
+ghost use lib.ListN.{length};
 ghost use Rattle.grammar.specs.Text.{same};
 ghost use Rattle.catalogue.specs.Bytes.{all};
 ghost use Rattle.catalogue.specs.Class.{word-byte, reserved, listed, name-ok};
+ghost use Rattle.normal_walk.specs.Walk.{capital};
 ghost use Rattle.normal_steps.specs.Parts.{part};
+ghost use Rattle.normal_steps.specs.Alphabets.{in-alphabet};
 ghost use Rattle.normal_steps.specs.Answers.{NameIs};
 
 pub enum Named {
     At(usize, usize),
     Bad,
+}
+
+// Letters, digits and `_`; or digits and capitals.
+pub enum Alphabet {
+    Words,
+    Capitals,
 }
 
 // A letter, a digit or `_`.
@@ -26,13 +34,33 @@ fn word_byte(c: u8) -> bool
     c == b'_'
 }
 
-fn word_bytes(s: &[u8], from: usize, to: usize) -> bool
+// A digit or a capital.
+fn capital_byte(c: u8) -> bool
+    ensures { λ r. ⌜ r ≡ capital c ⌝ }
+{
+    match c {
+        b'0'..=b'9' => true,
+        b'A'..=b'Z' => true,
+        _ => false,
+    }
+}
+
+fn in_alphabet(alphabet: Alphabet, c: u8) -> bool
+    ensures { λ r. ⌜ r ≡ in-alphabet alphabet c ⌝ }
+{
+    match alphabet {
+        Alphabet::Words => word_byte(c),
+        Alphabet::Capitals => capital_byte(c),
+    }
+}
+
+pub fn all_in(s: &[u8], from: usize, to: usize, alphabet: Alphabet) -> bool
     requires { ⌜ to ≤ length (now s) ⌝ }
-    ensures { λ r. ⌜ r ≡ all word-byte (part (now (s .entry)) from to) ⌝ }
+    ensures { λ r. ⌜ r ≡ all (in-alphabet alphabet) (part (now (s .entry)) from to) ⌝ }
 {
     let mut i = from;
     while i < to {
-        if !word_byte(s[i]) {
+        if !in_alphabet(alphabet, s[i]) {
             return false;
         }
         i += 1;
@@ -63,55 +91,24 @@ pub fn same_word(s: &[u8], a: usize, b: usize, from: usize, to: usize) -> bool
     stack::same_part(s, a, s, from, n)
 }
 
-// Whether a part is one of the last seven reserved words.
-fn listed_last(s: &[u8], from: usize, to: usize) -> bool
-    requires { ⌜ (from ≤ to) × (to ≤ length (now s)) ⌝ }
-    ensures { λ r. ⌜ r ≡ listed (part (now (s .entry)) from to) (drop 6 reserved) ⌝ }
-{
-    if is_word(s, from, to, b"long") {
-        return true;
-    }
-    if is_word(s, from, to, b"__int128") {
-        return true;
-    }
-    if is_word(s, from, to, b"float") {
-        return true;
-    }
-    if is_word(s, from, to, b"double") {
-        return true;
-    }
-    if is_word(s, from, to, b"__float128") {
-        return true;
-    }
-    if is_word(s, from, to, b"true") {
-        return true;
-    }
-    is_word(s, from, to, b"false")
-}
-
+// No test ends the others, since most names are not reserved.
 fn is_reserved(s: &[u8], from: usize, to: usize) -> bool
     requires { ⌜ (from ≤ to) × (to ≤ length (now s)) ⌝ }
     ensures { λ r. ⌜ r ≡ listed (part (now (s .entry)) from to) reserved ⌝ }
 {
-    if is_word(s, from, to, b"void") {
-        return true;
-    }
-    if is_word(s, from, to, b"wchar_t") {
-        return true;
-    }
-    if is_word(s, from, to, b"bool") {
-        return true;
-    }
-    if is_word(s, from, to, b"char") {
-        return true;
-    }
-    if is_word(s, from, to, b"short") {
-        return true;
-    }
-    if is_word(s, from, to, b"int") {
-        return true;
-    }
-    listed_last(s, from, to)
+    is_word(s, from, to, b"void")
+        | is_word(s, from, to, b"wchar_t")
+        | is_word(s, from, to, b"bool")
+        | is_word(s, from, to, b"char")
+        | is_word(s, from, to, b"short")
+        | is_word(s, from, to, b"int")
+        | is_word(s, from, to, b"long")
+        | is_word(s, from, to, b"__int128")
+        | is_word(s, from, to, b"float")
+        | is_word(s, from, to, b"double")
+        | is_word(s, from, to, b"__float128")
+        | is_word(s, from, to, b"true")
+        | is_word(s, from, to, b"false")
 }
 
 // Whether a part may be a source name.
@@ -125,7 +122,7 @@ pub fn word_ok(s: &[u8], from: usize, to: usize) -> bool
     if numbers::digit_value(s[from]) < 10 {
         return false;
     }
-    if !word_bytes(s, from, to) {
+    if !all_in(s, from, to, Alphabet::Words) {
         return false;
     }
     !is_reserved(s, from, to)

@@ -15,7 +15,7 @@ use Rattle.catalogue.specs.Tree.{Kind, Ty, Args, letter, wrap, root, sub, app, 
 use Rattle.catalogue.specs.Spelling.{ref-bytes, name-bytes, minus, const-byte}
 use Rattle.catalogue.specs.Class.{name-ok, leading-zero, lit-ok, stands, push, push-new, most-arguments}
 use Rattle.catalogue.specs.Normal.{seek, known}
-use Rattle.catalogue.specs.Recogniser.{Rd, rd, stop, bind, if-next, read-name, with-code, all-kinds, Lead, lead-letter, lead-wrap, lead-digit, leadS, leadN, leadL, leadNone, lead}
+use Rattle.catalogue.specs.Recogniser.{Rd, rd, stop, bind, if-next, read-name, with-code, all-kinds, Lead, lead-letter, lead-wrap, lead-digit, lead-S, lead-N, lead-L, lead-none, lead}
 
 -- what is read, the bytes written for it, the table, the arguments so far, the bytes left; or the symbol is outside the class
 pub data Walk (A : Type 0) : Type 0 where
@@ -130,27 +130,27 @@ at-lead lead-digit c vs k s type args parts =
     if-next (code "I") r (λ r′. with-args (root n) (wrote (root n) vs (name-bytes n)) (args (push (root n) vs) k r′) enter)
     (enter (root n) (name-bytes n) vs k r))
 -- S [<seq-id>] _ [I <template-args> E]
-at-lead leadS c vs k s type args parts =
+at-lead lead-S c vs k s type args parts =
     with (reference s) (λ i r. choose (getElem? vs i) (λ t.
     if-next (code "I") r (λ r′. when (single t && is-bare t) (with-args t (wrote t vs []) (args vs k r′) enter))
     (got t (wrote t vs []) vs k r)) bad)
 -- N <parts> E, two or more
-at-lead leadN c vs k s type args parts =
+at-lead lead-N c vs k s type args parts =
     next (parts vs k s) (λ u w vs′ k′ r. when (not (single u)) (got u (wrote u vs′ (in-brackets c w)) (enter-nested u vs′) k′ r))
 -- L <literal> E
-at-lead leadL c vs k s type args parts = with (literal s) (λ t r. got t (lit-bytes t) vs k r)
-at-lead leadNone c vs k s type args parts = bad
+at-lead lead-L c vs k s type args parts = with (literal s) (λ t r. got t (lit-bytes t) vs k r)
+at-lead lead-none c vs k s type args parts = bad
 
 -- <parts> ::= <source-name> <more> | S [<seq-id>] _ <more>
 abbrev pub at-parts : Lead → ℕ → List Ty → ℕ → Text → (Ty → Text → Walker Ty) → Walk Ty
 at-parts (lead-letter l) c vs k s more = bad
 at-parts (lead-wrap q) c vs k s more = bad
 at-parts lead-digit c vs k s more = with (name (c ∷ s)) (λ n r. more (root n) (wrote (root n) vs (name-bytes n)) (push (root n) vs) k r)
-at-parts leadS c vs k s more =
+at-parts lead-S c vs k s more =
     with (reference s) (λ i r. choose (getElem? vs i) (λ t. when (is-class t) (more t (wrote t vs []) vs k r)) bad)
-at-parts leadN c vs k s more = bad
-at-parts leadL c vs k s more = bad
-at-parts leadNone c vs k s more = bad
+at-parts lead-N c vs k s more = bad
+at-parts lead-L c vs k s more = bad
+at-parts lead-none c vs k s more = bad
 
 -- behind one more part or its arguments: E, and u is the class; or u is leading parts and enters the table
 abbrev pub end-or : (Ty → Text → Walker Ty) → Ty → Text → Walker Ty
@@ -169,11 +169,11 @@ at-arg t w vs k r args =
 
 -- the number counts down; it is never below the number of bytes left
 unfoldable mutual
-  pub walkType : ℕ → Walker Ty
-  walkType zero vs k s = bad
-  walkType (suc f) vs k [] = bad
-  walkType (suc f) vs k (c ∷ s) =
-      at-lead (lead c) c vs k s (λ vs′ k′ r. walkType f vs′ k′ r) (λ vs′ k′ r. walk-args f vs′ k′ r) (λ vs′ k′ r. walk-parts f vs′ k′ r)
+  pub walk-type : ℕ → Walker Ty
+  walk-type zero vs k s = bad
+  walk-type (suc f) vs k [] = bad
+  walk-type (suc f) vs k (c ∷ s) =
+      at-lead (lead c) c vs k s (λ vs′ k′ r. walk-type f vs′ k′ r) (λ vs′ k′ r. walk-args f vs′ k′ r) (λ vs′ k′ r. walk-parts f vs′ k′ r)
 
   -- behind N: the class in full and the table without its own entry
   pub walk-parts : ℕ → Walker Ty
@@ -191,7 +191,7 @@ unfoldable mutual
   pub walk-args : ℕ → Walker Args
   walk-args zero vs k s = bad
   walk-args (suc f) vs k s =
-      next (walkType f vs k s) (λ t w vs′ k′ r. at-arg t w vs′ k′ r (λ vs″ k″ r′. walk-args f vs″ k″ r′))
+      next (walk-type f vs k s) (λ t w vs′ k′ r. at-arg t w vs′ k′ r (λ vs″ k″ r′. walk-args f vs″ k″ r′))
 
 -- ---------------------------------------------------------------- whole symbols
 
@@ -204,7 +204,7 @@ at-end t w vs k (c ∷ r) types = next (types vs k (c ∷ r)) (λ xs v vs′ k�
 unfoldable pub walk-types : ℕ → Walker Args
 walk-types zero vs k s = bad
 walk-types (suc f) vs k s =
-    next (walkType f vs k s) (λ t w vs′ k′ r. when (not (is-lit t)) (at-end t w vs′ k′ r (λ vs″ k″ r′. walk-types f vs″ k″ r′)))
+    next (walk-type f vs k s) (λ t w vs′ k′ r. when (not (is-lit t)) (at-end t w vs′ k′ r (λ vs″ k″ r′. walk-types f vs″ k″ r′)))
 
 -- behind N or NK: <parts> E, without arguments at the end; it makes no entry
 abbrev pub at-scoped : Bool → Walk Ty → Walk Bool

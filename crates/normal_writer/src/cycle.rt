@@ -10,15 +10,15 @@ use normal_steps::steps;
 ghost use Prim.Native.Nat.{ℕ, _≤_, _<_};
 ghost use lib.ListN.{length};
 ghost use Rattle.catalogue.specs.Tree.{Wrap};
-ghost use Rattle.catalogue.specs.Recogniser.{lead-wrap, lead-digit, leadS, leadN};
+ghost use Rattle.catalogue.specs.Recogniser.{lead-wrap, lead-digit, lead-S, lead-N};
 ghost use Rattle.normal_nodes.specs.Nodes.{note-type, note-args, note-parts, note-more};
-ghost use Rattle.normal_steps.specs.Holds.{Ready, Fueled, most-number};
+ghost use Rattle.normal_steps.specs.Holds.{work, Ready, Fueled, most-number};
 ghost use Rattle.normal_writer.specs.Cycle.{Leads, WithArgs};
 
 // <type>, <template-arg>
 pub fn ty(s: &[u8], out: &mut [u8], notes: &mut [u16], p: Writer) -> Told
-    requires { ⌜ Ready (now s) (now out) (now notes) p ⌝ }
-    ensures { λ r. ⌜ Fueled 1 (p .out) 0 note-type (now (s .entry)) (now (out .entry)) (now (notes .entry)) (now (out .exit)) (now (notes .exit)) p r ⌝ }
+    requires { ⌜ Ready (now s) (work (now out) (now notes)) p ⌝ }
+    ensures { λ r. ⌜ Fueled 1 (p .out) 0 note-type (now (s .entry)) (work (now (out .entry)) (now (notes .entry))) (work (now (out .exit)) (now (notes .exit))) p r ⌝ }
 {
     let at = p.at;
     if s.len() <= at {
@@ -38,8 +38,8 @@ pub fn ty(s: &[u8], out: &mut [u8], notes: &mut [u16], p: Writer) -> Told
 
 // P R O K V <type>
 fn wrap(s: &[u8], out: &mut [u8], notes: &mut [u16], p: Writer, c: u8) -> Told
-    requires { ⌜ (p .at < length (now s)) × Ready (now s) (now out) (now notes) p ⌝ }
-    ensures { λ r. ⌜ ((q : Wrap) → Leads (lead-wrap q) c (now (s .entry)) (now (out .entry)) (now (notes .entry)) (now (out .exit)) (now (notes .exit)) p r) ⌝ }
+    requires { ⌜ (p .at < length (now s)) × Ready (now s) (work (now out) (now notes)) p ⌝ }
+    ensures { λ r. ⌜ ((q : Wrap) → Leads (lead-wrap q) c (now (s .entry)) (work (now (out .entry)) (now (notes .entry))) (work (now (out .exit)) (now (notes .exit))) p r) ⌝ }
 {
     let from = p.out;
     let behind = steps::copy_byte(s, out, p);
@@ -51,8 +51,8 @@ fn wrap(s: &[u8], out: &mut [u8], notes: &mut [u16], p: Writer, c: u8) -> Told
 
 // <source-name> [I <template-args> E]
 fn named(s: &[u8], out: &mut [u8], notes: &mut [u16], p: Writer) -> Told
-    requires { ⌜ (p .at < length (now s)) × Ready (now s) (now out) (now notes) p ⌝ }
-    ensures { λ r. ⌜ ((c : ℕ) → Leads lead-digit c (now (s .entry)) (now (out .entry)) (now (notes .entry)) (now (out .exit)) (now (notes .exit)) p r) ⌝ }
+    requires { ⌜ (p .at < length (now s)) × Ready (now s) (work (now out) (now notes)) p ⌝ }
+    ensures { λ r. ⌜ ((c : ℕ) → Leads lead-digit c (now (s .entry)) (work (now (out .entry)) (now (notes .entry))) (work (now (out .exit)) (now (notes .exit))) p r) ⌝ }
 {
     let from = p.out;
     let Told::Number(next, t) = steps::first_name(s, out, notes, p) else {
@@ -63,8 +63,8 @@ fn named(s: &[u8], out: &mut [u8], notes: &mut [u16], p: Writer) -> Told
 
 // S [<seq-id>] _ [I <template-args> E]
 fn referred(s: &[u8], out: &mut [u8], notes: &mut [u16], p: Writer) -> Told
-    requires { ⌜ (p .at < length (now s)) × Ready (now s) (now out) (now notes) p ⌝ }
-    ensures { λ r. ⌜ ((c : ℕ) → Leads leadS c (now (s .entry)) (now (out .entry)) (now (notes .entry)) (now (out .exit)) (now (notes .exit)) p r) ⌝ }
+    requires { ⌜ (p .at < length (now s)) × Ready (now s) (work (now out) (now notes)) p ⌝ }
+    ensures { λ r. ⌜ ((c : ℕ) → Leads lead-S c (now (s .entry)) (work (now (out .entry)) (now (notes .entry))) (work (now (out .exit)) (now (notes .exit))) p r) ⌝ }
 {
     let from = p.out;
     let at = p.at;
@@ -76,8 +76,8 @@ fn referred(s: &[u8], out: &mut [u8], notes: &mut [u16], p: Writer) -> Told
 
 // [I <template-args> E], behind a class of one part
 fn with_args(s: &[u8], out: &mut [u8], notes: &mut [u16], p: Writer, t: usize, from: usize) -> Told
-    requires { ⌜ ((t < most-number) × (from ≤ p .out)) × Ready (now s) (now out) (now notes) p ⌝ }
-    ensures { λ r. ⌜ WithArgs t from (now (s .entry)) (now (out .entry)) (now (notes .entry)) (now (out .exit)) (now (notes .exit)) p r ⌝ }
+    requires { ⌜ ((t < most-number) × (from ≤ p .out)) × Ready (now s) (work (now out) (now notes)) p ⌝ }
+    ensures { λ r. ⌜ WithArgs t from (now (s .entry)) (work (now (out .entry)) (now (notes .entry))) (work (now (out .exit)) (now (notes .exit))) p r ⌝ }
 {
     if !bytes::starts_with(s, p.at, b"I") {
         return Told::Number(p, t);
@@ -95,8 +95,8 @@ fn with_args(s: &[u8], out: &mut [u8], notes: &mut [u16], p: Writer, t: usize, f
 
 // <template-arg>+ E, behind what has the number t
 pub fn args(s: &[u8], out: &mut [u8], notes: &mut [u16], p: Writer, t: usize) -> Told
-    requires { ⌜ (t < most-number) × Ready (now s) (now out) (now notes) p ⌝ }
-    ensures { λ r. ⌜ Fueled 0 (p .out) 1 (λ m. note-args m t) (now (s .entry)) (now (out .entry)) (now (notes .entry)) (now (out .exit)) (now (notes .exit)) p r ⌝ }
+    requires { ⌜ (t < most-number) × Ready (now s) (work (now out) (now notes)) p ⌝ }
+    ensures { λ r. ⌜ Fueled 0 (p .out) 1 (λ m. note-args m t) (now (s .entry)) (work (now (out .entry)) (now (notes .entry))) (work (now (out .exit)) (now (notes .exit))) p r ⌝ }
 {
     let mut next = p;
     let mut of = t;
@@ -118,8 +118,8 @@ pub fn args(s: &[u8], out: &mut [u8], notes: &mut [u16], p: Writer, t: usize) ->
 
 // N <parts> E
 fn nested(s: &[u8], out: &mut [u8], notes: &mut [u16], p: Writer) -> Told
-    requires { ⌜ (p .at < length (now s)) × Ready (now s) (now out) (now notes) p ⌝ }
-    ensures { λ r. ⌜ ((c : ℕ) → Leads leadN c (now (s .entry)) (now (out .entry)) (now (notes .entry)) (now (out .exit)) (now (notes .exit)) p r) ⌝ }
+    requires { ⌜ (p .at < length (now s)) × Ready (now s) (work (now out) (now notes)) p ⌝ }
+    ensures { λ r. ⌜ ((c : ℕ) → Leads lead-N c (now (s .entry)) (work (now (out .entry)) (now (notes .entry))) (work (now (out .exit)) (now (notes .exit))) p r) ⌝ }
 {
     let from = p.out;
     let behind = steps::copy_byte(s, out, p);
@@ -132,8 +132,8 @@ fn nested(s: &[u8], out: &mut [u8], notes: &mut [u16], p: Writer) -> Told
 
 // <source-name> <more> or S [<seq-id>] _ <more>, behind N
 pub fn parts(s: &[u8], out: &mut [u8], notes: &mut [u16], p: Writer) -> Told
-    requires { ⌜ Ready (now s) (now out) (now notes) p ⌝ }
-    ensures { λ r. ⌜ Fueled 1 (p .out) 0 (λ m. note-parts m (p .out)) (now (s .entry)) (now (out .entry)) (now (notes .entry)) (now (out .exit)) (now (notes .exit)) p r ⌝ }
+    requires { ⌜ Ready (now s) (work (now out) (now notes)) p ⌝ }
+    ensures { λ r. ⌜ Fueled 1 (p .out) 0 (λ m. note-parts m (p .out)) (now (s .entry)) (work (now (out .entry)) (now (notes .entry))) (work (now (out .exit)) (now (notes .exit))) p r ⌝ }
 {
     let at = p.at;
     if s.len() <= at {
@@ -173,8 +173,8 @@ fn more(
     lone: bool,
     from: usize,
 ) -> Told
-    requires { ⌜ ((t < most-number) × (from ≤ p .out)) × Ready (now s) (now out) (now notes) p ⌝ }
-    ensures { λ r. ⌜ Fueled 1 from 1 (λ m. note-more m t lone from) (now (s .entry)) (now (out .entry)) (now (notes .entry)) (now (out .exit)) (now (notes .exit)) p r ⌝ }
+    requires { ⌜ ((t < most-number) × (from ≤ p .out)) × Ready (now s) (work (now out) (now notes)) p ⌝ }
+    ensures { λ r. ⌜ Fueled 1 from 1 (λ m. note-more m t lone from) (now (s .entry)) (work (now (out .entry)) (now (notes .entry))) (work (now (out .exit)) (now (notes .exit))) p r ⌝ }
 {
     let mut next = p;
     let mut of = t;

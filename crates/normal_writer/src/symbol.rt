@@ -13,7 +13,7 @@ ghost use lib.ListN.{length};
 ghost use Rattle.store.specs.Table.{Front};
 ghost use Rattle.normal_nodes.specs.Nodes.{note-symbol};
 ghost use Rattle.normal_steps.specs.States.{begun-at};
-ghost use Rattle.normal_steps.specs.Holds.{Ready};
+ghost use Rattle.normal_steps.specs.Holds.{work, Ready};
 ghost use Rattle.normal_writer.specs.Writes.{Plain, Scoped, Functions, Types, Writes};
 
 // The normal symbol is written; or the symbol is outside the class.
@@ -54,7 +54,7 @@ fn plain(s: &[u8], out: &mut [u8]) -> Headed
 fn scoped(s: &[u8], out: &mut [u8], notes: &mut [u16], word: &[u8], constant: bool) -> Headed
     requires { ⌜ ((length (now s) ≤ 4096) × ((2 ≤ length (now word)) × ((length (now word) ≤ 4) × (length (now word) ≤ length (now s)))))
         × ((length (now out) ≡ 65536) × (length (now notes) ≡ 24576)) ⌝ }
-    ensures { λ r. ⌜ Scoped (now (word .entry)) constant (now (s .entry)) (now (out .exit)) (now (notes .exit)) r ⌝ }
+    ensures { λ r. ⌜ Scoped (now (word .entry)) constant (now (s .entry)) (work (now (out .exit)) (now (notes .exit))) r ⌝ }
 {
     let begun = begin(out, word);
     let Told::Number(next, u) = cycle::parts(s, out, notes, begun) else {
@@ -69,7 +69,7 @@ fn scoped(s: &[u8], out: &mut [u8], notes: &mut [u16], word: &[u8], constant: bo
 // <name> ::= <source-name> | N [K] <parts> E
 fn function(s: &[u8], out: &mut [u8], notes: &mut [u16]) -> Headed
     requires { ⌜ (length (now s) ≤ 4096) × ((length (now out) ≡ 65536) × (length (now notes) ≡ 24576)) ⌝ }
-    ensures { λ r. ⌜ Functions (now (s .entry)) (now (out .exit)) (now (notes .exit)) r ⌝ }
+    ensures { λ r. ⌜ Functions (now (s .entry)) (work (now (out .exit)) (now (notes .exit))) r ⌝ }
 {
     if !bytes::starts_with(s, 2, b"N") {
         return plain(s, out);
@@ -82,8 +82,8 @@ fn function(s: &[u8], out: &mut [u8], notes: &mut [u16]) -> Headed
 
 // <type>+ to the end
 fn types(s: &[u8], out: &mut [u8], notes: &mut [u16], p: Writer) -> Written
-    requires { ⌜ Ready (now s) (now out) (now notes) p ⌝ }
-    ensures { λ r. ⌜ Types (now (s .entry)) (now (out .entry)) (now (notes .entry)) (now (out .exit)) (now (notes .exit)) p r ⌝ }
+    requires { ⌜ Ready (now s) (work (now out) (now notes)) p ⌝ }
+    ensures { λ r. ⌜ Types (now (s .entry)) (work (now (out .entry)) (now (notes .entry))) (work (now (out .exit)) (now (notes .exit))) p r ⌝ }
 {
     let mut next = p;
     while next.at < s.len() {
@@ -101,7 +101,7 @@ fn types(s: &[u8], out: &mut [u8], notes: &mut [u16], p: Writer) -> Written
 // <encoding> ::= <name> [<type>+]; at most 1,024 arguments
 pub fn write_symbol(s: &[u8], out: &mut [u8], notes: &mut [u16]) -> Written
     requires { ⌜ (length (now s) ≤ 4096) × ((length (now out) ≡ 65536) × (length (now notes) ≡ 24576)) ⌝ }
-    ensures { λ r. ⌜ Writes (now (s .entry)) (now (out .exit)) (now (notes .exit)) r (note-symbol (now (s .entry))) ⌝ }
+    ensures { λ r. ⌜ Writes (now (s .entry)) (work (now (out .exit)) (now (notes .exit))) r (note-symbol (now (s .entry))) ⌝ }
 {
     if !bytes::starts_with(s, 0, b"_Z") {
         return Written::Bad;

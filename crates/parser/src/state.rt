@@ -6,7 +6,9 @@ ghost use Rattle.parser.specs.States.{fresh, peeked, taken, deeper, at-d
 
 // How much of a table is used.
 pub struct Table {
+    // its entries
     pub count: usize,
+    // the bytes of all its entries
     pub bytes: usize,
 }
 
@@ -17,12 +19,19 @@ pub struct Part {
 }
 
 pub struct Parser {
+    // the place in the symbol of the next byte to be read
     pub at: usize,
+    // how many readings are open that `enter` counts
     pub depth: usize,
+    // the bytes of `text` that are used: the stack of texts
     pub top: usize,
+    // the substitutions, in the lower halves of `store` and `ends`
     pub subs: Table,
+    // the template arguments, in the upper halves
     pub args: Table,
+    // the qualifiers of the newest nested name
     pub cv: Part,
+    // whether the newest name has template arguments
     pub templated: bool,
 }
 

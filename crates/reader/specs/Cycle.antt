@@ -8,7 +8,7 @@ use Rattle.grammar.specs.Text.{Text}
 use lib.ListN.{length}
 use Rattle.grammar.specs.Tables.{wrappers}
 use Rattle.grammar.specs.Reader.{State, Reader, find}
-use Rattle.grammar.specs.Grammar.{reading, wrapped, name-instance, type-instance}
+use Rattle.grammar.specs.Grammar.{reading, wrapped}
 use Rattle.parser.specs.Holds.{Memory, Stands, Refines, Reads, keep}
 use Rattle.parser.specs.declared.state.Parser.{Parser}
 use Rattle.parser.specs.declared.state.Read.{Read}
@@ -25,9 +25,3 @@ abbrev pub Instance : (Text → Reader Text) → ℕ → Text → Memory → Mem
 Instance f x s m m' p r =
     (base : Text) (from : ℕ) (t : Text) (σ : State) → Stands (keep (p .depth)) (p .depth) s base from m p x t σ → length t ≤ 32768 →
     Refines (keep (p .depth)) (p .depth) s base (p .at + 1) m' r (f t σ)
-
-abbrev pub ReadsInstance : ℕ → Text → Memory → Memory → Parser → Read → Type 0
-ReadsInstance = Instance (name-instance reading)
-
-abbrev pub ReadsTypeInstance : ℕ → Text → Memory → Memory → Parser → Read → Type 0
-ReadsTypeInstance = Instance (type-instance reading)

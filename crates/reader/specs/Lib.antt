@@ -1,3 +1,4 @@
+pub mod Instances
 pub mod Cycle
 pub mod Separators
 pub mod Lists

@@ -16,3 +16,4 @@ pub mod Packs
 pub mod Funcs
 pub mod Separators
 pub mod Structors
+pub mod Instances

@@ -13,7 +13,7 @@ use Rattle.grammar.specs.Text.{Text, if_then_else_, between, digit, digit-value
 use Rattle.grammar.specs.Names.{high}
 use Rattle.catalogue.specs.Bytes.{all, and-left, and-right, eqb-eq}
 use Rattle.catalogue.specs.laws.Bytes.{all-append}
-use Rattle.catalogue.specs.Tree.{Letter, Wrap, Kind, w-p, wR, wO, wK, wV, kb, ki, kj, kl, km, letter-code, wrap-code, kind-code}
+use Rattle.catalogue.specs.Tree.{Letter, Wrap, Kind, wP, wR, wO, wK, wV, kb, ki, kj, kl, km, letter-code, wrap-code, kind-code}
 use Rattle.catalogue.specs.Spelling.{Sp, Pre, SpArgs, SpName, Sym, s-letter, s-wrap, s-ref, plain, templ, retempl, nest-sub, nest-app, s-lit, p-ref, p-root, p-sub, p-app, s-one, s-also, flat, scoped, symbol, spell, spell-pre, spell-args, spell-name, spell-params, spell-sym, ref-digits, length-digits, name-bytes, minus, const-byte}
 use Rattle.catalogue.specs.Class.{name-ok, word-byte}
 use Rattle.catalogue.specs.laws.Numbers.{digit-low, decimal-all}
@@ -60,7 +60,7 @@ letter-ascii l = every-letter (λ x. ascii
     (letter-code x) ≡ true) refl refl refl refl refl refl refl refl refl refl refl refl refl refl refl refl refl refl refl refl refl l
 
 wrap-ascii : (c : Wrap) → ascii (wrap-code c) ≡ true
-wrap-ascii w-p = refl
+wrap-ascii wP = refl
 wrap-ascii wR = refl
 wrap-ascii wO = refl
 wrap-ascii wK = refl

@@ -12,7 +12,7 @@ use Rattle.grammar.specs.Text.{Text, b, if_then_else_, same, starts, holds, dig
 use Rattle.grammar.specs.Grammar as g
 use Rattle.catalogue.specs.Bytes.{all, first, and-left}
 use Rattle.catalogue.specs.laws.Bytes.{not-true, all-append}
-use Rattle.catalogue.specs.Tree.{Letter, Wrap, w-p, wR, wO, wK, wV, letter-code, wrap-code}
+use Rattle.catalogue.specs.Tree.{Letter, Wrap, wP, wR, wO, wK, wV, letter-code, wrap-code}
 use Rattle.catalogue.specs.Spelling.{Sp, Pre, SpArgs, s-letter, s-wrap, s-ref, plain, templ, retempl, nest-sub, nest-app, s-lit, p-ref, p-root, p-sub, p-app, s-one, s-also, spell, spell-pre, spell-args, name-bytes, length-digits, ref-digits, base36, digit-of}
 use Rattle.catalogue.specs.Class.{name-ok, word-byte, listed, reserved}
 use Rattle.catalogue.specs.laws.Numbers.{Some, digit-low, decimal-value, decimal-all, decimal-some, ref-all}
@@ -135,7 +135,7 @@ letter-opens l = every-letter (λ x. opens
 
 wrap-opens : (c : Wrap) → opens (wrap-code c) ≡ true
 unfolding opens holds b
-wrap-opens w-p = refl
+wrap-opens wP = refl
 wrap-opens wR = refl
 wrap-opens wO = refl
 wrap-opens wK = refl

@@ -17,7 +17,7 @@ use Rattle.grammar.specs.Grammar.{angled, last, onto-last, slot}
 use Rattle.grammar.specs.Names.{without-slots}
 use Rattle.catalogue.specs.Bytes.{all, first, and-left, and-right, and-both, eqb-eq, same-eq}
 use Rattle.catalogue.specs.laws.Bytes.{not-true}
-use Rattle.catalogue.specs.Tree.{Letter, Wrap, Kind, Ty, Args, Enc, w-p, wR, wO, wK, wV, kb, ki, kj, kl, km, letter, wrap, root, sub, app, lit, one, also, enc, word, suffix, sign, literal, closes, last-closes, shut, print, print-args, is-void, inside, tail, print-enc}
+use Rattle.catalogue.specs.Tree.{Letter, Wrap, Kind, Ty, Args, Enc, wP, wR, wO, wK, wV, kb, ki, kj, kl, km, letter, wrap, root, sub, app, lit, one, also, enc, word, suffix, sign, literal, closes, last-closes, shut, print, print-args, is-void, inside, tail, print-enc}
 use Rattle.catalogue.specs.Class.{name-ok, word-byte, listed, reserved, numeral, leading-zero, lit-ok}
 use Rattle.catalogue.specs.laws.Numbers.{digit-36}
 use Rattle.agreement.specs.laws.Letters.{every-letter}
@@ -126,7 +126,7 @@ letter-free l = every-letter (λ x. all free
 
 suffix-free : (c : Wrap) → all free (suffix c) ≡ true
 unfolding b
-suffix-free w-p = refl
+suffix-free wP = refl
 suffix-free wR = refl
 suffix-free wO = refl
 suffix-free wK = refl
@@ -278,7 +278,7 @@ ends-letter l = every-letter (λ x. ends angle
 
 suffix-ends : (c : Wrap) (x : Text) → ends angle (x ++ suffix c) ≡ false
 unfolding ends b
-suffix-ends w-p x = ends-append angle x (suffix w-p) (omega arith)
+suffix-ends wP x = ends-append angle x (suffix wP) (omega arith)
 suffix-ends wR x = ends-append angle x (suffix wR) (omega arith)
 suffix-ends wO x = ends-append angle x (suffix wO) (omega arith)
 suffix-ends wK x = ends-append angle x (suffix wK) (omega arith)

@@ -15,7 +15,7 @@ use Rattle.catalogue.specs.Bytes.{first, and-right}
 use Rattle.catalogue.specs.laws.Bytes.{not-true, or-left}
 use borrow.Author.Tests.{ne-eqb}
 use Rattle.catalogue.specs.laws.Numbers.{digit-low}
-use Rattle.catalogue.specs.Tree.{Letter, Wrap, Kind, Ty, Args, letter, wrap, root, sub, app, lit, one, also, letter-code, wrap-code, kind-code, print, is-lit, is-ref, is-qual, is-class, is-bare, single, w-p, wR, wO, wK, wV}
+use Rattle.catalogue.specs.Tree.{Letter, Wrap, Kind, Ty, Args, letter, wrap, root, sub, app, lit, one, also, letter-code, wrap-code, kind-code, print, is-lit, is-ref, is-qual, is-class, is-bare, single, wP, wR, wO, wK, wV}
 use Rattle.catalogue.specs.Spelling.{Sp, Pre, SpArgs, s-letter, s-wrap, s-ref, plain, templ, retempl, nest-sub, nest-app, s-lit, p-ref, p-root, p-sub, p-app, s-one, s-also, spell, spell-pre, spell-args, ref-digits, name-bytes, minus}
 use Rattle.catalogue.specs.Class.{name-ok, lit-ok, stands, push, push-new, Res, wrong, entry, resolve, resolve-pre, resolve-args}
 use Rattle.catalogue.specs.Class as class
@@ -127,7 +127,7 @@ module _ (r : Text) where
 -- only a literal resolves to one, of what stands where a type may
 stands-type : (w : Wrap) (t : Ty) → stands w t ≡ true → is-lit t ≡ false
 unfolding stands
-stands-type w-p t h = not-true (is-lit t) h
+stands-type wP t h = not-true (is-lit t) h
 stands-type wR t h = or-left (is-lit t) (is-ref t) (not-true (is-lit t || is-ref t) h)
 stands-type wO t h = or-left (is-lit t) (is-ref t) (not-true (is-lit t || is-ref t) h)
 stands-type wK t h = or-left (is-lit t) (is-qual t) (not-true (is-lit t || is-qual t) h)
@@ -166,7 +166,7 @@ letter-not-L l r = every-letter (λ x. first not-L
     (letter-code x ∷ r) ≡ true) refl refl refl refl refl refl refl refl refl refl refl refl refl refl refl refl refl refl refl refl refl l
 
 wrap-not-L : (w : Wrap) (r : Text) → first not-L (wrap-code w ∷ r) ≡ true
-wrap-not-L w-p r = refl
+wrap-not-L wP r = refl
 wrap-not-L wR r = refl
 wrap-not-L wO r = refl
 wrap-not-L wK r = refl

@@ -16,7 +16,7 @@ use Rattle.grammar.specs.Grammar.{⟨type⟩, ⟨template-arg⟩, ⟨template-p
 use borrow.Author.Tests.{ne-eqb}
 use Rattle.catalogue.specs.laws.Numbers.{digit-low}
 use Rattle.catalogue.specs.Bytes.{first}
-use Rattle.catalogue.specs.Tree.{Letter, Wrap, lv, lw, lb, lc, la, lh, ls, lt, li, lj, ll, lm, lx, ly, ln, lo, lf, ld, le, lg, lz, w-p, wR, wO, wK, wV, letter-code, wrap-code, word, suffix}
+use Rattle.catalogue.specs.Tree.{Letter, Wrap, lv, lw, lb, lc, la, lh, ls, lt, li, lj, ll, lm, lx, ly, ln, lo, lf, ld, le, lg, lz, wP, wR, wO, wK, wV, letter-code, wrap-code, word, suffix}
 use Rattle.agreement.specs.laws.Verdict.{at, Verdict, Gives, in-reading, entered-by, by-code-hit, by-code-miss, at-code-hit, at-code-miss}
 use Rattle.agreement.specs.laws.Leaves.{clear, find-miss}
 use Rattle.agreement.specs.laws.Heads.{opens, no-structor, first-map}
@@ -49,7 +49,7 @@ letter-find lz r = ("...", refl, refl)
 
 pub wrap-find : (c : Wrap) (r : Text) → (w : String × String) × (find wrappers (wrap-code c ∷ r) ≡ some (w, r)) × (b (w .0) ≡ suffix c)
 unfolding find wrappers starts b if_then_else_
-wrap-find w-p r = (("*", "*"), refl, refl)
+wrap-find wP r = (("*", "*"), refl, refl)
 wrap-find wR r = (("&", "&"), refl, refl)
 wrap-find wO r = (("&&", "&&"), refl, refl)
 wrap-find wK r = ((" const", " const"), refl, refl)
@@ -57,7 +57,7 @@ wrap-find wV r = ((" volatile", " volatile"), refl, refl)
 
 pub wrap-miss : (c : Wrap) (r : Text) → (find letters (wrap-code c ∷ r) ≡ none) × (find d-letters (wrap-code c ∷ r) ≡ none)
 unfolding find letters d-letters starts b if_then_else_
-wrap-miss w-p r = (refl, refl)
+wrap-miss wP r = (refl, refl)
 wrap-miss wR r = (refl, refl)
 wrap-miss wO r = (refl, refl)
 wrap-miss wK r = (refl, refl)

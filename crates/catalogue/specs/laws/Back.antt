@@ -9,7 +9,7 @@ use Rattle.grammar.specs.Tables.{Row, _⇒_, letters}
 use Rattle.grammar.specs.Reader.{word-for}
 use Rattle.catalogue.specs.Bytes.{all, first, and-left, and-right, same-eq}
 use Rattle.catalogue.specs.laws.Bytes.{or-left, or-right, not-true, run-of, past-of}
-use Rattle.catalogue.specs.Tree.{Letter, Wrap, Kind, Ty, Args, Enc, letter, wrap, root, sub, app, lit, one, also, enc, lv, lw, lb, lc, la, lh, ls, lt, li, lj, ll, lm, lx, ly, ln, lo, lf, ld, le, lg, lz, w-p, wR, wO, wK, wV, kb, ki, kj, kl, km, same-ty-eq, is-lit, is-ref, word, suffix, sign, literal, last-closes, shut, print, print-args, is-void, inside, print-enc}
+use Rattle.catalogue.specs.Tree.{Letter, Wrap, Kind, Ty, Args, Enc, letter, wrap, root, sub, app, lit, one, also, enc, lv, lw, lb, lc, la, lh, ls, lt, li, lj, ll, lm, lx, ly, ln, lo, lf, ld, le, lg, lz, wP, wR, wO, wK, wV, kb, ki, kj, kl, km, same-ty-eq, is-lit, is-ref, word, suffix, sign, literal, last-closes, shut, print, print-args, is-void, inside, print-enc}
 use Rattle.catalogue.specs.Class.{word-byte, reserved, listed, name-ok, leading-zero, numeral, lit-ok, stands}
 use Rattle.catalogue.specs.laws.WellFormed.{Wf, WfArgs, WfEnc, wf-name}
 use Rattle.catalogue.specs.laws.Numbers.{digit-36}
@@ -94,7 +94,7 @@ word-back lz s k h = refl
 
 once : (t : Ty) → is-ref t ≡ false → ampersand t ≡ wrap wR t
 once (letter l) h = refl
-once (wrap w-p t) h = refl
+once (wrap wP t) h = refl
 once (wrap wR t) h = cc
 once (wrap wO t) h = refl
 once (wrap wK t) h = refl
@@ -109,7 +109,7 @@ no-ref t h = or-right (is-lit t) (is-ref t) (not-true (is-lit t || is-ref t) h)
 
 suffix-no : (c : Wrap) (s : Text) → NoWord (lex (suffix c ++ s))
 unfolding lex word-byte digit digit-value if_then_else_ b
-suffix-no w-p s = tt
+suffix-no wP s = tt
 suffix-no wR s = tt
 suffix-no wO s = tt
 suffix-no wK s = tt
@@ -118,7 +118,7 @@ suffix-no wV s = tt
 wrap-back : (c : Wrap) (t : Ty) (s : Text) (k : List Frame) → stands c t ≡ true → NoWord (lex s)
     → walk (lex (suffix c ++ s)) (have t k) ≡ walk (lex s) (have (wrap c t) k)
 unfolding lex walk step word-byte digit digit-value if_then_else_ b same stands
-wrap-back w-p t s k e h = refl
+wrap-back wP t s k e h = refl
 wrap-back wR t s k e h = rw (once t (no-ref t e)) refl
 wrap-back wO t s k e h = rw (once t (no-ref t e)) refl
 wrap-back wK t s k e h = word-step (b "const") s (gap t k) refl h

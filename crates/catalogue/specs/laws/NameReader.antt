@@ -9,7 +9,7 @@ use lib.Dec.{eqb}
 use Rattle.grammar.specs.Text.{Text, b, if_then_else_, same, run, past, digit}
 use Rattle.grammar.specs.Tables.{Row, _⇒_}
 use Rattle.catalogue.specs.Bytes.{first}
-use Rattle.catalogue.specs.Tree.{Ty, Args, Enc, Kind, letter, wrap, root, sub, app, lit, one, also, enc, print, lv, lw, lb, lc, la, lh, ls, lt, li, lj, ll, lm, lx, ly, ln, lo, lf, ld, le, lg, lz, w-p, wR, wO, wK, wV, kb, ki, kj, kl, km}
+use Rattle.catalogue.specs.Tree.{Ty, Args, Enc, Kind, letter, wrap, root, sub, app, lit, one, also, enc, print, lv, lw, lb, lc, la, lh, ls, lt, li, lj, ll, lm, lx, ly, ln, lo, lf, ld, le, lg, lz, wP, wR, wO, wK, wV, kb, ki, kj, kl, km}
 use Rattle.catalogue.specs.laws.Words.{Token, a-word, a-mark, lex}
 
 -- ---------------------------------------------------------------- words with a meaning
@@ -92,7 +92,7 @@ gather (t ∷ ts) xs = gather ts (also t xs)
 -- & is R, and a second & makes it O: R never stands on R
 abbrev pub ampersand : Ty → Ty
 ampersand (letter l) = wrap wR (letter l)
-ampersand (wrap w-p t) = wrap wR (wrap w-p t)
+ampersand (wrap wP t) = wrap wR (wrap wP t)
 ampersand (wrap wR t) = wrap wO t
 ampersand (wrap wO t) = wrap wR (wrap wO t)
 ampersand (wrap wK t) = wrap wR (wrap wK t)
@@ -139,7 +139,7 @@ at-want k c =
 
 abbrev at-have : Ty → List Frame → ℕ → State
 at-have t k c =
-    if eqb c (code "*") then have (wrap w-p t) k else
+    if eqb c (code "*") then have (wrap wP t) k else
     if eqb c (code "&") then have (ampersand t) k else
     if eqb c (code " ") then gap t k else
     if eqb c (code ":") then colon t k else

@@ -13,7 +13,7 @@ use borrow.Author.Tests.{le-leb, ne-eqb}
 use Rattle.grammar.specs.Text.{Text, if_then_else_, choose, digit, digit-value}
 use Rattle.catalogue.specs.Bytes.{all, first, and-left}
 use Rattle.catalogue.specs.laws.Bytes.{or-left, or-right, run-of, past-of}
-use Rattle.catalogue.specs.Tree.{Letter, Wrap, Kind, letter-code, wrap-code, kind-code, lv, lw, lb, lc, la, lh, ls, lt, li, lj, ll, lm, lx, ly, ln, lo, lf, ld, le, lg, lz, w-p, wR, wO, wK, wV, kb, ki, kj, kl, km}
+use Rattle.catalogue.specs.Tree.{Letter, Wrap, Kind, letter-code, wrap-code, kind-code, lv, lw, lb, lc, la, lh, ls, lt, li, lj, ll, lm, lx, ly, ln, lo, lf, ld, le, lg, lz, wP, wR, wO, wK, wV, kb, ki, kj, kl, km}
 use Rattle.catalogue.specs.Spelling.{Sp, Pre, SpArgs, s-letter, s-wrap, s-ref, plain, templ, retempl, nest-sub, nest-app, s-lit, p-ref, p-root, p-sub, p-app, s-one, s-also, ref-digits, ref-bytes, length-digits, name-bytes, minus, spell, spell-pre, spell-args}
 use Rattle.catalogue.specs.Class.{name-ok}
 use Rattle.catalogue.specs.laws.Numbers.{digit-low, Some, decimal-value, decimal-all, decimal-some, ref-all, ref-index}
@@ -78,7 +78,7 @@ lead-letter-is lz = refl
 
 pub lead-wrap-is : (w : Wrap) → lead (wrap-code w) ≡ lead-wrap w
 unfolding lead digit digit-value if_then_else_ choose with-code
-lead-wrap-is w-p = refl
+lead-wrap-is wP = refl
 lead-wrap-is wR = refl
 lead-wrap-is wO = refl
 lead-wrap-is wK = refl
@@ -129,7 +129,7 @@ letter-IE lg = refl
 letter-IE lz = refl
 
 wrap-IE : (w : Wrap) → is-ie (wrap-code w) ≡ false
-wrap-IE w-p = refl
+wrap-IE wP = refl
 wrap-IE wR = refl
 wrap-IE wO = refl
 wrap-IE wK = refl

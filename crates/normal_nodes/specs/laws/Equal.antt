@@ -11,7 +11,7 @@ use Rattle.grammar.specs.Text.{Text, if_then_else_}
 use Rattle.catalogue.specs.Tree.{Ty, Args, letter, wrap, root, sub, app, lit, also, is-lit, is-bare}
 use Rattle.catalogue.specs.Spelling.{name-bytes, const-byte}
 use Rattle.catalogue.specs.Recogniser.{lead}
-use Rattle.normal_walk.specs.Walk.{Walk, Walker, name, walkType, walk-parts, walk-more, walk-args, walk-types, at-lead, at-end, at-scoped, at-name, at-params, result, walk-enc, walk-sym}
+use Rattle.normal_walk.specs.Walk.{Walk, Walker, name, walk-type, walk-parts, walk-more, walk-args, walk-types, at-lead, at-end, at-scoped, at-name, at-params, result, walk-enc, walk-sym}
 use Rattle.normal_walk.specs.laws.Leaves.{begins}
 use Rattle.normal_walk.specs.laws.Fuel.{if-agree}
 use Rattle.normal_nodes.specs.Nodes.{Notes, Noter, Got, note-type, note-parts, note-more, note-args, note-types, note-at-lead, note-at-end, note-at-scoped, begun, at-function, note-at-params, symbol-of, note-encoding, note-symbol}
@@ -22,13 +22,13 @@ use Rattle.normal_nodes.specs.laws.Productions.{behind, Lone, SameType, 
 -- ---------------------------------------------------------------- with the same fuel
 
 record Same (f : ℕ) : Type 0 where
-  type : SameType (walkType f) (note-type f)
+  type : SameType (walk-type f) (note-type f)
   args : SameArgs (walk-args f) (note-args f)
   parts : SameParts (walk-parts f) (note-parts f)
   more : (o : Text) → SameMore o (walk-more f) (λ d l σ. note-more f d l (length o) σ)
 
 no-fuel : Same zero
-unfolding walkType note-type
+unfolding walk-type note-type
 no-fuel = record {
   type = λ ts o vs k s σ h. neither;
   args = λ ts o vs k s σ h t b d p i. neither;
@@ -39,28 +39,28 @@ no-fuel = record {
 module _ (f : ℕ) (m : Same f) where
   lead-at : (o : Text) (c from : ℕ) → from ≡ length o → {ts : List Ty} {vs : List Ty} {k : ℕ} {s : Text} {σ : Notes} → Keeps ts o vs k (c ∷ s) σ
       → Agree ts o Den Never
-      (at-lead (lead c) c vs k s (λ ws j r. walkType f ws j r) (λ ws j r. walk-args f ws j r) (λ ws j r. walk-parts f ws j r))
+      (at-lead (lead c) c vs k s (λ ws j r. walk-type f ws j r) (λ ws j r. walk-args f ws j r) (λ ws j r. walk-parts f ws j r))
       (note-at-lead (lead c) c from s σ (λ τ. note-type f τ) (λ t τ. note-args f t τ) (λ from τ. note-parts f from τ))
   lead-at o c from e h = rw e (lead-same o _ _ (m .type) _ _ (m .args) _ _ (m .parts) (lead c) c (begins c) h)
 
-  type-at : SameType (walkType (suc f)) (note-type (suc f))
-  unfolding walkType note-type
+  type-at : SameType (walk-type (suc f)) (note-type (suc f))
+  unfolding walk-type note-type
   type-at ts o vs k [] σ h = agree-no-first (σ .rest) _ (h .left)
   type-at ts o vs k (c ∷ s) σ h = agree-first (σ .rest) _ c s (h .left) (lead-at o c (length (σ .out)) (ap length (h .written)) h)
 
   parts-at : SameParts (walk-parts (suc f)) (note-parts (suc f))
-  unfolding walkType note-type
+  unfolding walk-type note-type
   parts-at ts o vs k [] σ h from e = agree-no-first (σ .rest) _ (h .left)
   parts-at ts o vs k (c ∷ s) σ h from e = agree-first (σ .rest) _ c s (h .left) (rw e (parts-same o _ _ (m .more o) (lead c) c h))
 
   more-at : (o : Text) → SameMore o (walk-more (suc f)) (λ d l σ. note-more (suc f) d l (length o) σ)
-  unfolding walkType note-type
+  unfolding walk-type note-type
   more-at o ts w vs k [] σ h t d l i b = agree-no-first (σ .rest) _ (h .left)
   more-at o ts w vs k (c ∷ s) σ h t d l i b =
       agree-first (σ .rest) _ c s (h .left) (more-same o _ _ (m .more o) _ _ (m .args) (eqb c (code "I")) c w h t d l i b)
 
   args-at : SameArgs (walk-args (suc f)) (note-args (suc f))
-  unfolding walkType note-type
+  unfolding walk-type note-type
   args-at ts o vs k s σ h t b d p i =
       agree-then _ _ (m .type ts o vs k s σ h)
       (λ x w vs′ k′ r e τ g. agree-from (g .more)

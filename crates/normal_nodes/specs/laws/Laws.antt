@@ -12,7 +12,7 @@ use borrow.Author.Tests.{ne-eqb, leb-false}
 use Rattle.grammar.specs.Text.{if_then_else_, same}
 use Rattle.catalogue.specs.Bytes.{and-left, and-right, eqb-yes, eqb-eq, same-eq, same-yes}
 use Rattle.catalogue.specs.laws.Bytes.{or-false}
-use Rattle.catalogue.specs.Tree.{Letter, Wrap, Kind, Ty, w-p, wR, wO, wK, wV, is-lit, is-ref, is-qual, same-ty, letter-code, wrap-code, kind-code}
+use Rattle.catalogue.specs.Tree.{Letter, Wrap, Kind, Ty, wP, wR, wO, wK, wV, is-lit, is-ref, is-qual, same-ty, letter-code, wrap-code, kind-code}
 use Rattle.catalogue.specs.Class.{stands}
 use Rattle.catalogue.specs.Normal.{seek, later as next-place}
 use Rattle.catalogue.specs.laws.LowBytes.{letter-low, wrap-low, kind-low}
@@ -92,8 +92,8 @@ wrap-below c = let h = leb-false 128 (wrap-code c) (wrap-low c) in omega arith
 pub kind-below : (k : Kind) → kind-code k < least-number
 kind-below k = let h = leb-false 128 (kind-code k) (kind-low k) in omega arith
 
-pub every-wrap : (P : Wrap → Type 0) → P w-p → P wR → P wO → P wK → P wV → (c : Wrap) → P c
-every-wrap P a b c d e w-p = a
+pub every-wrap : (P : Wrap → Type 0) → P wP → P wR → P wO → P wK → P wV → (c : Wrap) → P c
+every-wrap P a b c d e wP = a
 every-wrap P a b c d e wR = b
 every-wrap P a b c d e wO = c
 every-wrap P a b c d e wK = d
@@ -105,7 +105,7 @@ no-byte e c h = ne-eqb (least-number + e) c (λ q. omega arith)
 
 pub stands-is : (q : Wrap) (t : Ty) → stands q t ≡ not (is-lit t || (a-ref (wrap-code q) && is-ref t || a-qual (wrap-code q) && is-qual t))
 unfolding stands
-stands-is w-p t = ap not (sym (or-false (is-lit t)))
+stands-is wP t = ap not (sym (or-false (is-lit t)))
 stands-is wR t = ap (λ p. not (is-lit t || p)) (sym (or-false (is-ref t)))
 stands-is wO t = ap (λ p. not (is-lit t || p)) (sym (or-false (is-ref t)))
 stands-is wK t = refl

@@ -16,7 +16,7 @@ use Rattle.catalogue.specs.Tree.{Letter, Wrap, Kind, Ty, Args, letter, wrap, ro
 use Rattle.catalogue.specs.Class.{stands, push, last-is}
 use Rattle.catalogue.specs.Normal.{seek, known}
 use Rattle.catalogue.specs.laws.NormalTree.{seek-at}
-use Rattle.catalogue.specs.Recogniser.{with-code, all-kinds, Lead, lead-letter, lead-wrap, lead-digit, leadS, leadN, leadL, leadNone, lead}
+use Rattle.catalogue.specs.Recogniser.{with-code, all-kinds, Lead, lead-letter, lead-wrap, lead-digit, lead-S, lead-N, lead-L, lead-none, lead}
 use Rattle.catalogue.specs.laws.ReadsBack.{lead-letter-is, lead-wrap-is, kind-at}
 use Rattle.catalogue.specs.laws.Entries.{seek-none, at-has}
 use Rattle.normal_walk.specs.Walk.{distinct, add-all, add as add-tree}
@@ -136,10 +136,10 @@ abbrev letter-of : Lead → Option Ty
 letter-of (lead-letter l) = some (letter l)
 letter-of (lead-wrap q) = none
 letter-of lead-digit = none
-letter-of leadS = none
-letter-of leadN = none
-letter-of leadL = none
-letter-of leadNone = none
+letter-of lead-S = none
+letter-of lead-N = none
+letter-of lead-L = none
+letter-of lead-none = none
 
 tree-at : List Ty → ℕ → Option Ty
 tree-at ts d = if ltb d least-number then letter-of (lead d) else getElem? ts (d - least-number)
@@ -201,10 +201,10 @@ abbrev by-lead : Lead → Option Ty → ℕ → Text → Option Ty
 by-lead (lead-letter l) o n w = none
 by-lead (lead-wrap q) o n w = choose o (λ t. some (wrap q t)) none
 by-lead lead-digit o n w = some (root w)
-by-lead leadS o n w = none
-by-lead leadN o n w = choose o (λ t. some (sub t w)) none
-by-lead leadL o n w = lit-of n w
-by-lead leadNone o n w = none
+by-lead lead-S o n w = none
+by-lead lead-N o n w = choose o (λ t. some (sub t w)) none
+by-lead lead-L o n w = lit-of n w
+by-lead lead-none o n w = none
 
 node-tree : List Ty → Node → Option Ty
 node-tree ts x =

@@ -11,7 +11,7 @@ use Rattle.catalogue.specs.Bytes.{and-right}
 use Rattle.catalogue.specs.Tree.{Ty, Args, letter, wrap, root, sub, app, lit, one, also, is-class, is-bare, single}
 use Rattle.catalogue.specs.Spelling.{name-bytes}
 use Rattle.catalogue.specs.Class.{stands, push, last-is, push-new}
-use Rattle.catalogue.specs.Recogniser.{if-next, Lead, lead-letter, lead-wrap, lead-digit, leadS, leadN, leadL, leadNone}
+use Rattle.catalogue.specs.Recogniser.{if-next, Lead, lead-letter, lead-wrap, lead-digit, lead-S, lead-N, lead-L, lead-none}
 use Rattle.normal_walk.specs.Walk.{Walk, Walker, got, bad, when, with, name, reference, literal, lit-bytes, wrote, in-brackets, with-args, enter, enter-nested, at-lead, at-parts, end-or, at-more, at-arg}
 use Rattle.normal_walk.specs.laws.Holds.{OfRd}
 use Rattle.normal_walk.specs.laws.Leaves.{Literal, lit-sound, Begins}
@@ -198,14 +198,14 @@ module _ (o : Text) (more : Ty → Text → Walker Ty) (more′ : ℕ → Bool �
   parts-same (lead-wrap q) c h = neither
   parts-same lead-digit c h =
       name-same h _ _ (λ n r d τ g. agree-from (g .more) (p _ _ _ _ _ _ (g .keeps) (root n) d true (g .is) (λ b. refl)))
-  parts-same leadS c {s} h =
+  parts-same lead-S c {s} h =
       reference-same (keeps-go h s) _ _
       (λ t r d τ g. agree-when (is-class t) _ (tag-class (g .keeps .forest) d t (g .is))
       (λ b. agree-from (g .more)
       (p _ _ _ _ _ _ (g .keeps) t d _ (g .is) (λ q. tag-root (g .keeps .forest) d t (g .is) ∙ and-bare (single t) (is-bare t) q))))
-  parts-same leadN c h = neither
-  parts-same leadL c h = neither
-  parts-same leadNone c h = neither
+  parts-same lead-N c h = neither
+  parts-same lead-L c h = neither
+  parts-same lead-none c h = neither
 
   module _ (args : Walker Args) (args′ : ℕ → Noter ℕ) (q : SameArgs args args′) where
     -- (I <template-args> E | <source-name>) (E | <more>)
@@ -263,11 +263,11 @@ module _ (o : Text) (type : Walker Ty) (type′ : Noter ℕ) (p : SameType type 
       (λ t w vs′ k′ r x τ g. agree-when (stands d t) _ (ap (λ z. may-stand z (tag-of (τ .nodes) x)) e ∙ tag-stands (g .keeps .forest) x t (g .is) d)
       (λ b. agree-from (g .more) (both (entered-read o (c ∷ w) (keeps-as (g .keeps) _ (append-assoc o (c ∷ []) w)) (wrap-node c x) (wrap d t) (e, (g .is, refl))))))
   lead-same lead-digit c e h = name-same h _ _ (λ n r d τ g. with-args-same o args args′ q g)
-  lead-same leadS c e {s} h = reference-same (keeps-go h s) _ _ (λ t r d τ g. with-args-same o args args′ q g)
-  lead-same leadN c e {s} h =
+  lead-same lead-S c e {s} h = reference-same (keeps-go h s) _ _ (λ t r d τ g. with-args-same o args args′ q g)
+  lead-same lead-N c e {s} h =
       agree-next _ _ (m _ _ _ _ _ _ (keeps-put (keeps-go h s) (c ∷ [])) (suc (length o)) (last-length o c))
       (λ u w vs′ k′ r d τ g. rw (← longer-single u false (g .is .1)) (agree-from (g .more)
       (agree-here (nested-keeps o (in-brackets c w) (keeps-as (keeps-put (g .keeps) (code "E" ∷ [])) _ (simp append-assoc)) d u (g .is .0) (g .is .1)) (g .is .0))))
       (λ u w vs′ k′ r n. rw (← longer-single u true n) neither)
-  lead-same leadL c e {s} h = agree-with (literal s) (literal s) _ _ refl (λ t r i. lit-same h t r s (rw i at (lit-sound s)))
-  lead-same leadNone c e h = neither
+  lead-same lead-L c e {s} h = agree-with (literal s) (literal s) _ _ refl (λ t r i. lit-same h t r s (rw i at (lit-sound s)))
+  lead-same lead-none c e h = neither

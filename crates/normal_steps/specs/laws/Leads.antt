@@ -9,7 +9,7 @@ use lib.Dec.{eqb}
 use borrow.Author.Tests.{eqb-true, ne-eqb}
 use Rattle.grammar.specs.Text.{if_then_else_, choose, digit}
 use Rattle.catalogue.specs.Tree.{Letter as Letters, Wrap as Wraps, letter-code, wrap-code}
-use Rattle.catalogue.specs.Recogniser.{with-code, all-letters, all-wraps, Lead as First, lead-letter, lead-wrap, lead-digit, leadS, leadN, leadL, leadNone, lead}
+use Rattle.catalogue.specs.Recogniser.{with-code, all-letters, all-wraps, Lead as First, lead-letter, lead-wrap, lead-digit, lead-S, lead-N, lead-L, lead-none, lead}
 use Rattle.normal_steps.specs.declared.lead.Lead.{Lead}
 use Rattle.normal_steps.specs.declared.lead.Lead.the-variants.{Letter, Wrap, Digit, S, N, L, None}
 use Rattle.normal_steps.specs.Leads.{class, there}
@@ -69,9 +69,9 @@ letter-byte c l = go (digit 10 c) (eqb c 83) (eqb c 78) (eqb c 76) (with-code wr
   where
     go : (p q r t : Bool) (v : Option Wraps) (o : Option Letters) → with-code letter-code c all-letters ≡ o
         → (if p then lead-digit else
-        if q then leadS else
-        if r then leadN else
-        if t then leadL else choose v lead-wrap (choose o lead-letter leadNone)) ≡ lead-letter l
+        if q then lead-S else
+        if r then lead-N else
+        if t then lead-L else choose v lead-wrap (choose o lead-letter lead-none)) ≡ lead-letter l
         → letter-code l ≡ c
     go true q r t v o e h = let z : _≡_ {A = ℕ} 0 1 = cc in absurd (omega arith)
     go false true r t v o e h = let z : _≡_ {A = ℕ} 0 1 = cc in absurd (omega arith)
@@ -87,9 +87,9 @@ wrap-byte c w = go (digit 10 c) (eqb c 83) (eqb c 78) (eqb c 76) (with-code wrap
   where
     go : (p q r t : Bool) (v : Option Wraps) (o : Option Letters) → with-code wrap-code c all-wraps ≡ v
         → (if p then lead-digit else
-        if q then leadS else
-        if r then leadN else
-        if t then leadL else choose v lead-wrap (choose o lead-letter leadNone)) ≡ lead-wrap w
+        if q then lead-S else
+        if r then lead-N else
+        if t then lead-L else choose v lead-wrap (choose o lead-letter lead-none)) ≡ lead-wrap w
         → wrap-code w ≡ c
     go true q r t v o e h = let z : _≡_ {A = ℕ} 0 1 = cc in absurd (omega arith)
     go false true r t v o e h = let z : _≡_ {A = ℕ} 0 1 = cc in absurd (omega arith)
@@ -103,19 +103,19 @@ abbrev pub LeadIs : ℕ → Lead → Type 0
 LeadIs c Letter = (l : Letters) × ((lead c ≡ lead-letter l) × (letter-code l ≡ c))
 LeadIs c Wrap = (w : Wraps) × ((lead c ≡ lead-wrap w) × (wrap-code w ≡ c))
 LeadIs c Digit = lead c ≡ lead-digit
-LeadIs c S = lead c ≡ leadS
-LeadIs c N = lead c ≡ leadN
-LeadIs c L = lead c ≡ leadL
-LeadIs c None = lead c ≡ leadNone
+LeadIs c S = lead c ≡ lead-S
+LeadIs c N = lead c ≡ lead-N
+LeadIs c L = lead c ≡ lead-L
+LeadIs c None = lead c ≡ lead-none
 
 classed : (c : ℕ) (x : First) → lead c ≡ x → LeadIs c (class x)
 classed c (lead-letter l) e = (l, (e, letter-byte c l e))
 classed c (lead-wrap w) e = (w, (e, wrap-byte c w e))
 classed c lead-digit e = e
-classed c leadS e = e
-classed c leadN e = e
-classed c leadL e = e
-classed c leadNone e = e
+classed c lead-S e = e
+classed c lead-N e = e
+classed c lead-L e = e
+classed c lead-none e = e
 
 -- for an arm of a match on the code's answer
 pub lead-is : (c : ℕ) (r : Lead) → r ≡ class (lead c) → LeadIs c r

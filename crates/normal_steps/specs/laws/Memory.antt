@@ -18,7 +18,7 @@ use Rattle.normal_steps.specs.declared.state.Told.the-variants.{Number}
 use Rattle.normal_steps.specs.States.{written-to, noted-to, entered-to}
 use Rattle.normal_steps.specs.Written.{Wrote}
 use Rattle.normal_steps.specs.laws.Written.{wrote-four}
-use Rattle.normal_steps.specs.Holds.{Row, node-in, nodes-in, flat, Inside, Noting, most-number, Holds, Room, Took, Went, Refines, tells, notes-node}
+use Rattle.normal_steps.specs.Holds.{Row, node-in, nodes-in, flat, Inside, Noting, Work, out-to, notes-to, most-number, Holds, Room, Took, Went, Refines, tells, notes-node}
 use Rattle.normal_steps.specs.Seeks.{Sought}
 use Rattle.normal_steps.specs.Rows.{rows-of}
 use Rattle.normal_steps.specs.laws.Rows.{rows-flat, flat-more, length-nodes}
@@ -27,21 +27,21 @@ use Rattle.normal_steps.specs.laws.Regions.{front-wrote, first-front, fi
 use Rattle.normal_steps.specs.laws.Entries.{firsts-known, firsts-new, firsts-length}
 use Rattle.normal_steps.specs.laws.Slices.{flat-size, firsts-most, notes-size, firsts-here, with-out, with-entry, with-row}
 
-module _ {s o n : Text} {p : Writer} {σ : Notes} (h : Holds s o n p σ) where
+module _ {s : Text} {ws : Work} {p : Writer} {σ : Notes} (h : Holds s ws p σ) where
   -- ---------------------------------------------------------------- the searches
 
   -- in the last region, which is lent
-  pub sought-firsts : (d r : ℕ) → Sought (eqb d) (take (p .firsts) (take (length n - 20480) (drop 20480 n))) (p .firsts) r
+  pub sought-firsts : (d r : ℕ) → Sought (eqb d) (take (p .firsts) (take (length (ws .notes) - 20480) (drop 20480 (ws .notes)))) (p .firsts) r
       → Sought (eqb d) (firsts (σ .table)) (p .firsts) r
-  sought-firsts d r q = subst (λ (xs : List ℕ). Sought (eqb d) xs (p .firsts) r) (ap (take (p .firsts)) (second-lent 20480 n) ∙ firsts-here h) q
+  sought-firsts d r q = subst (λ (xs : List ℕ). Sought (eqb d) xs (p .firsts) r) (ap (take (p .firsts)) (second-lent 20480 (ws .notes)) ∙ firsts-here h) q
 
-  rows-here : rows-of (p .nodes) n ≡ h .rows
+  rows-here : rows-of (p .nodes) (ws .notes) ≡ h .rows
   rows-here = let f = first-front (h .notes-are) in ap₂ rows-of (h .nodes-count) (f .is) ∙ rows-flat (h .rows) (f .rest)
 
-  pub inside-here : Inside s (rows-of (p .nodes) n)
+  pub inside-here : Inside s (rows-of (p .nodes) (ws .notes))
   inside-here = subst (Inside s) (sym rows-here) (h .inside)
 
-  pub sought-nodes : (x : Node) (r : ℕ) → Sought (same-node x) (nodes-in s (rows-of (p .nodes) n)) (p .nodes) r → Sought (same-node x) (σ .nodes) (p .nodes) r
+  pub sought-nodes : (x : Node) (r : ℕ) → Sought (same-node x) (nodes-in s (rows-of (p .nodes) (ws .notes))) (p .nodes) r → Sought (same-node x) (σ .nodes) (p .nodes) r
   sought-nodes x r q = subst (λ (xs : List Node). Sought (same-node x) xs (p .nodes) r) (ap (nodes-in s) rows-here ∙ sym (h .nodes-are)) q
 
   -- ---------------------------------------------------------------- a reference in place of what was written
@@ -51,8 +51,8 @@ module _ {s o n : Text} {p : Writer} {σ : Notes} (h : Holds s o n p σ) where
   unfolding settled table-place
   settled-by d from q e = ap (λ (x : Option ℕ). notes (replaced from (σ .out) x) (σ .nodes) (σ .table) (σ .args) (σ .rest)) e
 
-  pub settle-not : (d from : ℕ) → from ≤ p .out → seek-by (eqb d) (firsts (σ .table)) ≡ none → Went s o n (Took 0 0 5 from p) p (settled d from σ)
-  settle-not d from l e = subst (λ (τ : Notes). Went s o n (Took 0 0 5 from p) p τ) (sym (settled-by d from none e))
+  pub settle-not : (d from : ℕ) → from ≤ p .out → seek-by (eqb d) (firsts (σ .table)) ≡ none → Went s ws (Took 0 0 5 from p) p (settled d from σ)
+  settle-not d from l e = subst (λ (τ : Notes). Went s ws (Took 0 0 5 from p) p τ) (sym (settled-by d from none e))
       (record {
         holds = h;
         limits = record { at = refl; nodes = omega arith; table = omega arith; out = omega arith; args = omega arith; stands = l };
@@ -66,12 +66,12 @@ module _ {s o n : Text} {p : Writer} {σ : Notes} (h : Holds s o n p σ) where
       pub reference-room : from + length (ref-bytes i) ≤ 65536
       reference-room = omega (arith, ref-length i index-most, r .out, h .place, h .source)
 
-      pub settle-here : (d k : ℕ) (o' : Text) (q : Writer) → seek-by (eqb d) (firsts (σ .table)) ≡ some i → Wrote o o' from k (ref-bytes i)
-          → q ≡ written-to p k → Went s o' n (Took 0 0 5 from p) q (settled d from σ)
+      pub settle-here : (d k : ℕ) (o' : Text) (q : Writer) → seek-by (eqb d) (firsts (σ .table)) ≡ some i → Wrote (ws .out) o' from k (ref-bytes i)
+          → q ≡ written-to p k → Went s (out-to ws o') (Took 0 0 5 from p) q (settled d from σ)
       settle-here d k o' q f w g =
           let e : length (take from (σ .out)) ≡ from = length-take-le from (σ .out) (omega (arith, h .out-count)) in
-          subst (λ (x : Writer). Went s o' n (Took 0 0 5 from p) x (settled d from σ)) (sym g)
-          (subst (λ (τ : Notes). Went s o' n (Took 0 0 5 from p) (written-to p k) τ) (sym (settled-by d from (some i) f))
+          subst (λ (x : Writer). Went s (out-to ws o') (Took 0 0 5 from p) x (settled d from σ)) (sym g)
+          (subst (λ (τ : Notes). Went s (out-to ws o') (Took 0 0 5 from p) (written-to p k) τ) (sym (settled-by d from (some i) f))
           (record {
             holds = with-out h (take from (σ .out) ++ ref-bytes i) o' k
                 (front-wrote (front-less (h .out-is) from) (sym e) (omega (arith, e, reference-room)) w)
@@ -93,36 +93,36 @@ module _ {s o n : Text} {p : Writer} {σ : Notes} (h : Holds s o n p σ) where
     table-room : length (σ .table) < 4096
     table-room = omega (arith, r .table, h .table-count, h .place, h .source)
 
-    entered-table : Regions (flat (h .rows)) (σ .table ++ (d ∷ [])) (firsts (σ .table)) (set n (16384 + p .table) d)
+    entered-table : Regions (flat (h .rows)) (σ .table ++ (d ∷ [])) (firsts (σ .table)) (set (ws .notes) (16384 + p .table) d)
     entered-table = rw (h .table-count) (second-set (h .notes-are) d table-room)
 
     went : (m : ℕ) (n' : Text) (q : Writer) → q ≡ entered-to p (p .table + 1) m → m ≡ length (firsts (σ .table ++ (d ∷ [])))
-        → Noting (h .rows) (σ .table ++ (d ∷ [])) n' → Went s o n' (Took 0 1 0 (p .out) p) q (pushed d σ)
-    went m n' q g f e = subst (λ (x : Writer). Went s o n' (Took 0 1 0 (p .out) p) x (pushed d σ)) (sym g)
+        → Noting (h .rows) (σ .table ++ (d ∷ [])) n' → Went s (notes-to ws n') (Took 0 1 0 (p .out) p) q (pushed d σ)
+    went m n' q g f e = subst (λ (x : Writer). Went s (notes-to ws n') (Took 0 1 0 (p .out) p) x (pushed d σ)) (sym g)
         (record {
           holds = with-entry h d (p .table + 1) m n' b refl (r .table) f e;
           limits = record { at = refl; nodes = omega arith; table = omega arith; out = omega arith; args = omega arith; stands = omega arith };
         })
 
     pub push-known : (i : ℕ) (q : Writer) → q ≡ entered-to p (p .table + 1) (p .firsts) → seek-by (eqb d) (firsts (σ .table)) ≡ some i
-        → Went s o (set n (16384 + p .table) d) (Took 0 1 0 (p .out) p) q (pushed d σ)
+        → Went s (notes-to ws (set (ws .notes) (16384 + p .table) d)) (Took 0 1 0 (p .out) p) q (pushed d σ)
     unfolding table-place
     push-known i q g f =
         let e : firsts (σ .table ++ (d ∷ [])) ≡ firsts (σ .table) = firsts-known (σ .table) d i f in
-        went (p .firsts) (set n (16384 + p .table) d) q g (h .firsts-count ∙ ap length (sym e))
+        went (p .firsts) (set (ws .notes) (16384 + p .table) d) q g (h .firsts-count ∙ ap length (sym e))
         (rw e entered-table)
 
     pub firsts-room : p .firsts < 4096
     firsts-room = omega (arith, h .firsts-count, firsts-length (σ .table), table-room)
 
     pub push-new : (q : Writer) → q ≡ entered-to p (p .table + 1) (p .firsts + 1) → seek-by (eqb d) (firsts (σ .table)) ≡ none
-        → Went s o (set (set n (16384 + p .table) d) (20480 + p .firsts) d) (Took 0 1 0 (p .out) p) q (pushed d σ)
+        → Went s (notes-to ws (set (set (ws .notes) (16384 + p .table) d) (20480 + p .firsts) d)) (Took 0 1 0 (p .out) p) q (pushed d σ)
     unfolding table-place
     push-new q g f =
         let e : firsts (σ .table ++ (d ∷ [])) ≡ firsts (σ .table) ++ (d ∷ []) = firsts-new (σ .table) d f in
         let m : length (firsts (σ .table) ++ (d ∷ [])) ≡ length (firsts (σ .table)) + 1 = length-append (firsts (σ .table)) (d ∷ []) in
         let t : length (σ .table ++ (d ∷ [])) ≡ length (σ .table) + 1 = length-append (σ .table) (d ∷ []) in
-        went (p .firsts + 1) (set (set n (16384 + p .table) d) (20480 + p .firsts) d) q g (omega (arith, h .firsts-count, ap length e))
+        went (p .firsts + 1) (set (set (ws .notes) (16384 + p .table) d) (20480 + p .firsts) d) q g (omega (arith, h .firsts-count, ap length e))
         (rw (e, h .firsts-count) (third-set entered-table d (omega (arith, h .firsts-count, firsts-room))))
 
   -- ---------------------------------------------------------------- a node
@@ -133,8 +133,8 @@ module _ {s o n : Text} {p : Writer} {σ : Notes} (h : Holds s o n p σ) where
   noted-by x q e = ap {B = Got ℕ} (λ (k : Option ℕ). got (number-at k (length (σ .nodes))) (notes (σ .out) (with-new k x (σ .nodes)) (σ .table) (σ .args) (σ .rest))) e
 
   pub note-known : (x : Node) (i : ℕ) → i < p .nodes → seek-by (same-node x) (σ .nodes) ≡ some i
-      → Refines s (Took 1 0 0 (p .out) p) o n (Number p (256 + i)) (notes-node x σ)
-  note-known x i l e = subst (Refines s (Took 1 0 0 (p .out) p) o n (Number p (256 + i))) (sym (noted-by x (some i) e))
+      → Refines s (Took 1 0 0 (p .out) p) ws (Number p (256 + i)) (notes-node x σ)
+  note-known x i l e = subst (Refines s (Took 1 0 0 (p .out) p) ws (Number p (256 + i))) (sym (noted-by x (some i) e))
       (tells h (record { at = refl; nodes = omega arith; table = omega arith; out = omega arith; args = omega arith; stands = omega arith })
       (omega (arith, h .few-nodes, h .place, h .source)))
 
@@ -145,19 +145,20 @@ module _ {s o n : Text} {p : Writer} {σ : Notes} (h : Holds s o n p σ) where
     row-room : 4 * p .nodes + 4 ≤ 16384
     row-room = omega (arith, r .nodes, h .place, h .source)
 
-    noted-rows : Noting (h .rows ++ (x ∷ [])) (σ .table) (sets-row n (4 * p .nodes))
+    noted-rows : Noting (h .rows ++ (x ∷ [])) (σ .table) (sets-row (ws .notes) (4 * p .nodes))
     noted-rows =
         rw (flat-more (h .rows) x)
         (first-wrote (h .notes-are) (sym (flat-size h)) (omega (arith, flat-size h, row-room))
-        (wrote-four n (4 * p .nodes) (x .tag) (x .of) (x .from) (x .to) (omega (arith, notes-size h, row-room))))
+        (wrote-four (ws .notes) (4 * p .nodes) (x .tag) (x .of) (x .from) (x .to) (omega (arith, notes-size h, row-room))))
 
     pub note-new : (q : Writer) → q ≡ noted-to p (p .nodes + 1) → seek-by (same-node (node-in s x)) (σ .nodes) ≡ none
-        → Refines s (Took 1 0 0 (p .out) p) o (sets-row n (4 * p .nodes)) (Number q (256 + p .nodes)) (notes-node (node-in s x) σ)
+        → Refines s (Took 1 0 0 (p .out) p) (notes-to ws (sets-row (ws .notes) (4 * p .nodes))) (Number q (256 + p .nodes)) (notes-node (node-in s x) σ)
     note-new q g e =
         let c : length (σ .nodes) ≡ p .nodes = ap length (h .nodes-are) ∙ length-nodes s (h .rows) ∙ sym (h .nodes-count) in
         let v : Notes = notes (σ .out) (σ .nodes ++ (node-in s x ∷ [])) (σ .table) (σ .args) (σ .rest) in
-        subst (Refines s (Took 1 0 0 (p .out) p) o (sets-row n (4 * p .nodes)) (Number q (256 + p .nodes))) (sym (noted-by (node-in s x) none e ∙ ap (λ (k : ℕ). got (256 + k) v) c))
-        (subst (λ (y : Writer). Refines s (Took 1 0 0 (p .out) p) o (sets-row n (4 * p .nodes)) (Number y (256 + p .nodes)) (got (256 + p .nodes) v)) (sym g)
-        (tells (with-row h x (p .nodes + 1) (sets-row n (4 * p .nodes)) b refl (r .nodes) noted-rows)
+        subst (Refines s (Took 1 0 0 (p .out) p) (notes-to ws (sets-row (ws .notes) (4 * p .nodes))) (Number q (256 + p .nodes)))
+        (sym (noted-by (node-in s x) none e ∙ ap (λ (k : ℕ). got (256 + k) v) c))
+        (subst (λ (y : Writer). Refines s (Took 1 0 0 (p .out) p) (notes-to ws (sets-row (ws .notes) (4 * p .nodes))) (Number y (256 + p .nodes)) (got (256 + p .nodes) v)) (sym g)
+        (tells (with-row h x (p .nodes + 1) (sets-row (ws .notes) (4 * p .nodes)) b refl (r .nodes) noted-rows)
         (record { at = refl; nodes = omega arith; table = omega arith; out = omega arith; args = omega arith; stands = omega arith })
         (omega (arith, h .few-nodes, h .place, h .source))))

@@ -16,12 +16,12 @@ use Rattle.normal_nodes.specs.Nodes.{Node, Notes, notes, put, pushed, firsts, t
 use Rattle.normal_steps.specs.declared.state.Writer.{Writer}
 use Rattle.normal_steps.specs.States.{written-to, noted-to, entered-to}
 use Rattle.normal_steps.specs.Written.{Wrote}
-use Rattle.normal_steps.specs.Holds.{Row, node-in, nodes-in, flat, Noting, most-number, Holds, Puts}
+use Rattle.normal_steps.specs.Holds.{Row, node-in, nodes-in, flat, Noting, Work, out-to, notes-to, most-number, Holds, Puts}
 use Rattle.normal_steps.specs.laws.Rows.{length-flat, nodes-more, inside-more, tag-at, no-tag}
 use Rattle.normal_steps.specs.laws.Regions.{front-wrote, first-front, second-at, regions-size}
 use Rattle.normal_steps.specs.laws.Entries.{some-at, small-at, small-more, last-none, last-at}
 
-module _ {s o n : Text} {p : Writer} {σ : Notes} (h : Holds s o n p σ) where
+module _ {s : Text} {ws : Work} {p : Writer} {σ : Notes} (h : Holds s ws p σ) where
   -- ---------------------------------------------------------------- sizes
 
   pub flat-size : length (flat (h .rows)) ≡ 4 * p .nodes
@@ -30,10 +30,10 @@ module _ {s o n : Text} {p : Writer} {σ : Notes} (h : Holds s o n p σ) where
   pub firsts-most : length (firsts (σ .table)) ≤ 4096
   firsts-most = front-most (h .notes-are .third)
 
-  pub out-size : length o ≡ 65536
+  pub out-size : length (ws .out) ≡ 65536
   out-size = h .out-is .size
 
-  pub notes-size : length n ≡ 24576
+  pub notes-size : length (ws .notes) ≡ 24576
   notes-size = regions-size (h .notes-are)
 
   -- ---------------------------------------------------------------- what is read
@@ -49,16 +49,16 @@ module _ {s o n : Text} {p : Writer} {σ : Notes} (h : Holds s o n p σ) where
   pub tag-none : (d : ℕ) → 256 ≤ d → p .nodes ≤ d - 256 → 0 ≡ tag-of (σ .nodes) d
   tag-none d l m = no-tag s (h .rows) (d - 256) (omega (arith, h .nodes-count)) ∙ sym (tag-by d l)
 
-  pub tag-here : (d : ℕ) → 256 ≤ d → d - 256 < p .nodes → getD n (4 * (d - 256)) 0 ≡ tag-of (σ .nodes) d
+  pub tag-here : (d : ℕ) → 256 ≤ d → d - 256 < p .nodes → getD (ws .notes) (4 * (d - 256)) 0 ≡ tag-of (σ .nodes) d
   tag-here d l m =
       ap (λ (t : Text). getD t (4 * (d - 256)) 0) (first-front (h .notes-are) .is)
       ∙ tag-at s (h .rows) (first-front (h .notes-are) .rest) (d - 256) (omega (arith, h .nodes-count))
       ∙ sym (tag-by d l)
 
-  in-table : (i : ℕ) → i < p .table → getD n (16384 + i) 0 ≡ getD (σ .table) i 0
+  in-table : (i : ℕ) → i < p .table → getD (ws .notes) (16384 + i) 0 ≡ getD (σ .table) i 0
   in-table i l = second-at (h .notes-are) i (omega (arith, h .table-count))
 
-  pub entry-is : (i : ℕ) → i < p .table → (getElem? (σ .table) i ≡ some (getD n (16384 + i) 0)) × (getD n (16384 + i) 0 < most-number)
+  pub entry-is : (i : ℕ) → i < p .table → (getElem? (σ .table) i ≡ some (getD (ws .notes) (16384 + i) 0)) × (getD (ws .notes) (16384 + i) 0 < most-number)
   entry-is i l =
       let e = in-table i l in
       let b : i < length (σ .table) = omega (arith, h .table-count) in
@@ -67,18 +67,18 @@ module _ {s o n : Text} {p : Writer} {σ : Notes} (h : Holds s o n p σ) where
   pub newest-none : (d : ℕ) → p .table ≡ 0 → false ≡ note-last-is d (σ .table)
   newest-none d e = last-none d (σ .table) (omega (arith, h .table-count))
 
-  pub newest-is : (d : ℕ) → 0 < p .table → eqb d (getD n (16384 + (p .table - 1)) 0) ≡ note-last-is d (σ .table)
+  pub newest-is : (d : ℕ) → 0 < p .table → eqb d (getD (ws .notes) (16384 + (p .table - 1)) 0) ≡ note-last-is d (σ .table)
   newest-is d l =
       ap (eqb d) (in-table (p .table - 1) (omega arith) ∙ ap (λ (k : ℕ). getD (σ .table) (k - 1) 0) (h .table-count))
       ∙ last-at d (σ .table) (omega (arith, h .table-count))
 
-  pub firsts-here : take (p .firsts) (drop 20480 n) ≡ firsts (σ .table)
-  firsts-here = ap (λ (k : ℕ). take k (drop 20480 n)) (h .firsts-count) ∙ front-take (h .notes-are .third)
+  pub firsts-here : take (p .firsts) (drop 20480 (ws .notes)) ≡ firsts (σ .table)
+  firsts-here = ap (λ (k : ℕ). take k (drop 20480 (ws .notes))) (h .firsts-count) ∙ front-take (h .notes-are .third)
 
   -- ---------------------------------------------------------------- what is kept when something changes
 
   pub with-out : (w o' : Text) (k : ℕ) → Front 65536 w o' → k ≡ length w → k ≤ 16 * p .at
-      → Holds s o' n (written-to p k) (notes w (σ .nodes) (σ .table) (σ .args) (σ .rest))
+      → Holds s (out-to ws o') (written-to p k) (notes w (σ .nodes) (σ .table) (σ .args) (σ .rest))
   with-out w o' k e f l = record {
     source = h .source;
     place = h .place;
@@ -101,7 +101,7 @@ module _ {s o n : Text} {p : Writer} {σ : Notes} (h : Holds s o n p σ) where
   }
 
   pub with-entry : (d k m : ℕ) (n' : Text) → d < most-number → k ≡ p .table + 1 → k ≤ p .at → m ≡ length (firsts (σ .table ++ (d ∷ [])))
-      → Noting (h .rows) (σ .table ++ (d ∷ [])) n' → Holds s o n' (entered-to p k m) (pushed d σ)
+      → Noting (h .rows) (σ .table ++ (d ∷ [])) n' → Holds s (notes-to ws n') (entered-to p k m) (pushed d σ)
   with-entry d k m n' b c l f e = record {
     source = h .source;
     place = h .place;
@@ -125,7 +125,7 @@ module _ {s o n : Text} {p : Writer} {σ : Notes} (h : Holds s o n p σ) where
 
   pub with-row : (x : Row) (k : ℕ) (n' : Text) → (x .from ≤ x .to) × (x .to ≤ length s) → k ≡ p .nodes + 1 → k ≤ p .at
       → Noting (h .rows ++ (x ∷ [])) (σ .table) n'
-      → Holds s o n' (noted-to p k) (notes (σ .out) (σ .nodes ++ (node-in s x ∷ [])) (σ .table) (σ .args) (σ .rest))
+      → Holds s (notes-to ws n') (noted-to p k) (notes (σ .out) (σ .nodes ++ (node-in s x ∷ [])) (σ .table) (σ .args) (σ .rest))
   with-row x k n' b c l e = record {
     source = h .source;
     place = h .place;
@@ -155,7 +155,7 @@ wrote-paste o w at = record { is = ap (λ (t : Text). take at o ++ t ++ drop (at
 pub puts-by : {w o o' : Text} {p r : Writer} {k : ℕ} → r ≡ written-to p k → Wrote o o' (p .out) k w → Puts w o o' p r
 puts-by {w} {o} {o'} {p} {r} {k} e q = (
   e ∙ ap (written-to p) (q .end),
-  λ s n σ h l. subst (λ (x : Writer). Holds s o' n x (put w σ)) (sym e)
+  λ s ws σ h l. subst (λ (x : Writer). Holds s (out-to ws o') x (put w σ)) (sym e)
       (with-out h (σ .out ++ w) o' k (front-wrote (h .out-is) (h .out-count) (omega (arith, h .out-count, h .place, h .source)) q)
       (omega (arith, q .end, h .out-count, length-append (σ .out) w)) (omega (arith, q .end))),
 )

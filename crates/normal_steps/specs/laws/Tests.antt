@@ -1,20 +1,21 @@
 -- Tests of bytes at a place, and of parts. Assumes nothing.
-use mathlib.Core.Bool.{Bool, true, false, not, _&&_}
-use mathlib.Core.List.{[], _∷_}
+use mathlib.Core.Bool.{Bool, true, false, not, _&&_, _||_, or-assoc, or-false}
+use mathlib.Core.List.{List, [], _∷_}
 use mathlib.Core.Logic.{_⊎_, inl, inr}
 use mathlib.Core.Path.{_≡_, refl, sym, ap, _∙_}
 use Prim.Native.Nat.{ℕ, _+_, _≤_, _<_}
+use Prim.Native.String.{String}
 use native.Mathlib.Omega.{arith}
 use borrow.Author.Tests.{ltb-true, ltb-false}
 use lib.Dec.{eqb, ltb}
 use lib.ListN.{length, take, drop}
 use lib.Seq.{drop-drop}
-use Rattle.grammar.specs.Text.{Text, if_then_else_, same, starts, digit}
+use Rattle.grammar.specs.Text.{Text, if_then_else_, b, same, starts, digit}
 use Rattle.grammar.specs.laws.Laws.{starts-nothing}
 use Rattle.grammar.specs.laws.Places.{starts-byte}
 use Rattle.grammar.specs.laws.NameSteps.{starts-one}
 use Rattle.catalogue.specs.Bytes.{all, first, and-left, and-right, eqb-yes}
-use Rattle.catalogue.specs.Class.{leading-zero, numeral}
+use Rattle.catalogue.specs.Class.{listed, leading-zero, numeral}
 use Rattle.catalogue.specs.Recogniser.{if-next}
 use Rattle.catalogue.specs.laws.ReadsBack.{next-no}
 
@@ -60,3 +61,21 @@ lt-or-le m n = go (ltb m n) refl
     go : (q : Bool) → ltb m n ≡ q → (m < n) ⊎ (n ≤ m)
     go true e = inl (ltb-true m n e)
     go false e = inr (ltb-false m n e)
+
+-- ---------------------------------------------------------------- listed words
+
+-- of the tests of n against listed words, q is what those before ws told, and y what all tell
+pub record Tested (n : Text) (q : Bool) (ws : List String) (y : Bool) : Type 0 where
+  pub is : (q || listed n ws) ≡ y
+
+pub no-test : (n : Text) (ws : List String) → Tested n false ws (listed n ws)
+no-test n ws = record { is = refl }
+
+module _ {n : Text} where
+  pub one-test : {q r y : Bool} {w : String} {ws : List String} → Tested n q (w ∷ ws) y → r ≡ same n (b w) → Tested n (q || r) ws y
+  unfolding listed
+  one-test {q} {r} {y} {w} {ws} h e = record { is = rw e (or-assoc q (same n (b w)) (listed n ws) ∙ h .is) }
+
+  pub all-tests : {q y : Bool} → Tested n q [] y → q ≡ y
+  unfolding listed
+  all-tests {q} h = sym (or-false q) ∙ h .is

@@ -14,7 +14,7 @@ use Rattle.catalogue.specs.Class.{word-byte, reserved, listed, name-ok, numeral
 use Rattle.catalogue.specs.Normal.{seek}
 use Rattle.catalogue.specs.Recogniser.{cut, read-name, with-code, lead}
 use Rattle.catalogue.specs.laws.Examples.{Rows, normals, inside, outside}
-use Rattle.normal_walk.specs.Walk.{name, reference, literal, add, add-all, wrote, walkType, walk-types, walk-enc, walk-sym}
+use Rattle.normal_walk.specs.Walk.{name, reference, literal, add, add-all, wrote, walk-type, walk-types, walk-enc, walk-sym}
 
 -- the walk writes the row's normal symbol
 abbrev is : Option Text → Text → Bool
@@ -37,19 +37,19 @@ pub normals-written : writes normals ≡ true
 unfolding
     writes normals b if_then_else_ choose same run past digit digit-value number decimal index text-discrete ty-discrete same-ty digit-of base36 ref-digits
     word-byte reserved listed name-ok numeral lit-ok stands last-is push-new seek cut read-name with-code lead
-    name reference literal add add-all wrote walkType walk-types walk-enc walk-sym
+    name reference literal add add-all wrote walk-type walk-types walk-enc walk-sym
 normals-written = refl
 
 pub inside-written : writes inside ≡ true
 unfolding
     writes inside b if_then_else_ choose same run past digit digit-value number decimal index text-discrete ty-discrete same-ty digit-of base36 ref-digits
     word-byte reserved listed name-ok numeral lit-ok stands last-is push-new seek cut read-name with-code lead
-    name reference literal add add-all wrote walkType walk-types walk-enc walk-sym
+    name reference literal add add-all wrote walk-type walk-types walk-enc walk-sym
 inside-written = refl
 
 pub outside-refused : refuses outside ≡ true
 unfolding
     refuses outside b if_then_else_ choose same run past digit digit-value number decimal index text-discrete ty-discrete same-ty digit-of base36 ref-digits
     word-byte reserved listed name-ok numeral lit-ok stands last-is push-new seek cut read-name with-code lead
-    name reference literal add add-all wrote walkType walk-types walk-enc walk-sym
+    name reference literal add add-all wrote walk-type walk-types walk-enc walk-sym
 outside-refused = refl

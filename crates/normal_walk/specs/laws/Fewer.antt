@@ -11,9 +11,9 @@ use Rattle.grammar.specs.Text.{Text}
 use Rattle.catalogue.specs.Tree.{Ty, Args, letter, root, sub, app, is-class, is-bare, single}
 use Rattle.catalogue.specs.Spelling.{name-bytes}
 use Rattle.catalogue.specs.Class.{stands, push}
-use Rattle.catalogue.specs.Recogniser.{Lead, lead-letter, lead-wrap, lead-digit, leadS, leadN, leadL, leadNone, lead}
+use Rattle.catalogue.specs.Recogniser.{Lead, lead-letter, lead-wrap, lead-digit, lead-S, lead-N, lead-L, lead-none, lead}
 use Rattle.catalogue.specs.laws.ReadsBack.{name-long}
-use Rattle.normal_walk.specs.Walk.{Walk, Walker, name, reference, literal, wrote, in-brackets, with-args, enter, end-or, at-lead, at-parts, at-more, at-arg, walkType, walk-parts, walk-more, walk-args}
+use Rattle.normal_walk.specs.Walk.{Walk, Walker, name, reference, literal, wrote, in-brackets, with-args, enter, end-or, at-lead, at-parts, at-more, at-arg, walk-type, walk-parts, walk-more, walk-args}
 use Rattle.normal_walk.specs.laws.Holds.{OfRd, rd-map, Claim, Of, of-got, of-bad, of-when, of-with, of-then, of-next, of-choose, of-map}
 use Rattle.normal_walk.specs.laws.Leaves.{name-sound, ref-sound, lit-sound}
 
@@ -61,19 +61,19 @@ lead-fewer lead-digit c vs k s type args parts p q m =
     with-args-fewer (root n) (wrote (root n) vs (name-bytes n)) (suc (length s)) (args (push (root n) vs) k r′) enter
     (cut-one (length r′) (suc (length s)) _ (omega arith) (q (push (root n) vs) k r′)) (λ u v ws k′ r″ l. of-got _ _ _ _ _ r″ l))
     (of-got _ _ _ _ _ r (omega arith)))
-lead-fewer leadS c vs k s type args parts p q m =
+lead-fewer lead-S c vs k s type args parts p q m =
     of-with _ (λ i r. length r < length s) (reference s) _ (ref-fewer s)
     (λ i r h. of-choose _ (getElem? vs i) _ (λ t a. of-next _ (code "I") r _ _
     (λ r′ e. let e′ = ap length e in
     of-when _ (single t && is-bare t) _ (λ b. with-args-fewer t (wrote t vs []) (suc (length s)) (args vs k r′) enter
     (cut-one (length r′) (suc (length s)) _ (omega arith) (q vs k r′)) (λ u v ws k′ r″ l. of-got _ _ _ _ _ r″ l)))
     (of-got _ _ _ _ _ r (omega arith))))
-lead-fewer leadN c vs k s type args parts p q m =
+lead-fewer lead-N c vs k s type args parts p q m =
     of-then _ (Fewer (length s)) (parts vs k s) _ (m vs k s)
     (λ u w vs′ k′ r h. of-when _ (not (single u)) _ (λ e. of-got _ _ _ _ _ r (omega arith)))
-lead-fewer leadL c vs k s type args parts p q m =
+lead-fewer lead-L c vs k s type args parts p q m =
     of-with _ (λ t r. length r < length s) (literal s) _ (lit-fewer s) (λ t r h. of-got _ _ _ _ _ r (omega arith))
-lead-fewer leadNone c vs k s type args parts p q m = of-bad _
+lead-fewer lead-none c vs k s type args parts p q m = of-bad _
 
 at-parts-fewer : (l : Lead) (c : ℕ) (vs : List Ty) (k : ℕ) (s : Text) (more : Ty → Text → Walker Ty) → ShrinksMore more
     → Of (at-parts l c vs k s more) (Fewer (suc (length s)))
@@ -82,13 +82,13 @@ at-parts-fewer (lead-wrap d) c vs k s more p = of-bad _
 at-parts-fewer lead-digit c vs k s more p =
     of-with _ (λ n r. length r + 2 ≤ suc (length s)) (name (c ∷ s)) _ (name-fewer (c ∷ s))
     (λ n r h. cut-one (length r) (suc (length s)) _ (omega arith) (p (root n) (wrote (root n) vs (name-bytes n)) (push (root n) vs) k r))
-at-parts-fewer leadS c vs k s more p =
+at-parts-fewer lead-S c vs k s more p =
     of-with _ (λ i r. length r < length s) (reference s) _ (ref-fewer s)
     (λ i r h. of-choose _ (getElem? vs i) _ (λ t a. of-when _ (is-class t) _
     (λ b. cut-one (length r) (suc (length s)) _ (omega arith) (p t (wrote t vs []) vs k r))))
-at-parts-fewer leadN c vs k s more p = of-bad _
-at-parts-fewer leadL c vs k s more p = of-bad _
-at-parts-fewer leadNone c vs k s more p = of-bad _
+at-parts-fewer lead-N c vs k s more p = of-bad _
+at-parts-fewer lead-L c vs k s more p = of-bad _
+at-parts-fewer lead-none c vs k s more p = of-bad _
 
 end-fewer : (n : ℕ) (more : Ty → Text → Walker Ty) → ShrinksMore more → (u : Ty) (w : Text) (vs : List Ty) (k : ℕ) (r : Text) → length r < n
     → Of (end-or more u w vs k r) (Fewer n)
@@ -112,9 +112,9 @@ arg-fewer n t w vs k r args q h =
     (of-then _ (Fewer (length r)) (args vs (suc k) r) _ (q vs (suc k) r) (λ xs v vs′ k′ r′ l. of-got _ _ _ _ _ r′ (omega arith)))
 
 mutual
-  unfolding walkType
+  unfolding walk-type
 
-  pub type-fewer : (f : ℕ) → Shrinks (walkType f)
+  pub type-fewer : (f : ℕ) → Shrinks (walk-type f)
   type-fewer zero vs k s = of-bad _
   type-fewer (suc f) vs k [] = of-bad _
   type-fewer (suc f) vs k (c ∷ s) = lead-fewer (lead c) c vs k s _ _ _ (λ ws j r. type-fewer f ws j r) (λ ws j r. args-fewer f ws j r) (λ ws j r. parts-fewer f ws j r)
@@ -132,5 +132,5 @@ mutual
   pub args-fewer : (f : ℕ) → Shrinks (walk-args f)
   args-fewer zero vs k s = of-bad _
   args-fewer (suc f) vs k s =
-      of-then _ (Fewer (length s)) (walkType f vs k s) _ (type-fewer f vs k s)
+      of-then _ (Fewer (length s)) (walk-type f vs k s) _ (type-fewer f vs k s)
       (λ t w vs′ k′ r h. arg-fewer (length s) t w vs′ k′ r _ (λ ws j r′. args-fewer f ws j r′) h)

@@ -13,8 +13,8 @@ use Rattle.catalogue.specs.Bytes.{eqb-eq}
 use Rattle.catalogue.specs.Tree.{Ty, Args, root, sub, app, also, is-lit, is-class, is-bare, single}
 use Rattle.catalogue.specs.Spelling.{name-bytes}
 use Rattle.catalogue.specs.Class.{push}
-use Rattle.catalogue.specs.Recogniser.{Rd, rd, stop, if-next, Lead, lead-letter, lead-wrap, lead-digit, leadS, leadN, leadL, leadNone, lead}
-use Rattle.normal_walk.specs.Walk.{Walk, got, bad, Walker, next, when, with, name, reference, wrote, in-brackets, with-args, enter, end-or, at-lead, at-parts, at-more, at-arg, at-end, walkType, walk-parts, walk-more, walk-args, walk-types}
+use Rattle.catalogue.specs.Recogniser.{Rd, rd, stop, if-next, Lead, lead-letter, lead-wrap, lead-digit, lead-S, lead-N, lead-L, lead-none, lead}
+use Rattle.normal_walk.specs.Walk.{Walk, got, bad, Walker, next, when, with, name, reference, wrote, in-brackets, with-args, enter, end-or, at-lead, at-parts, at-more, at-arg, at-end, walk-type, walk-parts, walk-more, walk-args, walk-types}
 use Rattle.normal_walk.specs.laws.Holds.{OfRd, Claim, Of}
 use Rattle.normal_walk.specs.laws.Fewer.{Fewer, name-fewer, ref-fewer, type-fewer, args-fewer}
 
@@ -68,14 +68,14 @@ lead-agree lead-digit c vs k s type type′ args args′ parts parts′ p q m =
     (λ n r h. if-agree (code "I") r _ _ _ _
     (λ r′ e. let e′ = ap length e in
     args-enter (root n) (wrote (root n) vs (name-bytes n)) _ _ (q (push (root n) vs) k r′ (omega arith))) refl)
-lead-agree leadS c vs k s type type′ args args′ parts parts′ p q m =
+lead-agree lead-S c vs k s type type′ args args′ parts parts′ p q m =
     with-agree (λ i r. length r < length s) (reference s) _ _ (ref-fewer s)
     (λ i r h. choose-agree (getElem? vs i) _ _ (λ t. if-agree (code "I") r _ _ _ _
     (λ r′ e. let e′ = ap length e in
     ap (when (single t && is-bare t)) (args-enter t (wrote t vs []) _ _ (q vs k r′ (omega arith)))) refl))
-lead-agree leadN c vs k s type type′ args args′ parts parts′ p q m = rw (m vs k s (omega arith)) refl
-lead-agree leadL c vs k s type type′ args args′ parts parts′ p q m = refl
-lead-agree leadNone c vs k s type type′ args args′ parts parts′ p q m = refl
+lead-agree lead-N c vs k s type type′ args args′ parts parts′ p q m = rw (m vs k s (omega arith)) refl
+lead-agree lead-L c vs k s type type′ args args′ parts parts′ p q m = refl
+lead-agree lead-none c vs k s type type′ args args′ parts parts′ p q m = refl
 
 parts-agree : (l : Lead) (c : ℕ) (vs : List Ty) (k : ℕ) (s : Text) (more more′ : Ty → Text → Walker Ty) → AgreeMore (length s) more more′
     → at-parts l c vs k s more ≡ at-parts l c vs k s more′
@@ -84,12 +84,12 @@ parts-agree (lead-wrap d) c vs k s more more′ p = refl
 parts-agree lead-digit c vs k s more more′ p =
     with-agree (λ n r. length r + 2 ≤ suc (length s)) (name (c ∷ s)) _ _ (name-fewer (c ∷ s))
     (λ n r h. p (root n) (wrote (root n) vs (name-bytes n)) (push (root n) vs) k r (omega arith))
-parts-agree leadS c vs k s more more′ p =
+parts-agree lead-S c vs k s more more′ p =
     with-agree (λ i r. length r < length s) (reference s) _ _ (ref-fewer s)
     (λ i r h. choose-agree (getElem? vs i) _ _ (λ t. ap (when (is-class t)) (p t (wrote t vs []) vs k r h)))
-parts-agree leadN c vs k s more more′ p = refl
-parts-agree leadL c vs k s more more′ p = refl
-parts-agree leadNone c vs k s more more′ p = refl
+parts-agree lead-N c vs k s more more′ p = refl
+parts-agree lead-L c vs k s more more′ p = refl
+parts-agree lead-none c vs k s more more′ p = refl
 
 end-agree : (n : ℕ) (more more′ : Ty → Text → Walker Ty) → AgreeMore n more more′ → (u : Ty) (w : Text) (vs : List Ty) (k : ℕ) (r : Text)
     → length r < n → end-or more u w vs k r ≡ end-or more′ u w vs k r
@@ -121,9 +121,9 @@ end-types n t w vs k (c ∷ r) types types′ p h = rw (p vs k (c ∷ r) h) refl
 -- ---------------------------------------------------------------- enough fuel
 
 mutual
-  unfolding walkType
+  unfolding walk-type
 
-  pub type-fuel : (f g : ℕ) (vs : List Ty) (k : ℕ) (s : Text) → length s ≤ f → length s ≤ g → walkType f vs k s ≡ walkType g vs k s
+  pub type-fuel : (f g : ℕ) (vs : List Ty) (k : ℕ) (s : Text) → length s ≤ f → length s ≤ g → walk-type f vs k s ≡ walk-type g vs k s
   type-fuel zero zero vs k s h l = refl
   type-fuel zero (suc g) vs k [] h l = refl
   type-fuel zero (suc g) vs k (c ∷ s) h l = absurd (omega arith)
@@ -157,7 +157,7 @@ mutual
   args-fuel zero g vs k s h l = absurd (omega arith)
   args-fuel (suc f) zero vs k s h l = absurd (omega arith)
   args-fuel (suc f) (suc g) vs k s h l =
-      next-agree (Fewer (length s)) (walkType f vs k s) _ _ (type-fewer f vs k s)
+      next-agree (Fewer (length s)) (walk-type f vs k s) _ _ (type-fewer f vs k s)
       (λ t w ws j r m. arg-agree (length s) t w ws j r _ _ (λ xs i r′ n. args-fuel f g xs i r′ (omega arith) (omega arith)) m)
       ∙ rw (type-fuel f g vs k s (omega arith) (omega arith)) refl
 
@@ -166,7 +166,7 @@ unfolding walk-types
 types-fuel zero g vs k s h l = absurd (omega arith)
 types-fuel (suc f) zero vs k s h l = absurd (omega arith)
 types-fuel (suc f) (suc g) vs k s h l =
-    next-agree (Fewer (length s)) (walkType f vs k s) _ _ (type-fewer f vs k s)
+    next-agree (Fewer (length s)) (walk-type f vs k s) _ _ (type-fewer f vs k s)
     (λ t w ws j r m. ap (when (not (is-lit t)))
     (end-types (length s) t w ws j r _ _ (λ xs i r′ n. types-fuel f g xs i r′ (omega arith) (omega arith)) m))
     ∙ rw (type-fuel f g vs k s (omega arith) (omega arith)) refl
@@ -174,7 +174,7 @@ types-fuel (suc f) (suc g) vs k s h l =
 -- ---------------------------------------------------------------- walks without fuel
 
 unfoldable pub walked : Walker Ty
-walked vs k s = walkType (length s) vs k s
+walked vs k s = walk-type (length s) vs k s
 
 unfoldable pub walked-parts : Walker Ty
 walked-parts vs k s = walk-parts (length s) vs k s
@@ -190,34 +190,34 @@ walked-types vs k s = walk-types (suc (length s)) vs k s
 
 module _ (vs : List Ty) (k : ℕ) where
   pub walked-is : (c : ℕ) (s : Text) → walked vs k (c ∷ s) ≡ at-lead (lead c) c vs k s walked walked-args walked-parts
-  unfolding walked walked-args walked-parts walkType
+  unfolding walked walked-args walked-parts walk-type
   walked-is c s =
       lead-agree (lead c) c vs k s _ _ _ _ _ _ (λ ws j r m. type-fuel (length s) (length r) ws j r (omega arith) (omega arith))
       (λ ws j r m. args-fuel (length s) (suc (length r)) ws j r (omega arith) (omega arith))
       (λ ws j r m. parts-fuel (length s) (length r) ws j r (omega arith) (omega arith))
 
   pub parts-is : (c : ℕ) (s : Text) → walked-parts vs k (c ∷ s) ≡ at-parts (lead c) c vs k s walked-more
-  unfolding walked-parts walked-more walkType
+  unfolding walked-parts walked-more walk-type
   parts-is c s =
       parts-agree (lead c) c vs k s _ _ (λ t w ws j r m. more-fuel (length s) (suc (length r)) t w ws j r (omega arith) (omega arith))
 
   pub more-is : (t : Ty) (w : Text) (c : ℕ) (s : Text)
       → walked-more t w vs k (c ∷ s) ≡ at-more (eqb c (code "I")) c t w vs k s walked-args walked-more
-  unfolding walked-more walked-args walkType
+  unfolding walked-more walked-args walk-type
   more-is t w c s =
       more-agree (eqb c (code "I")) c t w vs k s _ _ _ _ (args-fewer (suc (length s)) vs k s) refl
       (λ u v ws j r m. more-fuel (suc (length s)) (suc (length r)) u v ws j r (omega arith) (omega arith))
 
   pub args-is : (s : Text) → walked-args vs k s ≡ next (walked vs k s) (λ t w ws j r. at-arg t w ws j r walked-args)
-  unfolding walked walked-args walkType
+  unfolding walked walked-args walk-type
   args-is s =
-      next-agree (Fewer (length s)) (walkType (length s) vs k s) _ _ (type-fewer (length s) vs k s)
+      next-agree (Fewer (length s)) (walk-type (length s) vs k s) _ _ (type-fewer (length s) vs k s)
       (λ t w ws j r m. arg-agree (length s) t w ws j r _ _ (λ xs i r′ n. args-fuel (length s) (suc (length r′)) xs i r′ (omega arith) (omega arith)) m)
 
   pub types-is : (s : Text)
       → walked-types vs k s ≡ next (walked vs k s) (λ t w ws j r. when (not (is-lit t)) (at-end t w ws j r walked-types))
   unfolding walked walked-types walk-types
   types-is s =
-      next-agree (Fewer (length s)) (walkType (length s) vs k s) _ _ (type-fewer (length s) vs k s)
+      next-agree (Fewer (length s)) (walk-type (length s) vs k s) _ _ (type-fewer (length s) vs k s)
       (λ t w ws j r m. ap (when (not (is-lit t)))
       (end-types (length s) t w ws j r _ _ (λ xs i r′ n. types-fuel (length s) (suc (length r′)) xs i r′ (omega arith) (omega arith)) m))

@@ -17,7 +17,7 @@ use Rattle.catalogue.specs.Tree.{Letter, Wrap, Kind, Ty, lit, letter-code, wrap
 use Rattle.catalogue.specs.Spelling.{ref-digits, length-digits, name-bytes, minus}
 use Rattle.catalogue.specs.Class.{name-ok, lit-ok}
 use Rattle.catalogue.specs.laws.Numbers.{ref-all, ref-index}
-use Rattle.catalogue.specs.Recogniser.{rd, stop, cut, read-name, with-code, all-letters, all-wraps, all-kinds, Lead, lead-letter, lead-wrap, lead-digit, leadS, leadN, leadL, leadNone, lead}
+use Rattle.catalogue.specs.Recogniser.{rd, stop, cut, read-name, with-code, all-letters, all-wraps, all-kinds, Lead, lead-letter, lead-wrap, lead-digit, lead-S, lead-N, lead-L, lead-none, lead}
 use Rattle.catalogue.specs.laws.ReadsBack.{name-read, name-some, kind-at, no-n, next-no}
 use Rattle.catalogue.specs.laws.SymbolReadsBack.{lit-digits}
 use Rattle.normal_walk.specs.Walk.{canonical, name, reference, value, literal}
@@ -150,41 +150,41 @@ abbrev pub Begins : Lead → ℕ → Type 0
 Begins (lead-letter l) c = c ≡ letter-code l
 Begins (lead-wrap q) c = c ≡ wrap-code q
 Begins lead-digit c = digit 10 c ≡ true
-Begins leadS c = c ≡ code "S"
-Begins leadN c = c ≡ code "N"
-Begins leadL c = c ≡ code "L"
-Begins leadNone c = Unit {0}
+Begins lead-S c = c ≡ code "S"
+Begins lead-N c = c ≡ code "N"
+Begins lead-L c = c ≡ code "L"
+Begins lead-none c = Unit {0}
 
 pub begins : (c : ℕ) → Begins (lead c) c
 unfolding lead if_then_else_ choose
 begins c = by-digit (digit 10 c) refl
   where
-    by-letter : (o : Option Letter) → with-code letter-code c all-letters ≡ o → Begins (choose o lead-letter leadNone) c
+    by-letter : (o : Option Letter) → with-code letter-code c all-letters ≡ o → Begins (choose o lead-letter lead-none) c
     by-letter none e = tt
     by-letter (some l) e = code-sound letter-code c all-letters l e
 
     by-wrap : (o : Option Wrap) → with-code wrap-code c all-wraps ≡ o
-        → Begins (choose o lead-wrap (choose (with-code letter-code c all-letters) lead-letter leadNone)) c
+        → Begins (choose o lead-wrap (choose (with-code letter-code c all-letters) lead-letter lead-none)) c
     by-wrap none e = by-letter (with-code letter-code c all-letters) refl
     by-wrap (some q) e = code-sound wrap-code c all-wraps q e
 
     rest : Lead
-    rest = choose (with-code wrap-code c all-wraps) lead-wrap (choose (with-code letter-code c all-letters) lead-letter leadNone)
+    rest = choose (with-code wrap-code c all-wraps) lead-wrap (choose (with-code letter-code c all-letters) lead-letter lead-none)
 
-    by-L : (p : Bool) → eqb c (code "L") ≡ p → Begins (if p then leadL else rest) c
+    by-L : (p : Bool) → eqb c (code "L") ≡ p → Begins (if p then lead-L else rest) c
     by-L true e = eqb-eq c 76 e
     by-L false e = by-wrap (with-code wrap-code c all-wraps) refl
 
-    by-N : (p : Bool) → eqb c (code "N") ≡ p → Begins (if p then leadN else if eqb c (code "L") then leadL else rest) c
+    by-N : (p : Bool) → eqb c (code "N") ≡ p → Begins (if p then lead-N else if eqb c (code "L") then lead-L else rest) c
     by-N true e = eqb-eq c 78 e
     by-N false e = by-L (eqb c (code "L")) refl
 
     by-S : (p : Bool) → eqb c (code "S") ≡ p
-        → Begins (if p then leadS else if eqb c (code "N") then leadN else if eqb c (code "L") then leadL else rest) c
+        → Begins (if p then lead-S else if eqb c (code "N") then lead-N else if eqb c (code "L") then lead-L else rest) c
     by-S true e = eqb-eq c 83 e
     by-S false e = by-N (eqb c (code "N")) refl
 
     by-digit : (p : Bool) → digit 10 c ≡ p
-        → Begins (if p then lead-digit else if eqb c (code "S") then leadS else if eqb c (code "N") then leadN else if eqb c (code "L") then leadL else rest) c
+        → Begins (if p then lead-digit else if eqb c (code "S") then lead-S else if eqb c (code "N") then lead-N else if eqb c (code "L") then lead-L else rest) c
     by-digit true e = e
     by-digit false e = by-S (eqb c (code "S")) refl

@@ -13,9 +13,9 @@ use Rattle.catalogue.specs.Bytes.{eqb-eq}
 use Rattle.catalogue.specs.Tree.{Wrap, Ty, Args, letter, wrap, root, sub, app, one, also, is-class, is-bare, single, wrap-code, kind-code}
 use Rattle.catalogue.specs.Spelling.{Sp, Pre, SpArgs, s-letter, s-wrap, s-ref, plain, templ, retempl, nest-sub, nest-app, s-lit, p-ref, p-root, p-sub, p-app, s-one, s-also, ref-digits, name-bytes, minus, spell, spell-pre, spell-args}
 use Rattle.catalogue.specs.Class.{name-ok, stands, push, ok, resolve, resolve-pre, resolve-args, number, count, count-pre, count-args}
-use Rattle.catalogue.specs.Recogniser.{Lead, lead-letter, lead-wrap, lead-digit, leadS, leadN, leadL, leadNone, lead}
+use Rattle.catalogue.specs.Recogniser.{Lead, lead-letter, lead-wrap, lead-digit, lead-S, lead-N, lead-L, lead-none, lead}
 use Rattle.catalogue.specs.laws.ReadsBack.{front, inner, inner′}
-use Rattle.normal_walk.specs.Walk.{Walker, name, reference, literal, enter-nested, at-lead, at-parts, at-more, at-arg, walkType, walk-parts, walk-more, walk-args}
+use Rattle.normal_walk.specs.Walk.{Walker, name, reference, literal, enter-nested, at-lead, at-parts, at-more, at-arg, walk-type, walk-parts, walk-more, walk-args}
 use Rattle.normal_walk.specs.laws.Holds.{Of, of-got, of-bad, of-when, of-with, of-then, of-next, of-choose}
 use Rattle.normal_walk.specs.laws.Leaves.{name-sound, ref-sound, Literal, lit-sound, Begins, begins}
 
@@ -152,19 +152,19 @@ lead-sound lead-digit c vs k s type args parts b p q m =
     (λ r′ e. of-then _ (SpeltArgs (push (root n) vs) k r′) (args (push (root n) vs) k r′) _ (q (push (root n) vs) k r′)
     (λ xs v ws j r″ g. of-got _ _ _ _ _ r″ (templ-spelt vs k n (c ∷ s) v _ r′ r″ xs ws j (rw e at (h .0)) (h .1) g)))
     (of-got _ _ _ _ _ r (plain-spelt vs k n (c ∷ s) _ r (h .0) (h .1))))
-lead-sound leadS c vs k s type args parts b p q m =
+lead-sound lead-S c vs k s type args parts b p q m =
     of-with _ _ (reference s) _ (ref-sound s)
     (λ i r h. of-choose _ (getElem? vs i) _ (λ t a. of-next _ (code "I") r _ _
     (λ r′ e. of-when _ (single t && is-bare t) _
     (λ z. of-then _ (SpeltArgs vs k r′) (args vs k r′) _ (q vs k r′)
     (λ xs v ws j r″ g. of-got _ _ _ _ _ r″ (rw b (retempl-spelt vs k i t s v _ r′ r″ xs ws j (rw e at h) a z g)))))
     (of-got _ _ _ _ _ r (rw b (ref-spelt vs k i t s _ r h a)))))
-lead-sound leadN c vs k s type args parts b p q m =
+lead-sound lead-N c vs k s type args parts b p q m =
     of-then _ (SpeltClass vs k s) (parts vs k s) _ (m vs k s)
     (λ u w ws j r h. of-when _ (not (single u)) _ (λ e. of-got _ _ _ _ _ r (rw b (class-spelt vs k s u w _ ws j r e h))))
-lead-sound leadL c vs k s type args parts b p q m =
+lead-sound lead-L c vs k s type args parts b p q m =
     of-with _ _ (literal s) _ (lit-sound s) (λ t r h. of-got _ _ _ _ _ r (rw b (lit-spelt vs k s t _ r h)))
-lead-sound leadNone c vs k s type args parts b p q m = of-bad _
+lead-sound lead-none c vs k s type args parts b p q m = of-bad _
 
 -- ---------------------------------------------------------------- classes of more parts
 
@@ -213,13 +213,13 @@ parts-sound (lead-wrap d) c vs k s more b p = of-bad _
 parts-sound lead-digit c vs k s more b p =
     of-with _ _ (name (c ∷ s)) _ (name-sound (c ∷ s))
     (λ n r h. p vs k (c ∷ s) (root n) _ (push (root n) vs) k r (root-spelt vs k (c ∷ s) n r (h .0) (h .1)))
-parts-sound leadS c vs k s more b p =
+parts-sound lead-S c vs k s more b p =
     of-with _ _ (reference s) _ (ref-sound s)
     (λ i r h. of-choose _ (getElem? vs i) _ (λ t a. of-when _ (is-class t) _
     (λ z. p vs k (c ∷ s) t _ vs k r (rw b (entry-spelt vs k i t s r h a z)))))
-parts-sound leadN c vs k s more b p = of-bad _
-parts-sound leadL c vs k s more b p = of-bad _
-parts-sound leadNone c vs k s more b p = of-bad _
+parts-sound lead-N c vs k s more b p = of-bad _
+parts-sound lead-L c vs k s more b p = of-bad _
+parts-sound lead-none c vs k s more b p = of-bad _
 
 more-sound : (i : Bool) (c : ℕ) (t : Ty) (w : Text) (ws : List Ty) (j : ℕ) (s : Text) (args : Walker Args) (more : Ty → Text → Walker Ty)
     → eqb c (code "I") ≡ i → SoundArgs args → SoundMore more → (vs : List Ty) (k : ℕ) (s₀ : Text) → SpeltPre vs k s₀ t ws j (c ∷ s)
@@ -268,9 +268,9 @@ arg-sound vs k s t w us j r args q h =
 -- ---------------------------------------------------------------- every walk
 
 mutual
-  unfolding walkType
+  unfolding walk-type
 
-  pub type-sound : (f : ℕ) → SoundType (walkType f)
+  pub type-sound : (f : ℕ) → SoundType (walk-type f)
   type-sound zero vs k s = of-bad _
   type-sound (suc f) vs k [] = of-bad _
   type-sound (suc f) vs k (c ∷ s) =
@@ -292,5 +292,5 @@ mutual
   pub args-sound : (f : ℕ) → SoundArgs (walk-args f)
   args-sound zero vs k s = of-bad _
   args-sound (suc f) vs k s =
-      of-then _ (Spelt vs k s) (walkType f vs k s) _ (type-sound f vs k s)
+      of-then _ (Spelt vs k s) (walk-type f vs k s) _ (type-sound f vs k s)
       (λ t w us j r h. arg-sound vs k s t w us j r _ (λ ws i r′. args-sound f ws i r′) h)

@@ -15,7 +15,7 @@ use Rattle.catalogue.specs.Tree.{Letter, Wrap, Kind, Ty, Args, letter, wrap, ro
 use Rattle.catalogue.specs.Spelling.{ref-digits, ref-bytes, length-digits, name-bytes, minus}
 use Rattle.catalogue.specs.Class.{name-ok, lit-ok, stands, push}
 use Rattle.catalogue.specs.laws.Numbers.{Some}
-use Rattle.catalogue.specs.Recogniser.{rd, if-next, lead-letter, lead-wrap, lead-digit, leadS, leadN, leadL, lead}
+use Rattle.catalogue.specs.Recogniser.{rd, if-next, lead-letter, lead-wrap, lead-digit, lead-S, lead-N, lead-L, lead}
 use Rattle.catalogue.specs.laws.ReadsBack.{lead-digit-is, digit-IE, digits-all, digits-some}
 use Rattle.normal_walk.specs.Walk.{Walk, got, bad, Walker, next, when, with, name, reference, literal, wrote, in-brackets, with-args, enter, enter-nested, lit-bytes, end-or, at-scoped, at-name, at-params, at-enc, result, walk-parts, walk-enc, walk-sym}
 use Rattle.normal_walk.specs.laws.Holds.{Of, of-got, of-when, of-with, of-then, of-next, of-map}
@@ -40,26 +40,26 @@ module _ (vs : List Ty) (k c : ℕ) (s : Text) where
       (enter (root n) (name-bytes n) vs k r))
   walked-digit h = walked-is vs k c s ∙ rw h refl
 
-  pub walked-S : lead c ≡ leadS
+  pub walked-S : lead c ≡ lead-S
       → walked vs k (c ∷ s)
       ≡ with (reference s) (λ i r. choose (getElem? vs i) (λ t.
       if-next (code "I") r (λ r′. when (single t && is-bare t) (with-args t (wrote t vs []) (walked-args vs k r′) enter))
       (got t (wrote t vs []) vs k r)) bad)
   walked-S h = walked-is vs k c s ∙ rw h refl
 
-  pub walked-N : lead c ≡ leadN
+  pub walked-N : lead c ≡ lead-N
       → walked vs k (c ∷ s)
       ≡ next (walked-parts vs k s) (λ u w vs′ k′ r. when (not (single u)) (got u (wrote u vs′ (in-brackets c w)) (enter-nested u vs′) k′ r))
   walked-N h = walked-is vs k c s ∙ rw h refl
 
-  pub walked-L : lead c ≡ leadL → walked vs k (c ∷ s) ≡ with (literal s) (λ t r. got t (lit-bytes t) vs k r)
+  pub walked-L : lead c ≡ lead-L → walked vs k (c ∷ s) ≡ with (literal s) (λ t r. got t (lit-bytes t) vs k r)
   walked-L h = walked-is vs k c s ∙ rw h refl
 
   pub parts-digit : lead c ≡ lead-digit
       → walked-parts vs k (c ∷ s) ≡ with (name (c ∷ s)) (λ n r. walked-more (root n) (wrote (root n) vs (name-bytes n)) (push (root n) vs) k r)
   parts-digit h = parts-is vs k c s ∙ rw h refl
 
-  pub parts-S : lead c ≡ leadS
+  pub parts-S : lead c ≡ lead-S
       → walked-parts vs k (c ∷ s)
       ≡ with (reference s) (λ i r. choose (getElem? vs i) (λ t. when (is-class t) (walked-more t (wrote t vs []) vs k r)) bad)
   parts-S h = parts-is vs k c s ∙ rw h refl
@@ -109,15 +109,15 @@ module _ (vs : List Ty) (k : ℕ) (n r : Text) (p : name-ok n ≡ true) where
       go [] h e = absurd (false≢true h)
       go (c ∷ s) h e = more-digit vs k c s t w (or-left (eqb c 73) (eqb c 69) (digit-IE c h)) ∙ rw e refl
 
-pub lead-S : lead (code "S") ≡ leadS
+pub lead-S : lead (code "S") ≡ lead-S
 unfolding lead digit digit-value if_then_else_
 lead-S = refl
 
-pub lead-N : lead (code "N") ≡ leadN
+pub lead-N : lead (code "N") ≡ lead-N
 unfolding lead digit digit-value if_then_else_
 lead-N = refl
 
-pub lead-L : lead (code "L") ≡ leadL
+pub lead-L : lead (code "L") ≡ lead-L
 unfolding lead digit digit-value if_then_else_
 lead-L = refl
 

@@ -18,7 +18,7 @@ use Rattle.catalogue.specs.Class.{name-ok, all-types, ok, resolve, resolve-args
 use Rattle.catalogue.specs.Recogniser.{if-next}
 use Rattle.catalogue.specs.laws.ReadsBack.{inner}
 use Rattle.catalogue.specs.laws.Decision.{valid-of}
-use Rattle.normal_walk.specs.Walk.{Walk, got, bad, Walker, name, at-end, at-scoped, at-name, at-params, result, walkType, walk-parts, walk-types, walk-enc, walk-sym}
+use Rattle.normal_walk.specs.Walk.{Walk, got, bad, Walker, name, at-end, at-scoped, at-name, at-params, result, walk-type, walk-parts, walk-types, walk-enc, walk-sym}
 use Rattle.normal_walk.specs.laws.Holds.{Of, of-got, of-bad, of-when, of-with, of-then, of-next}
 use Rattle.normal_walk.specs.laws.Leaves.{name-sound}
 use Rattle.normal_walk.specs.laws.Sound.{Spelt, SpeltClass, ends-part, ends-args, SoundParts, type-sound, class-sound}
@@ -61,7 +61,7 @@ types-sound : (f : ℕ) → SoundTypes (walk-types f)
 unfolding walk-types
 types-sound zero vs k s = of-bad _
 types-sound (suc f) vs k s =
-    of-then _ (Spelt vs k s) (walkType f vs k s) _ (type-sound f vs k s)
+    of-then _ (Spelt vs k s) (walk-type f vs k s) _ (type-sound f vs k s)
     (λ t w us j r h. of-when _ (not (is-lit t)) _ (λ p. end-sound vs k s t w us j r _ (λ ws i r′. types-sound f ws i r′) p h))
 
 -- ---------------------------------------------------------------- the function's name

@@ -8,14 +8,15 @@ use lib.Dec.{eqb}
 use lib.ListN.{length, drop, getD}
 use Rattle.grammar.specs.Text.{Text, starts}
 use Rattle.catalogue.specs.Tree.{Letter, Wrap}
-use Rattle.catalogue.specs.Recogniser.{if-next, Lead, lead-letter, lead-wrap, leadL, leadNone, lead}
+use Rattle.catalogue.specs.Recogniser.{if-next, Lead, lead-letter, lead-wrap, lead-L, lead-none, lead}
 use Rattle.normal_nodes.specs.Nodes.{Notes, Noter, Got, got, next, when, put, go-to, entered, note-at-lead, note-at-name, at-reference, note-with-args, note-type, note-args, note-parts}
 use Rattle.normal_steps.specs.States.{moved-to}
-use Rattle.normal_steps.specs.Holds.{Holds, Ready, Room, Spent, Refines, tells, refuses, Reads, Fueled, Steps, Does, Copies, Tag, most-number, at-literal, counts-arg, wraps, closed}
+use Rattle.normal_steps.specs.Holds.{Work, out-to, notes-to, Holds, Ready, ReadyOut, ReadyNotes, Room, Spent, Tag}
+use Rattle.normal_steps.specs.Holds.{Refines, tells, refuses, Reads, Fueled, Steps, Does, Copies, Closes, most-number, at-literal, counts-arg, wraps, closed}
 use Rattle.normal_writer.specs.Cycle.{Leads, WithArgs}
 use Rattle.normal_steps.specs.laws.Told.{Answered, answered, refused, by, within}
 use Rattle.normal_steps.specs.laws.Steps.{on-got, on-bad}
-use Rattle.normal_steps.specs.laws.Moves.{first-byte, no-byte, byte-is, byte-not, holds-next}
+use Rattle.normal_steps.specs.laws.Moves.{first-byte, no-byte, byte-is, byte-not, holds-next, ready-out, ready-notes}
 use Rattle.normal_steps.specs.laws.Tests.{byte-next}
 use Rattle.normal_steps.specs.laws.Limits.{spent-less, spent-spent, passed-spent, passed-none, spent-took, took-more, spent-nothing, spent-moved, spent-stands, spent-room}
 use Rattle.normal_writer.specs.laws.FirstBytes.{type-none, type-some}
@@ -27,28 +28,28 @@ use Rattle.normal_steps.specs.declared.state.Told.the-variants.{Number, Bad}
 -- ---------------------------------------------------------------- a reading with fuel, once
 
 -- what is known behind a member's answer, whatever the fuel
-pub fueled : {s o n o' n' : Text} {k b : ℕ} {f : ℕ → Noter ℕ} {p q : Writer} {d : ℕ} {r : Told} (e : ℕ) → r ≡ Number q d → Fueled k b e f s o n o' n' p r
-    → (w : Ready s o n p) → Answered s (Spent k b p) o' n' q d (f (length s + e) (w .0))
+pub fueled : {s : Text} {ws ws' : Work} {k b : ℕ} {f : ℕ → Noter ℕ} {p q : Writer} {d : ℕ} {r : Told} (e : ℕ) → r ≡ Number q d → Fueled k b e f s ws ws' p r
+    → (w : Ready s ws p) → Answered s (Spent k b p) ws' q d (f (length s + e) (w .0))
 fueled {s} e i u (σ, h) = answered i (u σ h (length s + e) (omega arith))
 
 -- ---------------------------------------------------------------- wrap
 
-module _ {s o o₁ o₂ n n₂ : Text} {p p₁ : Writer} {r₁ : Told}
-    (k : Copies s o o₁ p p₁) (u : Fueled 1 (p₁ .out) 0 note-type s o₁ n o₂ n₂ p₁ r₁) where
-  pub wrap-refused : (q : Wrap) (c : ℕ) → r₁ ≡ Bad → Leads (lead-wrap q) c s o n o₂ n₂ p Bad
-  wrap-refused q c e σ h m l t i = by (on-bad _ (refused e (u _ (k .1 n σ h c t i) m (omega (arith, k .0))))) refuses
+module _ {s : Text} {ws ws₂ : Work} {o₁ : Text} {p p₁ : Writer} {r₁ : Told}
+    (k : Copies s (ws .out) o₁ p p₁) (u : Fueled 1 (p₁ .out) 0 note-type s (out-to ws o₁) ws₂ p₁ r₁) where
+  pub wrap-refused : (q : Wrap) (c : ℕ) → r₁ ≡ Bad → Leads (lead-wrap q) c s ws ws₂ p Bad
+  wrap-refused q c e σ h m l t i = by (on-bad _ (refused e (u _ (k .1 ws σ h c t i) m (omega (arith, k .0))))) refuses
 
   module _ {p₂ : Writer} {d : ℕ} (e : r₁ ≡ Number p₂ d) where
-    pub wrap-next : p .at < length s → Ready s o n p
-        → (d < most-number) × ((p .out ≤ p₂ .out) × ((Room 1 1 5 p₂) × Ready s o₂ n₂ p₂))
+    pub wrap-next : p .at < length s → Ready s ws p
+        → (d < most-number) × ((p .out ≤ p₂ .out) × ((Room 1 1 5 p₂) × Ready s ws₂ p₂))
     wrap-next l (σ, h) =
-        let w = fueled 0 e u (_, k .1 n σ h _ _ (first-byte h l)) in
+        let w = fueled 0 e u (_, k .1 ws σ h _ _ (first-byte h l)) in
         (w .small, (omega (arith, w .limits, k .0), (spent-room h (passed-spent (k .0) (omega arith) (w .limits)) (omega arith) (omega arith) (omega arith), (w .state, w .holds))))
 
-    pub wrap-answer : {o₃ n₃ : Text} {r : Told} (q : Wrap) (c : ℕ) → Steps 1 1 5 (p .out) (wraps c d (p .out)) s o₂ n₂ o₃ n₃ p₂ r
-        → Leads (lead-wrap q) c s o n o₃ n₃ p r
+    pub wrap-answer : {ws₃ : Work} {r : Told} (q : Wrap) (c : ℕ) → Steps 1 1 5 (p .out) (wraps c d (p .out)) s ws₂ ws₃ p₂ r
+        → Leads (lead-wrap q) c s ws ws₃ p r
     wrap-answer q c v σ h m l t i =
-        let w = answered e (u _ (k .1 n σ h c t i) m (omega (arith, k .0))) in
+        let w = answered e (u _ (k .1 ws σ h c t i) m (omega (arith, k .0))) in
         by (on-got _ (w .is) ∙ ap (λ (from : ℕ). wraps c d from (w .state)) (sym (h .out-count)))
         (within (λ x y. spent-took (passed-spent (k .0) (omega arith) (w .limits)) y (omega arith) (omega arith) (omega arith)) (v (w .state) (w .holds)))
 
@@ -65,42 +66,42 @@ by-reference from t σ = at-reference from (go-to t σ)
 abbrev pub Behind : Writer → Writer → Type 0
 Behind p q = (p .at + 2 ≤ q .at) × Spent 1 (p .out) p q
 
-abbrev pub FirstPart : (ℕ → Text → Noter ℕ) → Text → Text → Text → Text → Text → Writer → Told → Type 0
-FirstPart f s o n o' n' p r =
-    (σ : Notes) → Holds s o n p σ → (c : ℕ) (t : Text) → σ .rest ≡ c ∷ t → Refines s (Behind p) o' n' r (f (p .out) t σ)
+abbrev pub FirstPart : (ℕ → Text → Noter ℕ) → Text → Work → Work → Writer → Told → Type 0
+FirstPart f s ws ws' p r =
+    (σ : Notes) → Holds s ws p σ → (c : ℕ) (t : Text) → σ .rest ≡ c ∷ t → Refines s (Behind p) ws' r (f (p .out) t σ)
 
 -- a class of one part, with its arguments
-abbrev pub Classed : (ℕ → Text → Noter ℕ) → Text → Text → Text → Text → Text → Writer → Told → Type 0
-Classed f s o n o' n' p r =
-    (c : ℕ) (σ : Notes) → Holds s o n p σ → (m : ℕ) → length s ≤ suc m + p .at → (t : Text) → σ .rest ≡ c ∷ t
-    → Refines s (Spent 1 (p .out) p) o' n' r (next (f (length (σ .out)) t σ) (λ d τ. note-with-args d (length (σ .out)) (λ v ρ. note-args m v ρ) τ))
+abbrev pub Classed : (ℕ → Text → Noter ℕ) → Text → Work → Work → Writer → Told → Type 0
+Classed f s ws ws' p r =
+    (c : ℕ) (σ : Notes) → Holds s ws p σ → (m : ℕ) → length s ≤ suc m + p .at → (t : Text) → σ .rest ≡ c ∷ t
+    → Refines s (Spent 1 (p .out) p) ws' r (next (f (length (σ .out)) t σ) (λ d τ. note-with-args d (length (σ .out)) (λ v ρ. note-args m v ρ) τ))
 
-module _ {s o n o₁ n₁ : Text} {p : Writer} {r₁ : Told} where
-  pub first-named : Reads 2 (p .out) (note-at-name (p .out)) s o n o₁ n₁ p r₁ → FirstPart by-name s o n o₁ n₁ p r₁
+module _ {s : Text} {ws ws₁ : Work} {p : Writer} {r₁ : Told} where
+  pub first-named : Reads 2 (p .out) (note-at-name (p .out)) s ws ws₁ p r₁ → FirstPart by-name s ws ws₁ p r₁
   first-named u σ h c t e = u σ h
 
-  pub first-referred : {q : Writer} → q ≡ moved-to p (p .at + 1) → Reads 1 (q .out) (at-reference (q .out)) s o n o₁ n₁ q r₁
-      → FirstPart by-reference s o n o₁ n₁ p r₁
-  first-referred {q} i u σ h c t e = go (subst (λ (x : Writer). Reads 1 (x .out) (at-reference (x .out)) s o n o₁ n₁ x r₁) i u)
+  pub first-referred : {q : Writer} → q ≡ moved-to p (p .at + 1) → Reads 1 (q .out) (at-reference (q .out)) s ws ws₁ q r₁
+      → FirstPart by-reference s ws ws₁ p r₁
+  first-referred {q} i u σ h c t e = go (subst (λ (x : Writer). Reads 1 (x .out) (at-reference (x .out)) s ws ws₁ x r₁) i u)
     where
-      go : Reads 1 (p .out) (at-reference (p .out)) s o n o₁ n₁ (moved-to p (p .at + 1)) r₁
-          → Refines s (Behind p) o₁ n₁ r₁ (at-reference (p .out) (go-to t σ))
+      go : Reads 1 (p .out) (at-reference (p .out)) s ws ws₁ (moved-to p (p .at + 1)) r₁
+          → Refines s (Behind p) ws₁ r₁ (at-reference (p .out) (go-to t σ))
       go v = within (λ x (y, z). (omega arith, spent-less (omega arith) (passed-spent (passed-none p refl) (omega arith) z))) (v (go-to t σ) (holds-next h e refl))
 
-  module _ (f : ℕ → Text → Noter ℕ) (u : FirstPart f s o n o₁ n₁ p r₁) where
-    class-at : (m : ℕ) (σ : Notes) (t : Text) → Holds s o n p σ
+  module _ (f : ℕ → Text → Noter ℕ) (u : FirstPart f s ws ws₁ p r₁) where
+    class-at : (m : ℕ) (σ : Notes) (t : Text) → Holds s ws p σ
         → next (f (length (σ .out)) t σ) (λ d τ. note-with-args d (length (σ .out)) (λ v ρ. note-args m v ρ) τ)
         ≡ next (f (p .out) t σ) (λ d τ. note-with-args d (p .out) (λ v ρ. note-args m v ρ) τ)
     class-at m σ t h = ap (λ (from : ℕ). next (f from t σ) (λ d τ. note-with-args d from (λ v ρ. note-args m v ρ) τ)) (sym (h .out-count))
 
-    pub class-refused : r₁ ≡ Bad → Classed f s o n o₁ n₁ p Bad
+    pub class-refused : r₁ ≡ Bad → Classed f s ws ws₁ p Bad
     class-refused e c σ h m l t i = by (class-at m σ t h ∙ on-bad _ (refused e (u σ h c t i))) refuses
 
     module _ {q : Writer} {d : ℕ} (e : r₁ ≡ Number q d) where
-      pub first-next : p .at < length s → (w : Ready s o n p) → Answered s (Behind p) o₁ n₁ q d (f (p .out) (drop (p .at + 1) s) (w .0))
+      pub first-next : p .at < length s → (w : Ready s ws p) → Answered s (Behind p) ws₁ q d (f (p .out) (drop (p .at + 1) s) (w .0))
       first-next l (σ, h) = answered e (u σ h _ _ (first-byte h l))
 
-      pub class-answer : {o₂ n₂ : Text} {r : Told} → WithArgs d (p .out) s o₁ n₁ o₂ n₂ q r → Classed f s o n o₂ n₂ p r
+      pub class-answer : {ws₂ : Work} {r : Told} → WithArgs d (p .out) s ws₁ ws₂ q r → Classed f s ws ws₂ p r
       class-answer v c σ h m l t i =
           let w = answered e (u σ h c t i) in
           by (class-at m σ t h ∙ on-got (λ d τ. note-with-args d (p .out) (λ v ρ. note-args m v ρ) τ) (w .is))
@@ -109,35 +110,35 @@ module _ {s o n o₁ n₁ : Text} {p : Writer} {r₁ : Told} where
 -- ---------------------------------------------------------------- I <template-args> E
 
 -- I and arguments, behind what has the number t
-module _ {s o o₁ o₂ n n₂ : Text} {p p₁ : Writer} (t : ℕ) {r₁ : Told} (i : starts (drop (p .at) s) (73 ∷ []) ≡ true)
-    (k : Copies s o o₁ p p₁) (u : Fueled 0 (p₁ .out) 1 (λ m. note-args m t) s o₁ n o₂ n₂ p₁ r₁) where
-  pub args-from : {σ : Notes} → Holds s o n p σ → (m : ℕ) → length s ≤ m + p .at
-      → Refines s (Spent 0 (p₁ .out) p₁) o₂ n₂ r₁ (note-args m t (put (73 ∷ []) (go-to (drop (p .at + 1) s) σ)))
-  args-from {σ} h m l = u _ (k .1 n σ h _ _ (byte-is h 73 i)) m (omega (arith, k .0))
+module _ {s : Text} {ws ws₂ : Work} {o₁ : Text} {p p₁ : Writer} (t : ℕ) {r₁ : Told} (i : starts (drop (p .at) s) (73 ∷ []) ≡ true)
+    (k : Copies s (ws .out) o₁ p p₁) (u : Fueled 0 (p₁ .out) 1 (λ m. note-args m t) s (out-to ws o₁) ws₂ p₁ r₁) where
+  pub args-from : {σ : Notes} → Holds s ws p σ → (m : ℕ) → length s ≤ m + p .at
+      → Refines s (Spent 0 (p₁ .out) p₁) ws₂ r₁ (note-args m t (put (73 ∷ []) (go-to (drop (p .at + 1) s) σ)))
+  args-from {σ} h m l = u _ (k .1 ws σ h _ _ (byte-is h 73 i)) m (omega (arith, k .0))
 
-  pub args-at : {σ : Notes} → Holds s o n p σ → (m : ℕ) → length s ≤ m + p .at
-      → Refines s (Spent 1 (p .out) p) o₂ n₂ r₁ (note-args m t (put (73 ∷ []) (go-to (drop (p .at + 1) s) σ)))
+  pub args-at : {σ : Notes} → Holds s ws p σ → (m : ℕ) → length s ≤ m + p .at
+      → Refines s (Spent 1 (p .out) p) ws₂ r₁ (note-args m t (put (73 ∷ []) (go-to (drop (p .at + 1) s) σ)))
   args-at h m l = within (λ x y. spent-stands (omega (arith, k .0)) (passed-spent (k .0) (omega arith) y)) (args-from h m l)
 
   module _ {p₂ : Writer} {d : ℕ} (e : r₁ ≡ Number p₂ d) where
-    pub args-told : (w : Ready s o n p) → Answered s (Spent 1 (p .out) p) o₂ n₂ p₂ d (note-args (length s) t (put (73 ∷ []) (go-to (drop (p .at + 1) s) (w .0))))
+    pub args-told : (w : Ready s ws p) → Answered s (Spent 1 (p .out) p) ws₂ p₂ d (note-args (length s) t (put (73 ∷ []) (go-to (drop (p .at + 1) s) (w .0))))
     args-told (σ, h) = answered e (args-at h (length s) (omega arith))
 
 -- E was written behind them
-pub record Enclosed (s o n : Text) (from : ℕ) (p q : Writer) (d : ℕ) : Type 0 where
+pub record Enclosed (s : Text) (ws : Work) (from : ℕ) (p q : Writer) (d : ℕ) : Type 0 where
   pub at : p .at + 1 ≤ q .at
   pub small : d < most-number
   pub stands : from ≤ q .out
   pub room : Room 0 1 5 q
-  pub ready : Ready s o n q
+  pub ready : Ready s ws q
 
-module _ {s o n o₂ n₂ : Text} {p p₂ : Writer} {d b : ℕ} {g : Got ℕ} {σ : Notes} (h : Holds s o n p σ) (w : Answered s (Spent 1 b p) o₂ n₂ p₂ d g) where
-  pub close-next : (Room 0 0 1 p₂) × ((s : Text) × ((n : Text) × Ready s o₂ n p₂))
-  close-next = (spent-room h (w .limits) (omega arith) (omega arith) (omega arith), (_, (_, (w .state, w .holds))))
+module _ {s : Text} {ws ws₂ : Work} {p p₂ : Writer} {d b : ℕ} {g : Got ℕ} {σ : Notes} (h : Holds s ws p σ) (w : Answered s (Spent 1 b p) ws₂ p₂ d g) where
+  pub close-next : (Room 0 0 1 p₂) × ((s : Text) × ReadyOut s (ws₂ .out) p₂)
+  close-next = (spent-room h (w .limits) (omega arith) (omega arith) (omega arith), (_, ready-out (w .state, w .holds)))
 
-  pub closed-next : {from : ℕ} {o₃ : Text} {p₃ : Writer} → from ≤ b → ((s n : Text) → Does 0 0 1 (p₂ .out) closed s o₂ n o₃ n p₂ p₃) → Enclosed s o₃ n₂ from p p₃ d
+  pub closed-next : {from : ℕ} {o₃ : Text} {p₃ : Writer} → from ≤ b → Closes (ws₂ .out) o₃ p₂ p₃ → Enclosed s (out-to ws₂ o₃) from p p₃ d
   closed-next l v =
-      let a = v s n₂ (w .state) (w .holds) in
+      let a = v s ws₂ (w .state) (w .holds) in
       let x = a .limits in
       let y = w .limits in
       record {
@@ -158,28 +159,30 @@ module _ {s o n o₂ n₂ : Text} {p p₂ : Writer} {d b : ℕ} {g : Got ℕ} {�
 abbrev enclosed : ℕ → ℕ → ℕ → Text → Noter ℕ
 enclosed m t from r σ = next (note-args m t (put (73 ∷ []) (go-to r σ))) (λ u τ. got u (entered u from (closed τ)))
 
-module _ {s o n : Text} {p : Writer} (t from : ℕ) where
-  pub without-args : starts (drop (p .at) s) (73 ∷ []) ≡ false → t < most-number → from ≤ p .out → WithArgs t from s o n o n p (Number p t)
+module _ {s : Text} {ws : Work} {p : Writer} (t from : ℕ) where
+  pub without-args : starts (drop (p .at) s) (73 ∷ []) ≡ false → t < most-number → from ≤ p .out → WithArgs t from s ws ws p (Number p t)
   without-args e l b σ h m f = by (byte-not h 73 _ _ e) (tells h (spent-nothing b) l)
 
-  module _ (i : starts (drop (p .at) s) (73 ∷ []) ≡ true) {tag : ℕ} (g : Tag n p t tag) where
-    with-args-at : {σ : Notes} (m : ℕ) → Holds s o n p σ → {b : Bool} → eqb tag 48 ≡ b → note-with-args t from (λ v ρ. note-args m v ρ) σ ≡ when b (enclosed m t from (drop (p .at + 1) s) σ)
+  module _ (i : starts (drop (p .at) s) (73 ∷ []) ≡ true) {tag : ℕ} (g : Tag (ws .notes) p t tag) where
+    with-args-at : {σ : Notes} (m : ℕ) → Holds s ws p σ → {b : Bool} → eqb tag 48 ≡ b → note-with-args t from (λ v ρ. note-args m v ρ) σ ≡ when b (enclosed m t from (drop (p .at + 1) s) σ)
     with-args-at {σ} m h {b} e =
-        byte-next _ _ (byte-is h 73 i) ∙ ap (λ (x : ℕ). when (eqb x 48) (enclosed m t from (drop (p .at + 1) s) σ)) (sym (g s o σ h)) ∙ ap (λ (b : Bool). when b (enclosed m t from (drop (p .at + 1) s) σ)) e
+        byte-next _ _ (byte-is h 73 i)
+        ∙ ap (λ (x : ℕ). when (eqb x 48) (enclosed m t from (drop (p .at + 1) s) σ)) (sym (g s ws σ h))
+        ∙ ap (λ (b : Bool). when b (enclosed m t from (drop (p .at + 1) s) σ)) e
 
-    pub args-barred : eqb tag 48 ≡ false → WithArgs t from s o n o n p Bad
+    pub args-barred : eqb tag 48 ≡ false → WithArgs t from s ws ws p Bad
     args-barred e σ h m f = by (with-args-at m h e) refuses
 
-    module _ (z : eqb tag 48 ≡ true) {o₁ o₂ n₂ : Text} {p₁ : Writer} {r₁ : Told}
-        (k : Copies s o o₁ p p₁) (u : Fueled 0 (p₁ .out) 1 (λ m. note-args m t) s o₁ n o₂ n₂ p₁ r₁) where
-      pub args-refused : r₁ ≡ Bad → WithArgs t from s o n o₂ n₂ p Bad
+    module _ (z : eqb tag 48 ≡ true) {o₁ : Text} {ws₂ : Work} {p₁ : Writer} {r₁ : Told}
+        (k : Copies s (ws .out) o₁ p p₁) (u : Fueled 0 (p₁ .out) 1 (λ m. note-args m t) s (out-to ws o₁) ws₂ p₁ r₁) where
+      pub args-refused : r₁ ≡ Bad → WithArgs t from s ws ws₂ p Bad
       args-refused e σ h m f = by (with-args-at m h z ∙ on-bad _ (refused e (args-at t i k u h m (omega arith)))) refuses
 
-      pub args-answer : {p₂ p₃ p₄ : Writer} {d : ℕ} {o₃ o₄ n₄ : Text} → r₁ ≡ Number p₂ d → ((s n : Text) → Does 0 0 1 (p₂ .out) closed s o₂ n o₃ n p₂ p₃)
-          → ((s : Text) → Does 0 1 5 from (entered d from) s o₃ n₂ o₄ n₄ p₃ p₄) → WithArgs t from s o n o₄ n₄ p (Number p₄ d)
+      pub args-answer : {p₂ p₃ p₄ : Writer} {d : ℕ} {o₃ : Text} {ws₄ : Work} → r₁ ≡ Number p₂ d → Closes (ws₂ .out) o₃ p₂ p₃
+          → ((s : Text) → Does 0 1 5 from (entered d from) s (out-to ws₂ o₃) ws₄ p₃ p₄) → WithArgs t from s ws ws₄ p (Number p₄ d)
       args-answer e v w σ h m f =
           let a = answered e (args-at t i k u h m (omega arith)) in
-          let b = v s n₂ (a .state) (a .holds) in
+          let b = v s ws₂ (a .state) (a .holds) in
           let c = w s (closed (a .state)) (b .holds) in
           by (with-args-at m h z ∙ on-got _ (a .is))
           (tells (c .holds) (spent-took (a .limits) (took-more _ (b .limits) (c .limits) (omega arith)) (omega arith) (omega arith) (omega arith)) (a .small))
@@ -189,92 +192,92 @@ module _ {s o n : Text} {p : Writer} (t from : ℕ) where
 abbrev behind-arg : ℕ → ℕ → Noter ℕ
 behind-arg m d ρ = if-next 69 (ρ .rest) (λ r. got d (go-to r ρ)) (note-args m d ρ)
 
-abbrev pub ArgsFrom : ℕ → Text → Text → Text → Writer → Text → Text → Told → Type 0
-ArgsFrom t s o n p o' n' r = Fueled 0 (p .out) 1 (λ m. note-args m t) s o n o' n' p r
+abbrev pub ArgsFrom : ℕ → Text → Work → Writer → Work → Told → Type 0
+ArgsFrom t s ws p ws' r = Fueled 0 (p .out) 1 (λ m. note-args m t) s ws ws' p r
 
 -- of the loop
-abbrev pub ArgsSoFar : Text → Text → Text → Writer → ℕ → Text → Text → Writer → ℕ → Type 0
-ArgsSoFar s o₀ n₀ p₀ t₀ o n p t = SoFar (ArgsFrom t₀ s o₀ n₀ p₀) s o₀ n₀ p₀ (ArgsFrom t s o n p) o n p t
+abbrev pub ArgsSoFar : Text → Work → Writer → ℕ → Work → Writer → ℕ → Type 0
+ArgsSoFar s ws₀ p₀ t₀ ws p t = SoFar (ArgsFrom t₀ s ws₀ p₀) s ws₀ p₀ (ArgsFrom t s ws p) ws p t
 
 args-by : (m t : ℕ) (σ : Notes) → note-args (suc m) t σ ≡ next (note-type m σ) (λ x τ. next (counts-arg t x τ) (behind-arg m))
 unfolding note-args
 args-by m t σ = refl
 
-module _ {s o n o₁ n₁ : Text} {p : Writer} {r₁ : Told} (t : ℕ) (u : Fueled 1 (p .out) 0 note-type s o n o₁ n₁ p r₁) where
-  pub arg-refused : r₁ ≡ Bad → Fueled 0 (p .out) 1 (λ m. note-args m t) s o n o₁ n₁ p Bad
+module _ {s : Text} {ws ws₁ : Work} {p : Writer} {r₁ : Told} (t : ℕ) (u : Fueled 1 (p .out) 0 note-type s ws ws₁ p r₁) where
+  pub arg-refused : r₁ ≡ Bad → Fueled 0 (p .out) 1 (λ m. note-args m t) s ws ws₁ p Bad
   arg-refused e σ h zero l = absurd (omega (arith, h .place))
   arg-refused e σ h (suc m) l = by (args-by m t σ ∙ on-bad _ (refused e (u σ h m (omega arith)))) refuses
 
   module _ {q : Writer} {x : ℕ} (e : r₁ ≡ Number q x) where
-    pub arg-next : t < most-number → Ready s o n p → (t < most-number) × ((x < most-number) × ((Room 1 0 0 q) × ((o : Text) × Ready s o n₁ q)))
+    pub arg-next : t < most-number → Ready s ws p → (t < most-number) × ((x < most-number) × ((Room 1 0 0 q) × ReadyNotes s (ws₁ .notes) q))
     arg-next l (σ, h) =
-        let w = fueled 0 e u (σ, h) in (l, (w .small, (spent-room h (w .limits) (omega arith) (omega arith) (omega arith), (_, (w .state, w .holds)))))
+        let w = fueled 0 e u (σ, h) in (l, (w .small, (spent-room h (w .limits) (omega arith) (omega arith) (omega arith), ready-notes (w .state, w .holds))))
 
-    module _ {n₂ : Text} {r₂ : Told} (v : (o : Text) → Steps 1 0 0 (q .out) (counts-arg t x) s o n₁ o n₂ q r₂) where
-      pub count-refused : r₂ ≡ Bad → Fueled 0 (p .out) 1 (λ m. note-args m t) s o n o₁ n₂ p Bad
+    module _ {n₂ : Text} {r₂ : Told} (v : (ws : Work) → Steps 1 0 0 (q .out) (counts-arg t x) s (notes-to ws (ws₁ .notes)) (notes-to ws n₂) q r₂) where
+      pub count-refused : r₂ ≡ Bad → Fueled 0 (p .out) 1 (λ m. note-args m t) s ws (notes-to ws₁ n₂) p Bad
       count-refused i σ h zero l = absurd (omega (arith, h .place))
       count-refused i σ h (suc m) l =
           let w = answered e (u σ h m (omega arith)) in
-          by (args-by m t σ ∙ on-got (λ x τ. next (counts-arg t x τ) (behind-arg m)) (w .is) ∙ on-bad (behind-arg m) (refused i (v o₁ (w .state) (w .holds)))) refuses
+          by (args-by m t σ ∙ on-got (λ x τ. next (counts-arg t x τ) (behind-arg m)) (w .is) ∙ on-bad (behind-arg m) (refused i (v ws₁ (w .state) (w .holds)))) refuses
 
       module _ {q₂ : Writer} {d : ℕ} (i : r₂ ≡ Number q₂ d) where
         abbrev Counted : Notes → Type 0
-        Counted σ = (τ : Notes) × ((Holds s o₁ n₂ q₂ τ) × ((Spent 0 (p .out) p q₂) × ((p .at + 1 ≤ q₂ .at) × (d < most-number))))
+        Counted σ = (τ : Notes) × ((Holds s (notes-to ws₁ n₂) q₂ τ) × ((Spent 0 (p .out) p q₂) × ((p .at + 1 ≤ q₂ .at) × (d < most-number))))
 
-        counted-at : {σ : Notes} → Holds s o n p σ → (m : ℕ) → length s ≤ m + p .at
+        counted-at : {σ : Notes} → Holds s ws p σ → (m : ℕ) → length s ≤ m + p .at
             → (c : Counted σ) × (note-args (suc m) t σ ≡ behind-arg m d (c .0))
         counted-at {σ} h m l =
             let w = answered e (u σ h m (omega arith)) in
-            let a = answered i (v o₁ (w .state) (w .holds)) in (
+            let a = answered i (v ws₁ (w .state) (w .holds)) in (
               (a .state, (a .holds, (spent-stands (omega (arith, w .limits, a .limits)) (spent-took (w .limits) (a .limits) (omega arith) (omega arith) (omega arith)), (omega (arith, w .limits, a .limits), a .small)))),
               args-by m t σ ∙ on-got (λ x τ. next (counts-arg t x τ) (behind-arg m)) (w .is) ∙ on-got (behind-arg m) (a .is),
             )
 
-        pub counted-next : (w : Ready s o n p) → Counted (w .0)
+        pub counted-next : (w : Ready s ws p) → Counted (w .0)
         counted-next (σ, h) = counted-at h (length s) (omega arith) .0
 
         pub args-end : {z : Writer} → starts (drop (q₂ .at) s) (69 ∷ []) ≡ true → z ≡ moved-to q₂ (q₂ .at + 1)
-            → Fueled 0 (p .out) 1 (λ m. note-args m t) s o n o₁ n₂ p (Number z d)
+            → Fueled 0 (p .out) 1 (λ m. note-args m t) s ws (notes-to ws₁ n₂) p (Number z d)
         args-end j g σ h zero l = absurd (omega (arith, h .place))
         args-end j g σ h (suc m) l =
             let ((τ, (k, (b, (a, y)))), f) = counted-at h m (omega arith) in
             by (f ∙ byte-next _ _ (byte-is k 69 j)) (tells (holds-next k (byte-is k 69 j) g) (spent-moved g b) y)
 
-        args-more : {o₃ n₃ : Text} {r : Told} → starts (drop (q₂ .at) s) (69 ∷ []) ≡ false
-            → Fueled 0 (q₂ .out) 1 (λ m. note-args m d) s o₁ n₂ o₃ n₃ q₂ r → Fueled 0 (p .out) 1 (λ m. note-args m t) s o n o₃ n₃ p r
+        args-more : {ws₃ : Work} {r : Told} → starts (drop (q₂ .at) s) (69 ∷ []) ≡ false
+            → Fueled 0 (q₂ .out) 1 (λ m. note-args m d) s (notes-to ws₁ n₂) ws₃ q₂ r → Fueled 0 (p .out) 1 (λ m. note-args m t) s ws ws₃ p r
         args-more j g σ h zero l = absurd (omega (arith, h .place))
         args-more j g σ h (suc m) l =
             let ((τ, (k, (b, (a, y)))), f) = counted-at h m (omega arith) in
             by (f ∙ byte-not k 69 _ _ j) (within (λ x z. spent-stands (b .stands) (spent-spent b z)) (g τ k m (omega arith)))
 
-        pub args-again : {F : Text → Text → Told → Type 0} {o₀ n₀ : Text} {p₀ : Writer} → starts (drop (q₂ .at) s) (69 ∷ []) ≡ false → length o₁ ≡ length o → length n₂ ≡ length n
-            → SoFar F s o₀ n₀ p₀ (ArgsFrom t s o n p) o n p t → SoFar F s o₀ n₀ p₀ (ArgsFrom d s o₁ n₂ q₂) o₁ n₂ q₂ d
+        pub args-again : {F : Work → Told → Type 0} {ws₀ : Work} {p₀ : Writer} → starts (drop (q₂ .at) s) (69 ∷ []) ≡ false → length (ws₁ .out) ≡ length (ws .out) → length n₂ ≡ length (ws .notes)
+            → SoFar F s ws₀ p₀ (ArgsFrom t s ws p) ws p t → SoFar F s ws₀ p₀ (ArgsFrom d s (notes-to ws₁ n₂) q₂) (notes-to ws₁ n₂) q₂ d
         args-again j x y w =
-            let (τ, (h, (v, (l, k)))) = counted-next (w .ready) in one-more w x y (omega (arith, l)) k (τ, h) (λ o' n' r z. args-more j z)
+            let (τ, (h, (v, (l, k)))) = counted-next (w .ready) in one-more w x y (omega (arith, l)) k (τ, h) (λ ws' r z. args-more j z)
 
 -- ---------------------------------------------------------------- ty
 
-module _ {s o n : Text} {p : Writer} where
-  pub type-end : length s ≤ p .at → Fueled 1 (p .out) 0 note-type s o n o n p Bad
+module _ {s : Text} {ws : Work} {p : Writer} where
+  pub type-end : length s ≤ p .at → Fueled 1 (p .out) 0 note-type s ws ws p Bad
   type-end l σ h m f = by (type-none σ m (no-byte h l)) refuses
 
-  pub type-by : {o' n' : Text} {r : Told} {l : Lead} → p .at < length s → lead (getD s (p .at) 0) ≡ l → Leads l (getD s (p .at) 0) s o n o' n' p r
-      → Fueled 1 (p .out) 0 note-type s o n o' n' p r
+  pub type-by : {ws' : Work} {r : Told} {l : Lead} → p .at < length s → lead (getD s (p .at) 0) ≡ l → Leads l (getD s (p .at) 0) s ws ws' p r
+      → Fueled 1 (p .out) 0 note-type s ws ws' p r
   type-by i e u σ h zero f = absurd (omega arith)
   type-by {l = l} i e u σ h (suc m) f =
       by (type-some σ m (first-byte h i) ∙ ap (λ (x : Lead). note-at-lead x (getD s (p .at) 0) (length (σ .out)) (drop (p .at + 1) s) σ (λ τ. note-type m τ) (λ v τ. note-args m v τ) (λ from τ. note-parts m from τ)) e)
       (u σ h m (omega arith) (drop (p .at + 1) s) (first-byte h i))
 
-  pub letter-answer : {o' : Text} {q : Writer} (l : Letter) (c : ℕ) → c < most-number → Copies s o o' p q → Leads (lead-letter l) c s o n o' n p (Number q c)
+  pub letter-answer : {o' : Text} {q : Writer} (l : Letter) (c : ℕ) → c < most-number → Copies s (ws .out) o' p q → Leads (lead-letter l) c s ws (out-to ws o') p (Number q c)
   letter-answer l c y k σ h m f t e =
-      tells (k .1 n σ h c t e) (let v = k .0 in record { at = omega arith; nodes = omega arith; table = omega arith; out = omega arith; args = omega arith; stands = omega arith }) y
+      tells (k .1 ws σ h c t e) (let v = k .0 in record { at = omega arith; nodes = omega arith; table = omega arith; out = omega arith; args = omega arith; stands = omega arith }) y
 
-  pub literal-answer : {o' n' : Text} {q : Writer} {r : Told} (c : ℕ) → q ≡ moved-to p (p .at + 1) → Reads 1 (q .out) at-literal s o n o' n' q r
-      → Leads leadL c s o n o' n' p r
-  literal-answer {o'} {n'} {q} {r} c i u σ h m f t e = go (subst (λ (x : Writer). Reads 1 (x .out) at-literal s o n o' n' x r) i u)
+  pub literal-answer : {ws' : Work} {q : Writer} {r : Told} (c : ℕ) → q ≡ moved-to p (p .at + 1) → Reads 1 (q .out) at-literal s ws ws' q r
+      → Leads lead-L c s ws ws' p r
+  literal-answer {ws'} {q} {r} c i u σ h m f t e = go (subst (λ (x : Writer). Reads 1 (x .out) at-literal s ws ws' x r) i u)
     where
-      go : Reads 1 (p .out) at-literal s o n o' n' (moved-to p (p .at + 1)) r → Refines s (Spent 1 (p .out) p) o' n' r (at-literal (go-to t σ))
+      go : Reads 1 (p .out) at-literal s ws ws' (moved-to p (p .at + 1)) r → Refines s (Spent 1 (p .out) p) ws' r (at-literal (go-to t σ))
       go v = within (λ x (y, z). spent-less (omega arith) (passed-spent (passed-none p refl) (omega arith) z)) (v (go-to t σ) (holds-next h e refl))
 
-  pub none-answer : (c : ℕ) → Leads leadNone c s o n o n p Bad
+  pub none-answer : (c : ℕ) → Leads lead-none c s ws ws p Bad
   none-answer c σ h m f t e = refuses

@@ -8,25 +8,25 @@ use Rattle.grammar.specs.Text.{Text}
 use Rattle.store.specs.laws.Fronts.{front-take, front-most}
 use Rattle.normal_nodes.specs.Nodes.{Notes}
 use Rattle.normal_steps.specs.declared.state.Writer.{Writer}
-use Rattle.normal_steps.specs.Holds.{Holds}
+use Rattle.normal_steps.specs.Holds.{Work, Holds}
 use Rattle.normal_steps.specs.laws.Slices.{out-size}
 use Rattle.normal_writer.specs.declared.symbol.Written.{Written}
 use Rattle.normal_writer.specs.declared.symbol.Written.the-variants.{Symbol, Bad}
 use Rattle.normal_writer.specs.Writes.{Writes, writes, outside}
 
-module _ {s out notes : Text} {p : Writer} {σ : Notes} (h : Holds s out notes p σ) where
-  pub written-fits : p .out ≤ length out
+module _ {s : Text} {ws : Work} {p : Writer} {σ : Notes} (h : Holds s ws p σ) where
+  pub written-fits : p .out ≤ length (ws .out)
   written-fits = omega (arith, out-size h, front-most (h .out-is), h .out-count)
 
-  pub written-is : take (p .out) out ≡ σ .out
-  written-is = ap (λ (n : ℕ). take n out) (h .out-count) ∙ front-take (h .out-is)
+  pub written-is : take (p .out) (ws .out) ≡ σ .out
+  written-is = ap (λ (n : ℕ). take n (ws .out)) (h .out-count) ∙ front-take (h .out-is)
 
-module _ {s out notes : Text} where
-  pub not-written : {g : Written} {x : Option Text} → Writes s out notes g x → g ≡ Bad → x ≡ none
+module _ {s : Text} {ws : Work} where
+  pub not-written : {g : Written} {x : Option Text} → Writes s ws g x → g ≡ Bad → x ≡ none
   not-written (writes h) e = absurd (let z : _≡_ {A = ℕ} 0 1 = cc in omega arith)
   not-written outside e = refl
 
-  pub was-written : {g : Written} {x : Option Text} {p : Writer} → Writes s out notes g x → g ≡ Symbol p
-      → (σ : Notes) × ((x ≡ some (σ .out)) × Holds s out notes p σ)
+  pub was-written : {g : Written} {x : Option Text} {p : Writer} → Writes s ws g x → g ≡ Symbol p
+      → (σ : Notes) × ((x ≡ some (σ .out)) × Holds s ws p σ)
   was-written {p = p} (writes {p = p'} {σ = σ} h) e = let a : p' ≡ p = cc in (σ, (refl, rw a at h))
   was-written outside e = absurd (let z : _≡_ {A = ℕ} 0 1 = cc in omega arith)

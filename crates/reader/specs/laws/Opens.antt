@@ -101,7 +101,7 @@ member-is σ = refl
 abbrev referred : (Text → Reader Text) → Text → Reader Text
 referred f x = at-code ("I" ⇒ f x ∷ []) (return x)
 
-abbrev at-S : (Text → Reader Text) → Bool → Reader Text
+abbrev pub at-S : (Text → Reader Text) → Bool → Reader Text
 at-S f q = if q then g.std-name reading else (λ u. onto (referred f) (reading ⟨substitution⟩ u))
 
 pub s-name-is : (σ : State) → g.s-name reading σ ≡ at-S (g.name-instance reading) (std-ahead (σ .rest)) σ

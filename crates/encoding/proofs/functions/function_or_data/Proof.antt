@@ -6,44 +6,77 @@ use borrow.Author.Needs.{needs}
 use Rattle.encoding.proofs.functions.function_or_data.Statement.{statement}
 use Rattle.encoding.proofs.functions.function_or_data.Tie as tie
 
+-- Stages: places that later facts cite. Each function goes from one to the one before it.
+abbrev before-name : tie.After-name → tie.Start
+before-name c = c .before .before .before .before .before .before .before .before
+
+abbrev before-ended : tie.After-ended → tie.After-name
+before-ended c = c .before .before .before .before .before .before .before .before .before .before .before .before
+
 returns : tie.Need-returns
-returns c = λ σ h. name-refused (c .before .before .before .before .before .before .before .before .name .ensures) h (c .enum-told .given .1)
+returns c =
+    let at-name = c .before .before .before .before .before .before .before .before in
+    λ σ h. name-refused (at-name .name .ensures) h (c .enum-told .given .1)
 
 qualified-requires : tie.Need-qualified-requires
 qualified-requires c κs =
-    let y = name-got (c .before .before .before .before .before .before .before .before .before .before .before .before .before .before .name .ensures) (c .before .before .before .before .before .before .before .before .before .before .before .before .before .before .before .before .before .before .before .before .before .before .pre .1) (c .before .before .before .before .before .before .got .given .1) .wrote .holds .cv-within in
-    let f = name-fits (c .before .before .before .before .before .before .before .before .before .before .before .before .before .before .name .ensures) (c .before .before .before .before .before .before .before .before .before .before .before .before .before .before .before .before .before .before .before .before .before .before .pre .1) (c .before .before .before .before .before .before .got .given .1) (c .before .before .before .with-cv .ensures) in
-    let h = name-holds (c .before .before .before .before .before .before .before .before .before .before .before .before .before .before .name .ensures) (c .before .before .before .before .before .before .before .before .before .before .before .before .before .before .before .before .before .before .before .before .before .before .pre .1) (c .before .before .before .before .before .before .got .given .1) (c .before .before .before .with-cv .ensures) in
+    let at-ended = c .before .before in
+    let at-name = before-ended at-ended in
+    let at-start = before-name at-name in
+    let y = name-got (at-name .name .ensures) (at-start .pre .1) (at-ended .before .before .before .before .got .given .1) .wrote .holds .cv-within in
+    let f = name-fits (at-name .name .ensures) (at-start .pre .1) (at-ended .before .before .before .before .got .given .1) (c .before .before .before .with-cv .ensures) in
+    let h = name-holds (at-name .name .ensures) (at-start .pre .1) (at-ended .before .before .before .before .got .given .1) (c .before .before .before .with-cv .ensures) in
     (h .text, (omega (arith, f .1), y))
 
 returns-2 : tie.Need-returns-2
-returns-2 c = λ σ h. name-over (c .before .before .before .before .before .before .before .before .before .before .before .before .before .before .before .before .before .name .ensures) h (c .before .before .before .before .before .before .before .before .before .got .given .1) (c .before .before .before .before .before .before .with-cv .ensures) (sym (c .before .before .before .before .before .ended .ensures) ∙ c .before .before .before .before .if1 .taken) (c .before .before .qualified .ensures)
+returns-2 c =
+    let at-ended = c .before .before .before .before .before in
+    let at-name = before-ended at-ended in
+    λ σ h. name-over (at-name .name .ensures) h (at-ended .before .before .before .before .got .given .1) (at-ended .before .with-cv .ensures) (sym (at-ended .ended .ensures) ∙ c .before .before .before .before .if1 .taken) (c .before .before .qualified .ensures)
 
 template-function-requires : tie.Need-template-function-requires
 template-function-requires c κs =
-    let y = name-got (c .before .before .before .before .before .before .before .before .before .before .before .before .before .before .before .before .before .name .ensures) (c .before .before .before .before .before .before .before .before .before .before .before .before .before .before .before .before .before .before .before .before .before .before .before .before .before .pre .1) (c .before .before .before .before .before .before .before .before .before .got .given .1) .wrote .holds .cv-within in
-    let f = name-fits (c .before .before .before .before .before .before .before .before .before .before .before .before .before .before .before .before .before .name .ensures) (c .before .before .before .before .before .before .before .before .before .before .before .before .before .before .before .before .before .before .before .before .before .before .before .before .before .pre .1) (c .before .before .before .before .before .before .before .before .before .got .given .1) (c .before .before .before .before .before .before .with-cv .ensures) in
-    let h = name-holds (c .before .before .before .before .before .before .before .before .before .before .before .before .before .before .before .before .before .name .ensures) (c .before .before .before .before .before .before .before .before .before .before .before .before .before .before .before .before .before .before .before .before .before .before .before .before .before .pre .1) (c .before .before .before .before .before .before .before .before .before .got .given .1) (c .before .before .before .before .before .before .with-cv .ensures) in
+    let at-ended = c .before .before .before .before .before in
+    let at-name = before-ended at-ended in
+    let at-start = before-name at-name in
+    let y = name-got (at-name .name .ensures) (at-start .pre .1) (at-ended .before .before .before .before .got .given .1) .wrote .holds .cv-within in
+    let f = name-fits (at-name .name .ensures) (at-start .pre .1) (at-ended .before .before .before .before .got .given .1) (at-ended .before .with-cv .ensures) in
+    let h = name-holds (at-name .name .ensures) (at-start .pre .1) (at-ended .before .before .before .before .got .given .1) (at-ended .before .with-cv .ensures) in
     ((_, h), (f .1, (f .0, y)))
 
 same-length-7 : tie.Need-same-length-7
-same-length-7 c = omega (arith, c .before .before .before .before .before .before .template-function .kept, c .before .before .before .before .before .before .before .before .before .before .before .before .before .before .before .before .before .before .before .before .before .before .before .before .name .kept)
+same-length-7 c =
+    let at-ended = c .before .before .before .before .before .before .before .before .before .before .before .before in
+    let at-name = before-ended at-ended in
+    omega (arith, c .before .before .before .before .before .before .template-function .kept, at-name .name .kept)
 
 returns-3 : tie.Need-returns-3
-returns-3 c = λ σ h. name-templated (c .before .before .before .before .before .before .before .before .before .before .before .before .before .before .before .before .before .before .before .before .before .before .before .before .name .ensures) h (c .before .before .before .before .before .before .before .before .before .before .before .before .before .before .before .before .got .given .1) (c .before .before .before .before .before .before .before .before .before .before .before .before .before .with-cv .ensures) (sym (c .before .before .before .before .before .before .before .before .before .before .before .before .ended .ensures) ∙ c .before .before .before .before .before .before .before .before .before .before .before .if1 .left) (c .before .before .before .before .before .before .before .before .before .before .if2 .taken) (c .before .before .before .before .before .before .template-function .ensures)
+returns-3 c =
+    let at-ended = c .before .before .before .before .before .before .before .before .before .before .before .before in
+    let at-name = before-ended at-ended in
+    λ σ h. name-templated (at-name .name .ensures) h (at-ended .before .before .before .before .got .given .1) (at-ended .before .with-cv .ensures) (sym (at-ended .ended .ensures) ∙ c .before .before .before .before .before .before .before .before .before .before .before .if1 .left) (c .before .before .before .before .before .before .before .before .before .before .if2 .taken) (c .before .before .before .before .before .before .template-function .ensures)
 
 function-requires : tie.Need-function-requires
 function-requires c κs =
-    let y = name-got (c .before .before .before .before .before .before .before .before .before .before .before .before .before .before .before .before .before .name .ensures) (c .before .before .before .before .before .before .before .before .before .before .before .before .before .before .before .before .before .before .before .before .before .before .before .before .before .pre .1) (c .before .before .before .before .before .before .before .before .before .got .given .1) .wrote .holds .cv-within in
-    let f = name-fits (c .before .before .before .before .before .before .before .before .before .before .before .before .before .before .before .before .before .name .ensures) (c .before .before .before .before .before .before .before .before .before .before .before .before .before .before .before .before .before .before .before .before .before .before .before .before .before .pre .1) (c .before .before .before .before .before .before .before .before .before .got .given .1) (c .before .before .before .before .before .before .with-cv .ensures) in
-    let h = name-holds (c .before .before .before .before .before .before .before .before .before .before .before .before .before .before .before .before .before .name .ensures) (c .before .before .before .before .before .before .before .before .before .before .before .before .before .before .before .before .before .before .before .before .before .before .before .before .before .pre .1) (c .before .before .before .before .before .before .before .before .before .got .given .1) (c .before .before .before .before .before .before .with-cv .ensures) in
+    let at-ended = c .before .before .before .before .before in
+    let at-name = before-ended at-ended in
+    let at-start = before-name at-name in
+    let y = name-got (at-name .name .ensures) (at-start .pre .1) (at-ended .before .before .before .before .got .given .1) .wrote .holds .cv-within in
+    let f = name-fits (at-name .name .ensures) (at-start .pre .1) (at-ended .before .before .before .before .got .given .1) (at-ended .before .with-cv .ensures) in
+    let h = name-holds (at-name .name .ensures) (at-start .pre .1) (at-ended .before .before .before .before .got .given .1) (at-ended .before .with-cv .ensures) in
     ((_, h), (omega (arith, f .1), y))
 
 same-length-10 : tie.Need-same-length-10
-same-length-10 c = omega (arith, c .before .before .before .before .before .before .function .kept, c .before .before .before .before .before .before .before .before .before .before .before .before .before .before .before .before .before .before .before .before .before .before .before .before .name .kept)
+same-length-10 c =
+    let at-ended = c .before .before .before .before .before .before .before .before .before .before .before .before in
+    let at-name = before-ended at-ended in
+    omega (arith, c .before .before .before .before .before .before .function .kept, at-name .name .kept)
 
 returns-4 : tie.Need-returns-4
-returns-4 c = λ σ h. name-plain (c .before .before .before .before .before .before .before .before .before .before .before .before .before .before .before .before .before .before .before .before .before .before .before .before .name .ensures) h (c .before .before .before .before .before .before .before .before .before .before .before .before .before .before .before .before .got .given .1) (c .before .before .before .before .before .before .before .before .before .before .before .before .before .with-cv .ensures) (sym (c .before .before .before .before .before .before .before .before .before .before .before .before .ended .ensures) ∙ c .before .before .before .before .before .before .before .before .before .before .before .if1 .left) (c .before .before .before .before .before .before .before .before .before .before .if2 .left) (c .before .before .before .before .before .before .function .ensures)
+returns-4 c =
+    let at-ended = c .before .before .before .before .before .before .before .before .before .before .before .before in
+    let at-name = before-ended at-ended in
+    λ σ h. name-plain (at-name .name .ensures) h (at-ended .before .before .before .before .got .given .1) (at-ended .before .with-cv .ensures) (sym (at-ended .ended .ensures) ∙ c .before .before .before .before .before .before .before .before .before .before .before .if1 .left) (c .before .before .before .before .before .before .before .before .before .before .if2 .left) (c .before .before .before .before .before .before .function .ensures)
 
 pub function-or-data-spec : {M : Type 1} → statement M
 function-or-data-spec =

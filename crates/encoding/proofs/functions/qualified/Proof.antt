@@ -19,7 +19,9 @@ loop-holds : tie.Need-loop-holds Inv-loop μ-loop
 loop-holds c = qualifying-start (c .before .before .args .s .now) (c .before .before .pre .0) (c .before .before .pre .1 .0) (c .before .before .pre .1 .1 .0)
 
 shared-slice-read-qualifier : tie.Need-shared-slice-read-qualifier Inv-loop μ-loop
-shared-slice-read-qualifier c = omega (arith, c .before .before .before .before .before .pre .1 .1 .1)
+shared-slice-read-qualifier c =
+    let at-start = c .before .before .before .before .before in
+    omega (arith, at-start .pre .1 .1 .1)
 
 put-word-requires : tie.Need-put-word-requires Inv-loop μ-loop
 put-word-requires c κs = (c .before .before .before .before .before .before .before .loop .inv .adds .stack, picked-at (c .before .before .before .before .qualifier .ensures) (c .before .before .w .given .1) .1)
@@ -31,16 +33,19 @@ sum-requires : tie.Need-sum-requires Inv-loop μ-loop
 sum-requires c κs = (omega (arith, c .before .before .before .before .before .before .before .before .before .before .before .loop .inv .size-is), omega (arith, picked-at (c .before .before .before .before .before .before .before .before .qualifier .ensures) (c .before .before .before .before .before .before .w .given .1) .1))
 
 add-at : tie.Need-add-at Inv-loop μ-loop
-add-at c = omega (arith, c .before .before .before .before .before .before .before .pre .1 .1 .1)
+add-at c =
+    let at-start = c .before .before .before .before .before .before .before in
+    omega (arith, at-start .pre .1 .1 .1)
 
 loop-less : tie.Need-loop-less Inv-loop μ-loop
 loop-less c = omega arith
 
 loop-again : tie.Need-loop-again Inv-loop μ-loop
 loop-again c =
+    let at-start = c .before .before .before .before .before .before .before in
     let i = c .before .before .before .before .loop .inv in
     let l = c .before .before .before .loop-test .taken in
-    let h = c .before .before .before .before .before .before .before .pre .1 .1 .1 in
+    let h = at-start .pre .1 .1 .1 in
     let g = c .before .qualifier .ensures in
     ⊎-elim
     (λ w. rw (w .9, w .10, w .11) (qualifying-word i l h g (w .1 .given .1) (length-spelled _ (picked-at g (w .1 .given .1) .1)) (w .4 .ensures) (w .8 .ensures)))
@@ -48,7 +53,9 @@ loop-again c =
     (c .match .came)
 
 same-length : tie.Need-same-length Inv-loop μ-loop
-same-length c = omega (arith, c .before .before .loop .inv .adds .stack .size, c .before .before .before .before .before .pre .0 .size)
+same-length c =
+    let at-start = c .before .before .before .before .before in
+    omega (arith, c .before .before .loop .inv .adds .stack .size, at-start .pre .0 .size)
 
 returns : tie.Need-returns Inv-loop μ-loop
 returns c = qualifying-done (c .before .before .loop .inv) (omega arith) (c .given .ensures)

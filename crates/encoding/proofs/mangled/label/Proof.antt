@@ -12,7 +12,9 @@ returns-2 : tie.Need-returns-2
 returns-2 c = labels-other (c .before .before .before .before .args .s .now) (omega (arith, c .before .before .if1 .left)) (c .if2 .taken)
 
 returns-3 : tie.Need-returns-3
-returns-3 c = labels-picked (c .before .before .before .before .before .before .args .s .now) (omega (arith, c .before .before .before .before .if1 .left)) (c .before .before .if2 .left) (c .label .ensures)
+returns-3 c =
+    let at-start = c .before .before .before .before .before .before in
+    labels-picked (at-start .args .s .now) (omega (arith, c .before .before .before .before .if1 .left)) (c .before .before .if2 .left) (c .label .ensures)
 
 pub label-spec : {M : Type 1} → statement M
 label-spec =

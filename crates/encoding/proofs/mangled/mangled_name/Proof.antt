@@ -18,24 +18,44 @@ Inv-loop s text₀ store ends at₀ p₀ n₀ t12 t13 text at p n = Clones s tex
 abbrev μ-loop : tie.MeasureT-loop
 μ-loop s text₀ store ends at₀ p₀ n₀ t12 t13 text at p n = length s - at
 
+-- Stages: places that later facts cite. Each function goes from one to the one before it.
+abbrev before-starts-with : tie.After-starts-with Inv-loop μ-loop → tie.Start Inv-loop μ-loop
+before-starts-with c = c .before .before .before .before .before .before .before .before
+
+abbrev before-encoding : tie.After-encoding Inv-loop μ-loop → tie.After-starts-with Inv-loop μ-loop
+before-encoding c = c .before .before .before .before .before .before
+
 loop-holds : tie.Need-loop-holds Inv-loop μ-loop
-loop-holds c = clones-start (c .before .before .before .before .before .args .s .now) (stack-by (c .new .ensures) (least-text (c .before .before .before .before .before .pre .1)))
+loop-holds c =
+    let at-start = c .before .before .before .before .before in
+    clones-start (at-start .args .s .now) (stack-by (c .new .ensures) (least-text (at-start .pre .1)))
 
 put-requires : tie.Need-put-requires Inv-loop μ-loop
-put-requires c κs = (c .before .before .before .before .before .loop .inv .adds .stack, omega arith)
+put-requires c κs =
+    let at-starts-with = c .before .before .before in
+    (at-starts-with .before .before .loop .inv .adds .stack, omega arith)
 
 sum-requires : tie.Need-sum-requires Inv-loop μ-loop
-sum-requires c κs = (omega (arith, c .before .before .before .before .before .before .before .before .loop .inv .size-is), omega arith)
+sum-requires c κs =
+    let at-starts-with = c .before .before .before .before .before .before in
+    (omega (arith, at-starts-with .before .before .loop .inv .size-is), omega arith)
 
 add-at : tie.Need-add-at Inv-loop μ-loop
-add-at c = omega (arith, c .before .before .before .before .before .before .before .before .before .loop .inv .place, c .before .before .before .before .before .before .before .before .before .before .before .before .before .before .before .pre .0)
+add-at c =
+    let at-starts-with = c .before .before .before .before .before .before .before in
+    let at-start = before-starts-with at-starts-with in
+    omega (arith, at-starts-with .before .before .loop .inv .place, at-start .pre .0)
 
 loop-less : tie.Need-loop-less Inv-loop μ-loop
-loop-less c = omega (arith, clone-fits (c .before .before .before .before .before .before .before .before .before .loop .inv) (sym (c .before .before .before .before .before .before .before .starts-with .ensures) ∙ c .before .before .before .before .before .before .if1 .taken))
+loop-less c =
+    let at-starts-with = c .before .before .before .before .before .before .before in
+    omega (arith, clone-fits (at-starts-with .before .before .loop .inv) (sym (at-starts-with .starts-with .ensures) ∙ c .before .before .before .before .before .before .if1 .taken))
 
 loop-again : tie.Need-loop-again Inv-loop μ-loop
 unfolding b
-loop-again c = clones-more (c .before .before .before .before .before .before .before .before .before .loop .inv) (sym (c .before .before .before .before .before .before .before .starts-with .ensures) ∙ c .before .before .before .before .before .before .if1 .taken) (c .before .before .before .put .ensures) (c .sum .ensures)
+loop-again c =
+    let at-starts-with = c .before .before .before .before .before .before .before in
+    clones-more (at-starts-with .before .before .loop .inv) (sym (at-starts-with .starts-with .ensures) ∙ c .before .before .before .before .before .before .if1 .taken) (c .before .before .before .put .ensures) (c .sum .ensures)
 
 sub-inner : tie.Need-sub-inner Inv-loop μ-loop
 sub-inner c = omega (arith, c .before .before .before .loop .inv .place)
@@ -46,52 +66,93 @@ part-inner-start c = omega (arith, c .before .before .before .loop .inv .place)
 encoding-requires : tie.Need-encoding-requires Inv-loop μ-loop
 unfolding b
 encoding-requires c κs =
-    let s = c .before .before .before .before .before .before .before .before .before .before .before .before .before .args .s .now in
-    let e = second-lent (c .before .before .before .before .before .before .before .loop .at) s in (
-      omega (arith, ap length e, length-drop (c .before .before .before .before .before .before .before .loop .at) s, c .before .before .before .before .before .before .before .before .before .before .before .before .before .pre .0),
-      (ap (λ t. starts t (b "GTt")) e ∙ sym (c .before .before .before .before .before .starts-with .ensures) ∙ c .before .before .before .before .if1 .left, clones-fresh (c .before .before .before .before .before .before .before .loop .inv) (c .before .before .before .before .before .before .before .before .new .ensures) (c .before .before .before .before .before .before .before .before .before .before .before .before .before .pre .1)),
+    let at-starts-with = c .before .before .before .before .before in
+    let at-start = before-starts-with at-starts-with in
+    let s = at-start .args .s .now in
+    let e = second-lent (at-starts-with .before .before .loop .at) s in (
+      omega (arith, ap length e, length-drop (at-starts-with .before .before .loop .at) s, at-start .pre .0),
+      (ap (λ t. starts t (b "GTt")) e ∙ sym (at-starts-with .starts-with .ensures) ∙ c .before .before .before .before .if1 .left, clones-fresh (at-starts-with .before .before .loop .inv) (at-starts-with .before .before .before .new .ensures) (at-start .pre .1)),
     )
 
 same-length : tie.Need-same-length Inv-loop μ-loop
-same-length c = omega (arith, c .before .before .before .before .before .before .before .before .encoding .kept, c .before .before .before .before .before .before .before .before .before .before .before .before .before .before .before .before .loop .inv .adds .stack .size, least-text (c .before .before .before .before .before .before .before .before .before .before .before .before .before .before .before .before .before .before .before .before .before .before .pre .1) .size)
+same-length c =
+    let at-encoding = c .before .before .before .before .before .before .before .before in
+    let at-starts-with = before-encoding at-encoding in
+    let at-start = before-starts-with at-starts-with in
+    omega (arith, at-encoding .encoding .kept, at-starts-with .before .before .loop .inv .adds .stack .size, least-text (at-start .pre .1) .size)
 
 same-length-2 : tie.Need-same-length-2 Inv-loop μ-loop
-same-length-2 c = omega (arith, c .before .before .before .before .before .before .before .before .encoding .kept)
+same-length-2 c =
+    let at-encoding = c .before .before .before .before .before .before .before .before in
+    omega (arith, at-encoding .encoding .kept)
 
 same-length-3 : tie.Need-same-length-3 Inv-loop μ-loop
-same-length-3 c = omega (arith, c .before .before .before .before .before .before .before .before .encoding .kept)
+same-length-3 c =
+    let at-encoding = c .before .before .before .before .before .before .before .before in
+    omega (arith, at-encoding .encoding .kept)
 
 returns : tie.Need-returns Inv-loop μ-loop
-returns c = clones-refused (c .before .before .before .before .before .before .before .before .before .before .before .before .before .before .before .before .loop .inv) (c .before .before .before .before .before .before .before .before .before .before .before .before .before .before .before .before .before .new .ensures) (second-lent (c .before .before .before .before .before .before .before .before .before .before .before .before .before .before .before .before .loop .at) (c .before .before .before .before .before .before .before .before .before .before .before .before .before .before .before .before .before .before .before .before .before .before .args .s .now)) (c .before .before .before .before .before .before .before .before .encoding .ensures) (c .enum-told .given .1)
+returns c =
+    let at-encoding = c .before .before .before .before .before .before .before .before in
+    let at-starts-with = before-encoding at-encoding in
+    let at-start = before-starts-with at-starts-with in
+    clones-refused (at-starts-with .before .before .loop .inv) (at-starts-with .before .before .before .new .ensures) (second-lent (at-starts-with .before .before .loop .at) (at-start .args .s .now)) (at-encoding .encoding .ensures) (c .enum-told .given .1)
 
 same-length-4 : tie.Need-same-length-4 Inv-loop μ-loop
-same-length-4 c = omega (arith, c .before .before .before .before .before .before .before .before .before .before .encoding .kept, c .before .before .before .before .before .before .before .before .before .before .before .before .before .before .before .before .before .before .loop .inv .adds .stack .size, least-text (c .before .before .before .before .before .before .before .before .before .before .before .before .before .before .before .before .before .before .before .before .before .before .before .before .pre .1) .size)
+same-length-4 c =
+    let at-encoding = c .before .before .before .before .before .before .before .before .before .before in
+    let at-starts-with = before-encoding at-encoding in
+    let at-start = before-starts-with at-starts-with in
+    omega (arith, at-encoding .encoding .kept, at-starts-with .before .before .loop .inv .adds .stack .size, least-text (at-start .pre .1) .size)
 
 same-length-5 : tie.Need-same-length-5 Inv-loop μ-loop
-same-length-5 c = omega (arith, c .before .before .before .before .before .before .before .before .before .before .encoding .kept)
+same-length-5 c =
+    let at-encoding = c .before .before .before .before .before .before .before .before .before .before in
+    omega (arith, at-encoding .encoding .kept)
 
 same-length-6 : tie.Need-same-length-6 Inv-loop μ-loop
-same-length-6 c = omega (arith, c .before .before .before .before .before .before .before .before .before .before .encoding .kept)
+same-length-6 c =
+    let at-encoding = c .before .before .before .before .before .before .before .before .before .before in
+    omega (arith, at-encoding .encoding .kept)
 
 returns-2 : tie.Need-returns-2 Inv-loop μ-loop
-returns-2 c = clones-alone (c .before .before .before .before .before .before .before .before .before .before .before .before .before .before .before .before .before .before .loop .inv) (c .before .before .before .before .before .before .before .before .before .before .before .before .before .before .before .before .before .before .before .new .ensures) (second-lent (c .before .before .before .before .before .before .before .before .before .before .before .before .before .before .before .before .before .before .loop .at) (c .before .before .before .before .before .before .before .before .before .before .before .before .before .before .before .before .before .before .before .before .before .before .before .before .args .s .now)) (c .before .before .before .before .before .before .before .before .before .before .encoding .ensures) (c .if2 .taken) (c .before .before .got .given .1)
+returns-2 c =
+    let at-encoding = c .before .before .before .before .before .before .before .before .before .before in
+    let at-starts-with = before-encoding at-encoding in
+    let at-start = before-starts-with at-starts-with in
+    clones-alone (at-starts-with .before .before .loop .inv) (at-starts-with .before .before .before .new .ensures) (second-lent (at-starts-with .before .before .loop .at) (at-start .args .s .now)) (at-encoding .encoding .ensures) (c .if2 .taken) (c .before .before .got .given .1)
 
 sum-requires-2 : tie.Need-sum-requires-2 Inv-loop μ-loop
 sum-requires-2 c κs =
-    let w = clones-got (c .before .before .before .before .before .before .before .before .before .before .before .before .before .before .before .before .before .before .before .loop .inv) (c .before .before .before .before .before .before .before .before .before .before .before .before .before .before .before .before .before .before .before .before .new .ensures) (second-lent (c .before .before .before .before .before .before .before .before .before .before .before .before .before .before .before .before .before .before .before .loop .at) (c .before .before .before .before .before .before .before .before .before .before .before .before .before .before .before .before .before .before .before .before .before .before .before .before .before .args .s .now)) (c .before .before .before .before .before .before .before .before .before .before .before .encoding .ensures) (c .before .before .before .got .given .1) .prints in
-    (omega (arith, c .before .before .before .before .before .before .before .before .before .before .before .before .before .before .before .before .before .before .before .loop .inv .size-is), omega (arith, w .size, w .short))
+    let at-encoding = c .before .before .before .before .before .before .before .before .before .before .before in
+    let at-starts-with = before-encoding at-encoding in
+    let at-start = before-starts-with at-starts-with in
+    let w = clones-got (at-starts-with .before .before .loop .inv) (at-starts-with .before .before .before .new .ensures) (second-lent (at-starts-with .before .before .loop .at) (at-start .args .s .now)) (at-encoding .encoding .ensures) (c .before .before .before .got .given .1) .prints in
+    (omega (arith, at-starts-with .before .before .loop .inv .size-is), omega (arith, w .size, w .short))
 
 same-length-7 : tie.Need-same-length-7 Inv-loop μ-loop
-same-length-7 c = omega (arith, c .before .before .before .before .before .before .before .before .before .before .before .before .before .encoding .kept, c .before .before .before .before .before .before .before .before .before .before .before .before .before .before .before .before .before .before .before .before .before .loop .inv .adds .stack .size, least-text (c .before .before .before .before .before .before .before .before .before .before .before .before .before .before .before .before .before .before .before .before .before .before .before .before .before .before .before .pre .1) .size)
+same-length-7 c =
+    let at-encoding = c .before .before .before .before .before .before .before .before .before .before .before .before .before in
+    let at-starts-with = before-encoding at-encoding in
+    let at-start = before-starts-with at-starts-with in
+    omega (arith, at-encoding .encoding .kept, at-starts-with .before .before .loop .inv .adds .stack .size, least-text (at-start .pre .1) .size)
 
 same-length-8 : tie.Need-same-length-8 Inv-loop μ-loop
-same-length-8 c = omega (arith, c .before .before .before .before .before .before .before .before .before .before .before .before .before .encoding .kept)
+same-length-8 c =
+    let at-encoding = c .before .before .before .before .before .before .before .before .before .before .before .before .before in
+    omega (arith, at-encoding .encoding .kept)
 
 same-length-9 : tie.Need-same-length-9 Inv-loop μ-loop
-same-length-9 c = omega (arith, c .before .before .before .before .before .before .before .before .before .before .before .before .before .encoding .kept)
+same-length-9 c =
+    let at-encoding = c .before .before .before .before .before .before .before .before .before .before .before .before .before in
+    omega (arith, at-encoding .encoding .kept)
 
 returns-3 : tie.Need-returns-3 Inv-loop μ-loop
-returns-3 c = clones-given (c .before .before .before .before .before .before .before .before .before .before .before .before .before .before .before .before .before .before .before .before .before .loop .inv) (c .before .before .before .before .before .before .before .before .before .before .before .before .before .before .before .before .before .before .before .before .before .before .new .ensures) (second-lent (c .before .before .before .before .before .before .before .before .before .before .before .before .before .before .before .before .before .before .before .before .before .loop .at) (c .before .before .before .before .before .before .before .before .before .before .before .before .before .before .before .before .before .before .before .before .before .before .before .before .before .before .before .args .s .now)) (c .before .before .before .before .before .before .before .before .before .before .before .before .before .encoding .ensures) (c .before .before .before .if2 .left) (c .before .before .before .before .before .got .given .1) (c .before .before .moved .ensures) (c .before .sum2 .ensures) (c .given .ensures)
+returns-3 c =
+    let at-encoding = c .before .before .before .before .before .before .before .before .before .before .before .before .before in
+    let at-starts-with = before-encoding at-encoding in
+    let at-start = before-starts-with at-starts-with in
+    clones-given (at-starts-with .before .before .loop .inv) (at-starts-with .before .before .before .new .ensures) (second-lent (at-starts-with .before .before .loop .at) (at-start .args .s .now)) (at-encoding .encoding .ensures) (c .before .before .before .if2 .left) (c .before .before .before .before .before .got .given .1) (c .before .before .moved .ensures) (c .before .sum2 .ensures) (c .given .ensures)
 
 pub mangled-name-spec : {M : Type 1} → statement M
 mangled-name-spec =

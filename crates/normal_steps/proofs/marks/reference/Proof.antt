@@ -15,8 +15,8 @@ returns c =
     let a = c .before .before .before .before .before .args in
     ref-open (a .s .now) (a .at) _ (c .before .before .before .seq-id .ensures .behind) (sym (c .before .starts-with .ensures) ∙ not-true _ (c .if1 .taken))
 
-capitals-requires : tie.Need-capitals-requires
-capitals-requires c κs =
+all-in-requires : tie.Need-all-in-requires
+all-in-requires c κs =
     let a = c .before .before .before .before .before .args in
     let d = c .before .before .before .seq-id .ensures in
     let h = sym (c .before .starts-with .ensures) ∙ not-false _ (c .if1 .left) in
@@ -28,7 +28,7 @@ returns-2 c =
     let a = c .before .before .before .before .before .before .before .args in
     let d = c .before .before .before .before .before .seq-id .ensures in
     let h = sym (c .before .before .before .starts-with .ensures) ∙ not-false _ (c .before .before .if1 .left) in
-    ref-small (a .s .now) (a .at) _ (d .behind) h (sym (c .before .capitals .ensures) ∙ not-true _ (c .if2 .taken))
+    ref-small (a .s .now) (a .at) _ (d .behind) h (sym (c .before .all-in .ensures) ∙ not-true _ (c .if2 .taken))
 
 leading-zero-requires : tie.Need-leading-zero-requires
 leading-zero-requires c κs =
@@ -43,11 +43,11 @@ returns-3 c =
     let a = c .before .before .before .before .before .before .before .before .before .args in
     let d = c .before .before .before .before .before .before .before .seq-id .ensures in
     let h = sym (c .before .before .before .before .before .starts-with .ensures) ∙ not-false _ (c .before .before .before .before .if1 .left) in
-    let p = sym (c .before .before .before .capitals .ensures) ∙ not-false _ (c .before .before .if2 .left) in
+    let p = sym (c .before .before .before .all-in .ensures) ∙ not-false _ (c .before .before .if2 .left) in
     ref-zero (a .s .now) (a .at) _ (d .behind) h p (sym (c .before .leading-zero .ensures) ∙ c .if3 .taken)
 
-add-t11 : tie.Need-add-t11
-add-t11 c =
+add-t12 : tie.Need-add-t12
+add-t12 c =
     let a = c .before .before .before .before .before .before .before .before .before .before .args in
     let d = c .before .before .before .before .before .before .before .before .seq-id .ensures in
     let h = sym (c .before .before .before .before .before .before .starts-with .ensures) ∙ not-false _ (c .before .before .before .before .before .if1 .left) in
@@ -59,7 +59,7 @@ returns-4 c =
     let a = c .before .before .before .before .before .before .before .before .before .before .args in
     let d = c .before .before .before .before .before .before .before .before .seq-id .ensures in
     let h = sym (c .before .before .before .before .before .before .starts-with .ensures) ∙ not-false _ (c .before .before .before .before .before .if1 .left) in
-    let p = sym (c .before .before .before .before .capitals .ensures) ∙ not-false _ (c .before .before .before .if2 .left) in
+    let p = sym (c .before .before .before .before .all-in .ensures) ∙ not-false _ (c .before .before .before .if2 .left) in
     let q = sym (c .before .before .leading-zero .ensures) ∙ c .before .if3 .left in
     ref-right (a .s .now) (a .at) _ (d .behind) h p q 0 (omega (arith, index-none (run (digit 36) (drop (a .at) (a .s .now))) (omega (arith, d .behind))))
 
@@ -68,7 +68,7 @@ returns-5 c =
     let a = c .before .before .before .before .before .before .before .before .before .before .before .before .args in
     let d = c .before .before .before .before .before .before .before .before .before .before .seq-id .ensures in
     let h = sym (c .before .before .before .before .before .before .before .before .starts-with .ensures) ∙ not-false _ (c .before .before .before .before .before .before .before .if1 .left) in
-    let p = sym (c .before .before .before .before .before .before .capitals .ensures) ∙ not-false _ (c .before .before .before .before .before .if2 .left) in
+    let p = sym (c .before .before .before .before .before .before .all-in .ensures) ∙ not-false _ (c .before .before .before .before .before .if2 .left) in
     let q = sym (c .before .before .before .before .leading-zero .ensures) ∙ c .before .before .before .if3 .left in
     ref-right (a .s .now) (a .at) _ (d .behind) h p q 65536 (omega (arith, d .is, index-some (run (digit 36) (drop (a .at) (a .s .now))) (omega (arith, d .behind))))
 
@@ -77,7 +77,7 @@ returns-6 c =
     let a = c .before .before .before .before .before .before .before .before .before .before .before .before .args in
     let d = c .before .before .before .before .before .before .before .before .before .before .seq-id .ensures in
     let h = sym (c .before .before .before .before .before .before .before .before .starts-with .ensures) ∙ not-false _ (c .before .before .before .before .before .before .before .if1 .left) in
-    let p = sym (c .before .before .before .before .before .before .capitals .ensures) ∙ not-false _ (c .before .before .before .before .before .if2 .left) in
+    let p = sym (c .before .before .before .before .before .before .all-in .ensures) ∙ not-false _ (c .before .before .before .before .before .if2 .left) in
     let q = sym (c .before .before .before .before .leading-zero .ensures) ∙ c .before .before .before .if3 .left in
     ref-right (a .s .now) (a .at) _ (d .behind) h p q _ (omega (arith, d .is, index-some (run (digit 36) (drop (a .at) (a .s .now))) (omega (arith, d .behind))))
 
@@ -89,11 +89,11 @@ reference-spec =
     (λ c. search needs)
     (λ c κs. search needs)
     returns
-    capitals-requires
+    all-in-requires
     returns-2
     leading-zero-requires
     returns-3
-    add-t11
+    add-t12
     returns-4
     (λ c. search needs)
     returns-5

@@ -12,6 +12,7 @@ use Rattle.normal_steps.specs.laws.Limits.{room-less, room-after, took-m
 use Rattle.normal_steps.specs.laws.Told.{told, never, by}
 use Rattle.normal_steps.specs.laws.Steps.{entered-is, with-none, with-some}
 use Rattle.normal_steps.specs.laws.LeafSteps.{no-name-at, name-at, name-size, name-fits, name-wrote, name-held, name-room}
+use Rattle.normal_steps.specs.laws.Moves.{ready-notes, work-of}
 use Rattle.normal_steps.proofs.steps.first_name.Statement.{statement}
 use Rattle.normal_steps.proofs.steps.first_name.Tie as tie
 
@@ -35,7 +36,7 @@ note-requires c κs =
     let x = name-at (a .s .now) (a .p .at) (c .before .before .before .before .before .before .before .before .before .source-name .ensures) (c .before .before .before .before .before .before .before .from .given .1) in
     let e = c .before .before .before .before .moved .ensures in
     let y = c .before .before .before .put-name .ensures in
-    ((omega arith, omega arith), ((omega arith, x .inside), (room-less (name-room x h refl e y), (_, (_, name-held x h refl e y)))))
+    ((omega arith, omega arith), ((omega arith, x .inside), (room-less (name-room x h refl e y), ready-notes (_, name-held x h refl e y))))
 
 returns-2 : tie.Need-returns-2
 returns-2 c σ h =
@@ -43,7 +44,7 @@ returns-2 c σ h =
     let x = name-at (a .s .now) (a .p .at) (c .before .before .before .before .before .before .before .before .before .before .before .before .before .before .source-name .ensures) (c .before .before .before .before .before .before .before .before .before .before .before .before .from .given .1) in
     let e = c .before .before .before .before .before .before .before .before .before .moved .ensures in
     let y = c .before .before .before .before .before .before .before .before .put-name .ensures in
-    absurd (never (c .before .before .before .before .note .ensures _ _ (name-held x h refl e y)) (c .enum-told2 .given .1))
+    absurd (never (c .before .before .before .before .note .ensures (work-of (name-held x h refl e y)) _ (name-held x h refl e y)) (c .enum-told2 .given .1))
 
 enter-requires : tie.Need-enter-requires
 enter-requires c κs =
@@ -53,7 +54,7 @@ enter-requires c κs =
     let e = c .before .before .before .before .before .before .before .before .before .before .before .before .moved .ensures in
     let y = c .before .before .before .before .before .before .before .before .before .before .before .put-name .ensures in
     let w = name-wrote x h refl e y in
-    let t = told (c .before .before .before .before .before .before .before .note .ensures _ _ (name-held x h refl e y)) (c .before .before .before .noted .given .1) in
+    let t = told (c .before .before .before .before .before .before .before .note .ensures (work-of (name-held x h refl e y)) _ (name-held x h refl e y)) (c .before .before .before .noted .given .1) in
     let l = t .1 .0 in
     (t .1 .1 .1, (omega arith, (room-after (name-room x h refl e y) l, (_, (_, t .0)))))
 
@@ -65,7 +66,7 @@ returns-3 c σ h =
     let y = c .before .before .before .before .before .before .before .before .before .before .before .before .before .before .before .before .put-name .ensures in
     let z = name-size x in
     let w = name-wrote x h refl e y in
-    let t = told (c .before .before .before .before .before .before .before .before .before .before .before .before .note .ensures _ _ (name-held x h refl e y)) (c .before .before .before .before .before .before .before .before .noted .given .1) in
+    let t = told (c .before .before .before .before .before .before .before .before .before .before .before .before .note .ensures (work-of (name-held x h refl e y)) _ (name-held x h refl e y)) (c .before .before .before .before .before .before .before .before .noted .given .1) in
     let v = c .before .before .before .before .enter .ensures _ _ (t .0) in
     let l = took-more (a .p .out) (t .1 .0) (v .limits) (omega arith) in
     let n = part (a .s .now) (c .before .before .before .before .before .before .before .before .before .before .before .before .before .before .before .before .before .before .before .before .from .given .0 .0) (c .before .before .before .before .before .before .before .before .before .before .before .before .before .before .before .before .before .before .before .before .from .given .0 .1 .0) in

@@ -4,7 +4,7 @@ use native.Mathlib.Omega.{arith}
 use borrow.Author.Needs.{needs}
 use Rattle.normal_walk.specs.Walk.{reference}
 use Rattle.normal_steps.specs.Holds.{tells, refuses}
-use Rattle.normal_steps.specs.laws.Moves.{by-state, holds-moved}
+use Rattle.normal_steps.specs.laws.Moves.{by-state, holds-moved, ready-notes, work-of}
 use Rattle.normal_steps.specs.laws.Limits.{passed-none, spent}
 use Rattle.normal_steps.specs.laws.Told.{by}
 use Rattle.normal_steps.specs.laws.Steps.{with-none}
@@ -25,7 +25,7 @@ returns-2 c σ h =
     by (reference-none h x (a .p .out) (c .if1 .taken)) refuses
 
 entry-requires : tie.Need-entry-requires
-entry-requires c κs = (omega (arith, c .before .if1 .left), (_, (_, c .before .before .before .before .before .before .before .before .before .before .pre)))
+entry-requires c κs = (omega (arith, c .before .if1 .left), (_, ready-notes (c .before .before .before .before .before .before .before .before .before .before .pre)))
 
 settle-requires : tie.Need-settle-requires
 settle-requires c κs =
@@ -49,7 +49,7 @@ returns-3 c σ h =
     let e = c .before .before .before .moved .ensures in
     let w = passed-none (a .p) e in
     let b = x .behind in
-    let t = c .before .before .before .before .before .before .entry .ensures _ _ σ h in
+    let t = c .before .before .before .before .before .before .entry .ensures _ (work-of h) σ h in
     let v = c .before .before .settle .ensures _ _ (by-state e (holds-moved h (c .before .before .before .before .before .before .before .before .before .before .before .i .given .0 .1 .0) (omega arith) (x .inside))) in
     let l = v .limits in
     by (reference-is h x (a .p .out) (t .0))

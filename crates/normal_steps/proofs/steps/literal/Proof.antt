@@ -9,6 +9,7 @@ use Rattle.normal_steps.specs.laws.Limits.{passed-none, passed-more, roo
 use Rattle.normal_steps.specs.laws.Told.{by, within}
 use Rattle.normal_steps.specs.laws.Steps.{with-none}
 use Rattle.normal_steps.specs.laws.LeafSteps.{no-literal-at, literal-at, literal-is, literal-kind, literal-marked, literal-wrote, literal-held, literal-room, signed-below}
+use Rattle.normal_steps.specs.laws.Moves.{ready-notes, work-of}
 use Rattle.normal_steps.proofs.steps.literal.Statement.{statement}
 use Rattle.normal_steps.proofs.steps.literal.Tie as tie
 
@@ -57,7 +58,7 @@ note-requires c κs =
       (omega arith, omega (arith, c .signed .ensures)),
       (
         (omega (arith, v .some), omega (arith, v .inside)),
-        (room-less (literal-room h v (x .1) e y z), (_, (_, literal-held h v (x .1) e y z))),
+        (room-less (literal-room h v (x .1) e y z), ready-notes (_, literal-held h v (x .1) e y z)),
       ),
     )
 
@@ -74,7 +75,7 @@ returns-2 c σ h =
     let j = x .1 in
     by (literal-is h v (x .1) _ (c .before .before .before .signed .ensures))
     (within (λ q l. let g = l .at in (omega arith, spent w l (omega arith) (omega arith) (omega arith) (omega arith)))
-    (c .before .before .note .ensures _ _ (literal-held h v (x .1) e y z)))
+    (c .before .before .note .ensures (work-of (literal-held h v (x .1) e y z)) _ (literal-held h v (x .1) e y z)))
 
 pub literal-spec : {M : Type 1} → statement M
 literal-spec =

@@ -8,6 +8,7 @@ use Rattle.normal_steps.specs.laws.Limits.{room-less, spent}
 use Rattle.normal_steps.specs.laws.Told.{by, within}
 use Rattle.normal_steps.specs.laws.Steps.{with-none, with-some}
 use Rattle.normal_steps.specs.laws.LeafSteps.{no-name-at, name-at, name-size, name-fits, name-wrote, name-held, name-room}
+use Rattle.normal_steps.specs.laws.Moves.{ready-notes, work-of}
 use Rattle.normal_steps.proofs.steps.part.Statement.{statement}
 use Rattle.normal_steps.proofs.steps.part.Tie as tie
 
@@ -32,7 +33,7 @@ note-requires c κs =
     let x = name-at (a .s .now) (a .p .at) (c .before .before .before .before .before .before .before .before .before .source-name .ensures) (c .before .before .before .before .before .before .before .from .given .1) in
     let e = c .before .before .before .before .moved .ensures in
     let y = c .before .before .before .put-name .ensures in
-    ((omega arith, omega arith), ((omega arith, x .inside), (room-less (name-room x h refl e y), (_, (_, name-held x h refl e y)))))
+    ((omega arith, omega arith), ((omega arith, x .inside), (room-less (name-room x h refl e y), ready-notes (_, name-held x h refl e y))))
 
 returns-2 : tie.Need-returns-2
 returns-2 c σ h =
@@ -44,7 +45,7 @@ returns-2 c σ h =
     let w = name-wrote x h refl e y in
     by (with-some _ (ap name (h .rest) ∙ x .is))
     (within (λ q l. let g = l .at in (omega arith, spent w l (omega arith) (omega arith) (omega arith) (omega arith)))
-    (c .before .before .note .ensures _ _ (name-held x h refl e y)))
+    (c .before .before .note .ensures (work-of (name-held x h refl e y)) _ (name-held x h refl e y)))
 
 pub part-spec : {M : Type 1} → statement M
 part-spec =

@@ -28,14 +28,14 @@ unfolding digit
 returns-3 c =
     let a = c .before .before .before .before .before .before .before .args in
     let k = getD (a .s .now) (a .from) 0 in
-    rw (name-rules (a .s .now) (a .from) (a .to) (omega arith) (omega arith), le-ltb (digit-value k) 10 (omega (arith, c .before .before .before .digit-value .ensures)), sym (c .before .word-bytes .ensures) ∙ not-true _ (c .if3 .taken)) refl
+    rw (name-rules (a .s .now) (a .from) (a .to) (omega arith) (omega arith), le-ltb (digit-value k) 10 (omega (arith, c .before .before .before .digit-value .ensures)), sym (c .before .all-in .ensures) ∙ not-true _ (c .if3 .taken)) refl
 
 returns-4 : tie.Need-returns-4
 unfolding digit
 returns-4 c =
     let a = c .before .before .before .before .before .before .before .before .args in
     let k = getD (a .s .now) (a .from) 0 in
-    rw (name-rules (a .s .now) (a .from) (a .to) (omega arith) (omega arith), le-ltb (digit-value k) 10 (omega (arith, c .before .before .before .before .digit-value .ensures)), sym (c .before .before .word-bytes .ensures) ∙ not-false _ (c .before .if3 .left))
+    rw (name-rules (a .s .now) (a .from) (a .to) (omega arith) (omega arith), le-ltb (digit-value k) 10 (omega (arith, c .before .before .before .before .digit-value .ensures)), sym (c .before .before .all-in .ensures) ∙ not-false _ (c .before .if3 .left))
     (ap not (c .is-reserved .ensures))
 
 pub word-ok-spec : {M : Type 1} → statement M

@@ -1,5 +1,7 @@
 -- `normal_writer::symbol::scoped` writes a nested name behind _ZN or _ZNK. Assumes nothing.
 use borrow.Author.Tests.{not-true, not-false}
+use Rattle.normal_steps.specs.Holds.{work}
+use Rattle.normal_steps.specs.laws.Moves.{ready-out, ready-notes}
 use Rattle.normal_writer.specs.laws.Symbols.{begun-by, scoped-holds, scoped-none, scoped-ready, scoped-room, scoped-full, scoped-heads}
 use borrow.Author.Needs.{needs}
 use Rattle.normal_writer.proofs.symbol.scoped.Statement.{statement}
@@ -8,39 +10,39 @@ use Rattle.normal_writer.proofs.symbol.scoped.Tie as tie
 parts-requires : tie.Need-parts-requires
 parts-requires c κs =
     let q = c .before .before .before .before .before .before .before .before .before .before in
-    let b = begun-by (q .args .s .now) (q .args .word .now) (q .args .notes .now) (q .pre .0) (q .pre .1 .1) (c .before .before .before .before .begin .ensures) in
+    let b = begun-by (q .args .s .now) (q .args .word .now) (work (q .args .out .now) (q .args .notes .now)) (q .pre .0) (q .pre .1 .1) (c .before .before .before .before .begin .ensures) in
     (_, scoped-holds b)
 
 returns : tie.Need-returns
 returns c =
     let q = c .before .before .before .before .before .before .before .before .before .before .before .before .before .before .before .before .before in
-    let b = begun-by (q .args .s .now) (q .args .word .now) (q .args .notes .now) (q .pre .0) (q .pre .1 .1) (c .before .before .before .before .before .before .before .before .before .before .before .begin .ensures) in
+    let b = begun-by (q .args .s .now) (q .args .word .now) (work (q .args .out .now) (q .args .notes .now)) (q .pre .0) (q .pre .1 .1) (c .before .before .before .before .before .before .before .before .before .before .before .begin .ensures) in
     scoped-none b (c .before .before .before .before .before .before .parts .ensures) (q .args .constant) (c .enum-told .given .1)
 
 tag-of-requires : tie.Need-tag-of-requires
 tag-of-requires c κs =
     let q = c .before .before .before .before .before .before .before .before .before .before .before .before .before .before .before .before .before .before .before in
-    let b = begun-by (q .args .s .now) (q .args .word .now) (q .args .notes .now) (q .pre .0) (q .pre .1 .1) (c .before .before .before .before .before .before .before .before .before .before .before .before .before .begin .ensures) in
+    let b = begun-by (q .args .s .now) (q .args .word .now) (work (q .args .out .now) (q .args .notes .now)) (q .pre .0) (q .pre .1 .1) (c .before .before .before .before .before .before .before .before .before .before .before .before .before .begin .ensures) in
     let t = scoped-ready b (c .before .before .before .before .before .before .before .before .parts .ensures) (c .before .before .next .given .1) in
-    (_, (_, (t .state, t .holds)))
+    (_, ready-notes (t .state, t .holds))
 
 returns-2 : tie.Need-returns-2
 returns-2 c =
     let q = c .before .before .before .before .before .before .before .before .before .before .before .before .before .before .before .before .before .before .before .before .before .before in
-    let b = begun-by (q .args .s .now) (q .args .word .now) (q .args .notes .now) (q .pre .0) (q .pre .1 .1) (c .before .before .before .before .before .before .before .before .before .before .before .before .before .before .before .before .begin .ensures) in
+    let b = begun-by (q .args .s .now) (q .args .word .now) (work (q .args .out .now) (q .args .notes .now)) (q .pre .0) (q .pre .1 .1) (c .before .before .before .before .before .before .before .before .before .before .before .before .before .before .before .before .begin .ensures) in
     scoped-full b (c .before .before .before .before .before .before .before .before .before .before .before .parts .ensures) (c .before .before .before .before .before .next .given .1) (q .args .constant) (c .before .before .tag-of .ensures) (c .before .bare .ensures) (not-true _ (c .if1 .taken))
 
 close-requires : tie.Need-close-requires
 close-requires c κs =
     let q = c .before .before .before .before .before .before .before .before .before .before .before .before .before .before .before .before .before .before .before .before .before .before .before in
-    let b = begun-by (q .args .s .now) (q .args .word .now) (q .args .notes .now) (q .pre .0) (q .pre .1 .1) (c .before .before .before .before .before .before .before .before .before .before .before .before .before .before .before .before .before .begin .ensures) in
+    let b = begun-by (q .args .s .now) (q .args .word .now) (work (q .args .out .now) (q .args .notes .now)) (q .pre .0) (q .pre .1 .1) (c .before .before .before .before .before .before .before .before .before .before .before .before .before .before .before .before .before .begin .ensures) in
     let t = scoped-ready b (c .before .before .before .before .before .before .before .before .before .before .before .before .parts .ensures) (c .before .before .before .before .before .before .next .given .1) in
-    (scoped-room b (c .before .before .before .before .before .before .before .before .before .before .before .before .parts .ensures) (c .before .before .before .before .before .before .next .given .1), (_, (_, (t .state, t .holds))))
+    (scoped-room b (c .before .before .before .before .before .before .before .before .before .before .before .before .parts .ensures) (c .before .before .before .before .before .before .next .given .1), (_, ready-out (t .state, t .holds)))
 
 returns-3 : tie.Need-returns-3
 returns-3 c =
     let q = c .before .before .before .before .before .before .before .before .before .before .before .before .before .before .before .before .before .before .before .before .before .before .before .before .before .before in
-    let b = begun-by (q .args .s .now) (q .args .word .now) (q .args .notes .now) (q .pre .0) (q .pre .1 .1) (c .before .before .before .before .before .before .before .before .before .before .before .before .before .before .before .before .before .before .before .before .begin .ensures) in
+    let b = begun-by (q .args .s .now) (q .args .word .now) (work (q .args .out .now) (q .args .notes .now)) (q .pre .0) (q .pre .1 .1) (c .before .before .before .before .before .before .before .before .before .before .before .before .before .before .before .before .before .before .before .before .begin .ensures) in
     scoped-heads b (c .before .before .before .before .before .before .before .before .before .before .before .before .before .before .before .parts .ensures) (c .before .before .before .before .before .before .before .before .before .next .given .1) (q .args .constant) (c .before .before .before .before .before .before .tag-of .ensures) (c .before .before .before .before .before .bare .ensures) (not-false _ (c .before .before .before .before .if1 .left)) (c .before .before .close .ensures)
 
 pub scoped-spec : {M : Type 1} → statement M

@@ -2,6 +2,8 @@
 -- is the bytes left. Assumes nothing.
 use Prim.Native.Nat.{_-_}
 use lib.ListN.{length}
+use Rattle.normal_steps.specs.Holds.{work}
+use Rattle.normal_steps.specs.laws.Moves.{ready-notes}
 use Rattle.normal_writer.specs.laws.Symbols.{Turned, turned-none, turned-from, turn-none, turn-told, turn-lit, turn-more, goes-ended, ends-broken}
 use borrow.Author.Needs.{needs}
 use native.Mathlib.Omega.{arith}
@@ -9,7 +11,7 @@ use Rattle.normal_writer.proofs.symbol.types.Statement.{statement}
 use Rattle.normal_writer.proofs.symbol.types.Tie as tie
 
 abbrev Inv-loop : tie.InvT-loop
-Inv-loop s out₀ notes₀ next₀ out notes next = Turned s out₀ notes₀ out notes next₀ next
+Inv-loop s out₀ notes₀ next₀ out notes next = Turned s (work out₀ notes₀) (work out notes) next₀ next
 
 abbrev μ-loop : tie.MeasureT-loop
 μ-loop s out₀ notes₀ next₀ out notes next = length s - next .at
@@ -32,7 +34,7 @@ returns c σ h m k = ends-broken (turn-none (c .before .before .before .before .
 tag-of-requires : tie.Need-tag-of-requires Inv-loop μ-loop
 tag-of-requires c κs =
     let t = turn-told (turned-from (c .before .before .before .before .before .before .before .before .before .before .before .before .before .loop .inv) (c .before .before .before .before .before .before .before .before .before .before .before .before .before .before .before .before .before .pre)) (c .before .before .before .before .before .before .before .before .before .before .before .if1 .taken) (c .before .before .before .before .before .before .before .before .ty .ensures) (c .before .before .q .given .1) in
-    (_, (_, (t .state, t .holds)))
+    (_, ready-notes (t .state, t .holds))
 
 same-length-3 : tie.Need-same-length-3 Inv-loop μ-loop
 same-length-3 c = omega (arith, c .before .before .before .before .before .before .before .before .before .before .before .before .before .before .before .loop .inv .out-kept, c .before .before .before .before .before .before .before .before .before .before .ty .kept)

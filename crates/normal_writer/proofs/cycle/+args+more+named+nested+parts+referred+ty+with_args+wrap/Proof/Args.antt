@@ -3,6 +3,7 @@ use mathlib.Core.Path.{sym, _∙_}
 use Prim.Native.Nat.{ℕ, _-_}
 use lib.ListN.{length}
 use native.Mathlib.Omega.{arith}
+use Rattle.normal_steps.specs.Holds.{work}
 use Rattle.normal_writer.specs.laws.Loops.{nothing-yet}
 use Rattle.normal_writer.specs.laws.Types.{ArgsSoFar, arg-refused, arg-next, count-refused, counted-next, args-end, args-again}
 use Rattle.normal_writer.proofs.cycle.args.Reads as args
@@ -10,7 +11,7 @@ use Rattle.normal_writer.proofs.cycle.+args+more+named+nested+parts+ref
 use Rattle.normal_writer.proofs.cycle.+args+more+named+nested+parts+referred+ty+with_args+wrap.Proof.Cycle.{args-at, args-calls}
 
 abbrev pub Inv-loop : lts.InvT-loop
-Inv-loop s out₀ notes₀ t next₀ of₀ t13 out notes next of = ArgsSoFar s out₀ notes₀ next₀ of₀ out notes next of
+Inv-loop s out₀ notes₀ t next₀ of₀ t13 out notes next of = ArgsSoFar s (work out₀ notes₀) next₀ of₀ (work out notes) next of
 
 abbrev pub μ-loop : lts.MeasureT-loop
 μ-loop s out₀ notes₀ t next₀ of₀ t13 out notes next of = length s - next .at
@@ -29,7 +30,7 @@ pub same-length-2 : (t : ℕ) → lts.Need-same-length-2 (args-calls t) (args-at
 same-length-2 t c = omega (arith, c .before .before .before .before .before .before .ty .kept, c .before .before .before .before .before .before .before .before .before .loop .inv .notes-same)
 
 pub returns : (t : ℕ) → lts.Need-returns (args-calls t) (args-at t) args.Post Inv-loop μ-loop
-returns t c = c .before .before .before .before .before .before .before .before .before .loop .inv .whole _ _ _ (arg-refused _ (c .before .before .before .before .before .before .ty .ensures) (c .enum-told .given .1))
+returns t c = c .before .before .before .before .before .before .before .before .before .loop .inv .whole _ _ (arg-refused _ (c .before .before .before .before .before .before .ty .ensures) (c .enum-told .given .1))
 
 pub arg-requires : (t : ℕ) → lts.Need-arg-requires (args-calls t) (args-at t) args.Post Inv-loop μ-loop
 arg-requires t c κs =
@@ -42,7 +43,7 @@ pub same-length-4 : (t : ℕ) → lts.Need-same-length-4 (args-calls t) (args-at
 same-length-4 t c = omega (arith, c .before .before .before .before .arg .kept, c .before .before .before .before .before .before .before .before .before .before .before .before .before .ty .kept, c .before .before .before .before .before .before .before .before .before .before .before .before .before .before .before .before .loop .inv .notes-same)
 
 pub returns-2 : (t : ℕ) → lts.Need-returns-2 (args-calls t) (args-at t) args.Post Inv-loop μ-loop
-returns-2 t c = c .before .before .before .before .before .before .before .before .before .before .before .before .before .before .before .before .loop .inv .whole _ _ _ (count-refused _ (c .before .before .before .before .before .before .before .before .before .before .before .before .before .ty .ensures) (c .before .before .before .before .before .before .before .behind .given .1) (c .before .before .before .before .arg .ensures) (c .enum-told2 .given .1))
+returns-2 t c = c .before .before .before .before .before .before .before .before .before .before .before .before .before .before .before .before .loop .inv .whole _ _ (count-refused _ (c .before .before .before .before .before .before .before .before .before .before .before .before .before .ty .ensures) (c .before .before .before .before .before .before .before .behind .given .1) (c .before .before .before .before .arg .ensures) (c .enum-told2 .given .1))
 
 pub add-moved : (t : ℕ) → lts.Need-add-moved (args-calls t) (args-at t) args.Post Inv-loop μ-loop
 add-moved t c =
@@ -56,7 +57,7 @@ pub same-length-6 : (t : ℕ) → lts.Need-same-length-6 (args-calls t) (args-at
 same-length-6 t c = omega (arith, c .before .before .before .before .before .before .before .before .before .arg .kept, c .before .before .before .before .before .before .before .before .before .before .before .before .before .before .before .before .before .before .ty .kept, c .before .before .before .before .before .before .before .before .before .before .before .before .before .before .before .before .before .before .before .before .before .loop .inv .notes-same)
 
 pub returns-3 : (t : ℕ) → lts.Need-returns-3 (args-calls t) (args-at t) args.Post Inv-loop μ-loop
-returns-3 t c = c .before .before .before .before .before .before .before .before .before .before .before .before .before .before .before .before .before .before .before .before .before .loop .inv .whole _ _ _ (args-end _ (c .before .before .before .before .before .before .before .before .before .before .before .before .before .before .before .before .before .before .ty .ensures) (c .before .before .before .before .before .before .before .before .before .before .before .before .behind .given .1) (c .before .before .before .before .before .before .before .before .before .arg .ensures) (c .before .before .before .before .before .counted .given .1) (sym (c .before .before .starts-with .ensures) ∙ c .before .if1 .taken) (c .moved .ensures))
+returns-3 t c = c .before .before .before .before .before .before .before .before .before .before .before .before .before .before .before .before .before .before .before .before .before .loop .inv .whole _ _ (args-end _ (c .before .before .before .before .before .before .before .before .before .before .before .before .before .before .before .before .before .before .ty .ensures) (c .before .before .before .before .before .before .before .before .before .before .before .before .behind .given .1) (c .before .before .before .before .before .before .before .before .before .arg .ensures) (c .before .before .before .before .before .counted .given .1) (sym (c .before .before .starts-with .ensures) ∙ c .before .if1 .taken) (c .moved .ensures))
 
 pub loop-less : (t : ℕ) → lts.Need-loop-less (args-calls t) (args-at t) args.Post Inv-loop μ-loop
 loop-less t c =

@@ -1,12 +1,15 @@
 -- The answers of `nested`. Assumes nothing.
 use Prim.Native.Nat.{ℕ}
 use native.Mathlib.Omega.{arith}
-use Rattle.normal_steps.specs.laws.Moves.{copied-ready}
+use Rattle.normal_steps.specs.laws.Moves.{copied-ready, ready-out}
 use Rattle.normal_writer.specs.laws.Types.{close-next, closed-next}
 use Rattle.normal_writer.specs.laws.Parts.{nested-refused, nested-told, nested-answer}
 use Rattle.normal_writer.proofs.cycle.nested.Reads as nested
 use Rattle.normal_writer.proofs.cycle.+args+more+named+nested+parts+referred+ty+with_args+wrap.Lts-nested as lts
 use Rattle.normal_writer.proofs.cycle.+args+more+named+nested+parts+referred+ty+with_args+wrap.Proof.Cycle.{nested-at, nested-calls}
+
+pub copy-byte-requires : (t : ℕ) → lts.Need-copy-byte-requires (nested-calls t) (nested-at t) nested.Post
+copy-byte-requires t c κs = (c .before .before .before .before .pre .1 .0, ready-out (c .before .before .before .before .pre .1 .1))
 
 pub parts-requires : (t : ℕ) → lts.Need-parts-requires (nested-calls t) (nested-at t) nested.Post
 parts-requires t c κs = (omega (arith, c .before .before .before .before .before .before .before .before .before .pre .0, c .before .before .before .before .before .before .before .before .before .pre .1 .0, c .before .before .before .before .copy-byte .ensures .0), copied-ready (c .before .before .before .before .copy-byte .ensures) (c .before .before .before .before .before .before .before .before .before .pre .1 .0) (c .before .before .before .before .before .before .before .before .before .pre .1 .1))

@@ -9,7 +9,7 @@ use lib.ListN.{getD}
 use Rattle.catalogue.specs.Recogniser.{lead}
 use types.Run
 use Rattle.normal_steps.specs.laws.Leads.{lead-is}
-use Rattle.normal_steps.specs.laws.Moves.{moved-ready}
+use Rattle.normal_steps.specs.laws.Moves.{moved-ready, ready-notes}
 use Rattle.normal_writer.specs.laws.Types.{by-name, by-reference, first-named, first-referred, first-next}
 use Rattle.normal_writer.specs.laws.Parts.{parts-end, parts-by, parts-other, parts-unnamed, parts-named, parts-unreferred, parts-barred, parts-referred}
 use Rattle.normal_steps.specs.declared.lead.Lead.{Lead}
@@ -50,7 +50,7 @@ returns-3 t c = parts-by (c .before .before .before .before .before .before .bef
 pub tag-of-requires : (t : ℕ) → lts.Need-tag-of-requires (parts-calls t) (parts-at t) parts.Post
 tag-of-requires t c κs =
     let w = first-next by-reference (first-referred (c .before .before .before .before .before .before .before .before .before .moved .ensures) (c .before .before .before .before .before .before .before .before .first-reference .ensures)) (c .before .before .next2 .given .1) (c .before .before .before .before .before .before .before .before .before .before .before .before .before .before .before .before .if1 .left) (c .before .before .before .before .before .before .before .before .before .before .before .before .before .before .before .before .before .before .before .before .pre .1) in
-    (_, (_, (w .state, w .holds)))
+    (_, ready-notes (w .state, w .holds))
 
 pub returns-4 : (t : ℕ) → lts.Need-returns-4 (parts-calls t) (parts-at t) parts.Post
 returns-4 t c = parts-by (c .before .before .before .before .before .before .before .before .before .before .before .before .before .before .before .before .before .before .before .if1 .left) (lead-is _ S (sym (c .before .before .before .before .before .before .before .before .before .before .before .before .before .before .before .enum-told3 .given .1) ∙ c .before .before .before .before .before .before .before .before .before .before .before .before .before .before .before .before .before .lead-of .ensures)) (parts-barred (first-referred (c .before .before .before .before .before .before .before .before .before .before .before .before .moved .ensures) (c .before .before .before .before .before .before .before .before .before .before .before .first-reference .ensures)) (c .before .before .before .before .before .next2 .given .1) (c .before .before .tag-of .ensures) (sym (c .before .class .ensures) ∙ not-true _ (c .if2 .taken)))

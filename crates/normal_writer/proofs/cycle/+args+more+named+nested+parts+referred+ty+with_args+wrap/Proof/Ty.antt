@@ -4,7 +4,7 @@ use native.Mathlib.Omega.{arith}
 use mathlib.Core.Path.{sym, _∙_}
 use Rattle.normal_nodes.specs.laws.Laws.{letter-below}
 use Rattle.normal_steps.specs.laws.Leads.{lead-is}
-use Rattle.normal_steps.specs.laws.Moves.{moved-ready}
+use Rattle.normal_steps.specs.laws.Moves.{moved-ready, ready-out}
 use Rattle.normal_writer.specs.laws.Types.{type-end, type-by, letter-answer, literal-answer, none-answer}
 use Rattle.normal_steps.specs.declared.lead.Lead.the-variants.{Letter, Wrap, Digit, S, N, L, None}
 use Rattle.normal_writer.proofs.cycle.ty.Reads as ty
@@ -13,6 +13,9 @@ use Rattle.normal_writer.proofs.cycle.+args+more+named+nested+parts+ref
 
 pub returns : (t : ℕ) → lts.Need-returns (ty-calls t) (ty-at t) ty.Post
 returns t c = type-end (c .if1 .taken)
+
+pub copy-byte-requires : (t : ℕ) → lts.Need-copy-byte-requires (ty-calls t) (ty-at t) ty.Post
+copy-byte-requires t c κs = (c .before .before .before .before .before .if1 .left, ready-out (c .before .before .before .before .before .before .before .before .before .pre .1))
 
 pub cast-t16 : (t : ℕ) → lts.Need-cast-t16 (ty-calls t) (ty-at t) ty.Post
 cast-t16 t c =

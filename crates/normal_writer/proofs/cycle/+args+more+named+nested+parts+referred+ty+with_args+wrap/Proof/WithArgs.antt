@@ -4,7 +4,7 @@ use native.Mathlib.Omega.{arith}
 use mathlib.Core.Path.{sym, _∙_}
 use borrow.Author.Tests.{not-true, not-false, eq-eqb, ne-eqb}
 use Rattle.grammar.specs.laws.Places.{starts-inside}
-use Rattle.normal_steps.specs.laws.Moves.{copied-ready}
+use Rattle.normal_steps.specs.laws.Moves.{copied-ready, ready-out, ready-notes}
 use Rattle.normal_writer.specs.laws.Types.{args-told, close-next, closed-next, without-args, args-barred, args-refused, args-answer}
 use Rattle.normal_writer.proofs.cycle.with_args.Reads as with-args
 use Rattle.normal_writer.proofs.cycle.+args+more+named+nested+parts+referred+ty+with_args+wrap.Lts-with_args as lts
@@ -14,13 +14,13 @@ pub returns : (t : ℕ) → lts.Need-returns (with-args-calls t) (with-args-at t
 returns t c = without-args _ _ (sym (c .before .starts-with .ensures) ∙ not-true _ (c .if1 .taken)) (c .before .before .before .before .before .before .pre .1 .0 .0) (c .before .before .before .before .before .before .pre .1 .0 .1)
 
 pub tag-of-requires : (t : ℕ) → lts.Need-tag-of-requires (with-args-calls t) (with-args-at t) with-args.Post
-tag-of-requires t c κs = (_, (_, c .before .before .before .before .before .before .before .pre .1 .1))
+tag-of-requires t c κs = (_, ready-notes (c .before .before .before .before .before .before .before .pre .1 .1))
 
 pub returns-2 : (t : ℕ) → lts.Need-returns-2 (with-args-calls t) (with-args-at t) with-args.Post
 returns-2 t c = args-barred _ _ (sym (c .before .before .before .before .starts-with .ensures) ∙ not-false _ (c .before .before .before .if1 .left)) (c .before .tag-of .ensures) (ne-eqb _ _ (c .if2 .taken))
 
 pub copy-byte-requires : (t : ℕ) → lts.Need-copy-byte-requires (with-args-calls t) (with-args-at t) with-args.Post
-copy-byte-requires t c κs = (starts-inside _ _ 73 (sym (c .before .before .before .before .before .starts-with .ensures) ∙ not-false _ (c .before .before .before .before .if1 .left)), (_, c .before .before .before .before .before .before .before .before .before .before .pre .1 .1))
+copy-byte-requires t c κs = (starts-inside _ _ 73 (sym (c .before .before .before .before .before .starts-with .ensures) ∙ not-false _ (c .before .before .before .before .if1 .left)), ready-out (c .before .before .before .before .before .before .before .before .before .before .pre .1 .1))
 
 pub args-requires : (t : ℕ) → lts.Need-args-requires (with-args-calls t) (with-args-at t) with-args.Post
 args-requires t c κs =
