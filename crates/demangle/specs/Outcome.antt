@@ -1,9 +1,11 @@
 -- What the entry for names leaves: a number, a length, and every byte of the slices that it was lent.
+use mathlib.Core.Bool.{Bool, _&&_}
 use mathlib.Core.Path.{_≡_}
 use Prim.Native.Nat.{ℕ, _≤_}
+use lib.Dec.{leb}
 use lib.ListN.{length}
 use Rattle.grammar.specs.Text.{Text}
-use Rattle.grammar.specs.Names.{answer, most-symbol-bytes, number-of, length-of, written}
+use Rattle.grammar.specs.Names.{answer, most-symbol-bytes, number-of, length-of, written, least-text, least-store}
 use Rattle.grammar.specs.Names as n
 use Rattle.store.specs.Stack.{zeros}
 use Rattle.demangle.specs.declared.entry.Answer.{Answer}
@@ -54,8 +56,11 @@ Demangles s l l' r = _≡_ {A = Outcome} (record { number = number-in r; bytes =
 abbrev pub Leaves : n.Answer → Slices → Slices → Answer → Type 0
 Leaves a l l' r = _≡_ {A = Outcome} (record { number = number-in r; bytes = bytes-in r; slices = l' }) (leaves a l)
 
--- the work slices have their least lengths, or more
-pub record Long (l : Slices) : Type 0 where
-  pub text : 51200 ≤ length (l .text)
-  pub store : 65536 ≤ length (l .store)
-  pub ends : 2048 ≤ length (l .ends)
+-- the work slices have their least lengths, or more; that of `ends` is not the same for both entries
+pub record Long (least : ℕ) (l : Slices) : Type 0 where
+  pub text : least-text ≤ length (l .text)
+  pub store : least-store ≤ length (l .store)
+  pub ends : least ≤ length (l .ends)
+
+abbrev pub fit : ℕ → Slices → Bool
+fit least l = leb least-text (length (l .text)) && leb least-store (length (l .store)) && leb least (length (l .ends))

@@ -9,7 +9,7 @@ use store::stack;
 ghost use mathlib.Core.Path.{_≡_};
 ghost use Prim.Native.Nat.{_≤_};
 ghost use lib.ListN.{length, drop};
-ghost use Rattle.grammar.specs.Names.{answer, most-symbol-bytes, mangled-name, within};
+ghost use Rattle.grammar.specs.Names.{answer, most-symbol-bytes, mangled-name, within, least-ends};
 ghost use Rattle.parser.specs.Holds.{mem};
 ghost use Rattle.encoding.specs.Encodings.{Least};
 ghost use Rattle.demangle.specs.Outcome.{slices, lent, Demangles, Long};
@@ -52,7 +52,7 @@ pub fn demangle_uncleared(
     let Front::Behind(at) = front else {
         return refused(front);
     };
-    if !symbol::work_fits(text.len(), store.len(), ends.len()) {
+    if !symbol::work_fits(text.len(), store.len(), ends.len(), symbol::ENDS) {
         return Answer::Refused(14);
     }
     read_behind(s, at, out, text, store, ends)
@@ -67,7 +67,7 @@ fn read_behind(
     store: &mut [u8],
     ends: &mut [u16],
 ) -> Answer
-    requires { ⌜ ((at ≤ length (now s)) × (length (now s) ≤ 4096)) × Long (slices (now out) (now text) (now store) (now ends)) ⌝ }
+    requires { ⌜ ((at ≤ length (now s)) × (length (now s) ≤ 4096)) × Long least-ends (slices (now out) (now text) (now store) (now ends)) ⌝ }
     ensures { λ r. ⌜ Tells (within (length (now (out .entry))) (mangled-name (drop at (now (s .entry))))) (now (out .entry)) (now (out .exit)) r ⌝ }
 {
     read(

@@ -6,7 +6,7 @@ ghost use mathlib.Core.List.{_++_};
 ghost use Prim.Native.Nat.{_-_, _≤_};
 ghost use lib.Dec.{leb};
 ghost use lib.ListN.{length, take, drop};
-ghost use Rattle.grammar.specs.Names.{high, without-slots};
+ghost use Rattle.grammar.specs.Names.{high, without-slots, least-text, least-store};
 ghost use Rattle.store.specs.Stack.{slots-in};
 ghost use Rattle.demangle.specs.Symbols.{Fronts};
 
@@ -56,9 +56,9 @@ pub fn behind_front(s: &[u8]) -> Front
     Front::Refused(3)
 }
 
-// Whether the work slices are as long as they have to be.
-pub fn work_fits(text: usize, store: usize, ends: usize) -> bool
-    ensures { λ r. ⌜ r ≡ (leb 51200 text && leb 65536 store && leb 2048 ends) ⌝ }
+// Whether the work slices are as long as they have to be, `ends` with `least` numbers.
+pub fn work_fits(text: usize, store: usize, ends: usize, least: usize) -> bool
+    ensures { λ r. ⌜ r ≡ (leb least-text text && leb least-store store && leb least ends) ⌝ }
 {
     if text < TEXT {
         return false;
@@ -66,7 +66,7 @@ pub fn work_fits(text: usize, store: usize, ends: usize) -> bool
     if store < STORE {
         return false;
     }
-    ENDS <= ends
+    least <= ends
 }
 
 // text[from..to] without its slots, into the front of `out`.

@@ -2,14 +2,11 @@
 -- tells it. Assumes nothing.
 use Prim.Native.Nat.{_≤_}
 use lib.ListN.{length}
-use Rattle.grammar.specs.Names.{least-text, least-store}
-use Rattle.demangle.specs.Outcome.{Slices}
+use Rattle.demangle.specs.Outcome.{Slices, Long}
 use Rattle.listing.specs.Listing.{least-name, least-ends-of}
 use Rattle.listing.specs.declared.listing.Kind.{Kind}
 
 -- the work slices have their least lengths, or more
 pub record Sized (kind : Kind) (l : Slices) : Type 0 where
   pub name : least-name ≤ length (l .out)
-  pub text : least-text ≤ length (l .text)
-  pub store : least-store ≤ length (l .store)
-  pub ends : least-ends-of kind ≤ length (l .ends)
+  pub work : Long (least-ends-of kind) l

@@ -190,13 +190,7 @@ fn long_enough(kind: Kind, name: usize, text: usize, store: usize, ends: usize) 
     if name < NAME {
         return false;
     }
-    if text < symbol::TEXT {
-        return false;
-    }
-    if store < symbol::STORE {
-        return false;
-    }
-    least_ends(kind) <= ends
+    symbol::work_fits(text, store, ends, least_ends(kind))
 }
 
 // The listing, or no line where a work slice is too short.

@@ -8,19 +8,17 @@ use normal_steps::state::Writer;
 use normal_writer::symbol as writing;
 use normal_writer::symbol::Written;
 use store::stack;
-ghost use mathlib.Core.Bool.{_&&_};
 ghost use mathlib.Core.List.{[]};
 ghost use mathlib.Core.Option.{some};
 ghost use mathlib.Core.Path.{_≡_};
 ghost use Prim.Native.Nat.{_≤_};
-ghost use lib.Dec.{leb};
 ghost use lib.ListN.{length, take};
 ghost use Rattle.grammar.specs.Names.{demangle, most-symbol-bytes, number-of, within};
-ghost use Rattle.catalogue.specs.Answer.{normal-told, normal-answer};
-ghost use Rattle.demangle.specs.Outcome.{slices, lent, number-in};
+ghost use Rattle.catalogue.specs.Answer.{normal-told, normal-answer, least-normal-ends};
+ghost use Rattle.demangle.specs.Outcome.{slices, lent, number-in, Long};
 ghost use Rattle.demangle.specs.Printed.{Tells};
 ghost use Rattle.normalize.specs.Outcome.{Normalizes};
-ghost use Rattle.normalize.specs.Parts.{Long, accepted-answer};
+ghost use Rattle.normalize.specs.Parts.{accepted-answer};
 
 // The least length of `ends`; those of `text` and `store` are symbol::TEXT and symbol::STORE.
 pub const ENDS: usize = 24576;
@@ -58,7 +56,7 @@ pub fn normalize_uncleared(
     let Front::Behind(_) = front else {
         return reading::refused(front);
     };
-    if !work_fits(text.len(), store.len(), ends.len()) {
+    if !symbol::work_fits(text.len(), store.len(), ends.len(), ENDS) {
         return Answer::Refused(14);
     }
     let first = accepted(s, text, store, ends);
@@ -68,22 +66,9 @@ pub fn normalize_uncleared(
     write_within(s, out, store, ends)
 }
 
-// Whether the work slices are as long as they have to be.
-fn work_fits(text: usize, store: usize, ends: usize) -> bool
-    ensures { λ r. ⌜ r ≡ (leb 51200 text && leb 65536 store && leb 24576 ends) ⌝ }
-{
-    if text < symbol::TEXT {
-        return false;
-    }
-    if store < symbol::STORE {
-        return false;
-    }
-    ENDS <= ends
-}
-
 // The reading for the name: the number of its refusal, or 0. Its contract settles the number, and not the variant that tells it.
 fn accepted(s: &[u8], text: &mut [u8], store: &mut [u8], ends: &mut [u16]) -> u8
-    requires { ⌜ Long (slices [] (now text) (now store) (now ends)) ⌝ }
+    requires { ⌜ Long least-normal-ends (slices [] (now text) (now store) (now ends)) ⌝ }
     ensures { λ r. ⌜ r ≡ number-of (demangle most-symbol-bytes (now (s .entry))) ⌝ }
 {
     let mut name = [0u8; 16384];

@@ -1,19 +1,19 @@
 -- Laws of the entry: the answer by what is told before the reading, and what every answer leaves. Assumes nothing.
-use mathlib.Core.Bool.{Bool, true, false, _&&_}
+use mathlib.Core.Bool.{true, false, _&&_}
 use mathlib.Core.Path.{_≡_, sym, ap, _∙_, subst}
 use Prim.Native.Nat.{ℕ, _≤_}
-use borrow.Author.Tests.{leb-true}
+use borrow.Author.Tests.{le-leb, leb-true}
 use lib.Dec.{leb}
 use lib.ListN.{length, drop}
 use Rattle.grammar.specs.Text.{Text, if_then_else_}
-use Rattle.grammar.specs.Names.{front, most-symbol-bytes, answer, work-fits, within, mangled-name}
+use Rattle.grammar.specs.Names.{front, most-symbol-bytes, answer, work-fits, within, mangled-name, least-text, least-store, least-ends}
 use Rattle.grammar.specs.Names as n
 use Rattle.store.specs.Stack.{zeros}
 use Rattle.demangle.specs.declared.entry.Answer.{Answer}
 use Rattle.demangle.specs.declared.entry.Answer.the-variants.{Refused}
 use Rattle.demangle.specs.declared.symbol.Front.{Front}
 use Rattle.demangle.specs.declared.symbol.Front.the-variants as front-as
-use Rattle.demangle.specs.Outcome.{Slices, lent, leaves, demangled, Demangles, Leaves, Long}
+use Rattle.demangle.specs.Outcome.{Slices, lent, leaves, demangled, Demangles, Leaves, Long, fit}
 use Rattle.demangle.specs.Symbols.{Fronts, Front-inside}
 use Rattle.demangle.specs.laws.Fronts.{both-true}
 use Rattle.demangle.specs.Printed.{Tells, refused-of}
@@ -21,14 +21,17 @@ use Rattle.demangle.specs.laws.Tells.{tells-refusal, tells-as}
 
 -- ---- the lengths of the work slices
 
-abbrev pub fit : Slices → Bool
-fit l = leb 51200 (length (l .text)) && leb 65536 (length (l .store)) && leb 2048 (length (l .ends))
+pub fit-long : (least : ℕ) (l : Slices) → fit least l ≡ true → Long least l
+fit-long least l h =
+    let text = leb least-text (length (l .text)) in
+    let store = leb least-store (length (l .store)) in
+    let (i, k) = both-true (text && store) (leb least (length (l .ends))) h in
+    let (x, y) = both-true text store i in
+    record { text = leb-true least-text (length (l .text)) x; store = leb-true least-store (length (l .store)) y; ends = leb-true least (length (l .ends)) k }
 
-pub fit-long : (l : Slices) → fit l ≡ true → Long l
-fit-long l h =
-    let (i, k) = both-true (leb 51200 (length (l .text)) && leb 65536 (length (l .store))) (leb 2048 (length (l .ends))) h in
-    let (x, y) = both-true (leb 51200 (length (l .text))) (leb 65536 (length (l .store))) i in
-    record { text = leb-true 51200 (length (l .text)) x; store = leb-true 65536 (length (l .store)) y; ends = leb-true 2048 (length (l .ends)) k }
+pub long-fit : {least : ℕ} {l : Slices} → Long least l → fit least l ≡ true
+long-fit {least} {l} h =
+    rw (le-leb least-text (length (l .text)) (h .text), le-leb least-store (length (l .store)) (h .store), le-leb least (length (l .ends)) (h .ends))
 
 -- ---- by the front
 
@@ -47,13 +50,13 @@ module _ {s : Text} {f : Front} (h : Fronts s f) where
     pub front-inside : (k ≤ length s) × (length s ≤ 4096)
     front-inside = subst (Front-inside s) e (h .inside)
 
-    pub front-short : (l : Slices) → fit l ≡ false → Tells (answer most-symbol-bytes (lent l) s) (l .out) (l .out) (Refused 14)
+    pub front-short : (l : Slices) → fit least-ends l ≡ false → Tells (answer most-symbol-bytes (lent l) s) (l .out) (l .out) (Refused 14)
     unfolding answer work-fits if_then_else_
     front-short l g =
         let i : Fronts s (front-as.Behind k) = subst (Fronts s) e h in
         tells-refusal (i .is _ ∙ rw g)
 
-    pub front-reads : (l : Slices) (out : Text) (r : Answer) → fit l ≡ true → Tells (within (length (l .out)) (mangled-name (drop k s))) (l .out) out r
+    pub front-reads : (l : Slices) (out : Text) (r : Answer) → fit least-ends l ≡ true → Tells (within (length (l .out)) (mangled-name (drop k s))) (l .out) out r
         → Tells (answer most-symbol-bytes (lent l) s) (l .out) out r
     unfolding answer work-fits if_then_else_
     front-reads l out r g z =

@@ -7,7 +7,9 @@ use lib.Dec.{leb}
 use lib.ListN.{length}
 use Rattle.grammar.specs.Text.{Text, if_then_else_}
 use Rattle.store.specs.Stack.{zeros}
-use Rattle.demangle.specs.Outcome.{Slices}
+use Rattle.demangle.specs.Outcome.{Slices, fit}
+use Rattle.demangle.specs.laws.Told.{fit-long}
+use Rattle.grammar.specs.Names.{least-text, least-store}
 use Rattle.demangle.specs.laws.Fronts.{both-true}
 use Rattle.listing.specs.Listing.{lines, fitting, bytes-taken, listing, least-ends-of, sized, work-sized, lists, listed, Lists}
 use Rattle.listing.specs.Kinds.{Sized}
@@ -23,36 +25,17 @@ module _ (kind : Kind) (name text store ends : ℕ) where
   unfolding sized
   short-name h = rw (lt-leb 16384 name h)
 
-  pub short-text : 16384 ≤ name → text < 51200 → false ≡ sized kind name text store ends
+  pub long-name : 16384 ≤ name → {q : Bool} → q ≡ (leb least-text text && leb least-store store && leb (least-ends-of kind) ends) → q ≡ sized kind name text store ends
   unfolding sized
-  short-text h k = rw (le-leb 16384 name h, lt-leb 51200 text k)
-
-  pub short-store : 16384 ≤ name → 51200 ≤ text → store < 65536 → false ≡ sized kind name text store ends
-  unfolding sized
-  short-store h k l = rw (le-leb 16384 name h, le-leb 51200 text k, lt-leb 65536 store l)
-
-  pub long-others : 16384 ≤ name → 51200 ≤ text → 65536 ≤ store → leb (least-ends-of kind) ends ≡ sized kind name text store ends
-  unfolding sized
-  long-others h k l = rw (le-leb 16384 name h, le-leb 51200 text k, le-leb 65536 store l)
+  long-name h e = rw (le-leb 16384 name h) e
 
 -- by a test of the lengths
 module _ (kind : Kind) (work : Slices) {q : Bool} (e : q ≡ sized kind (length (work .out)) (length (work .text)) (length (work .store)) (length (work .ends))) where
   pub least-lengths : q ≡ true → Sized kind work
   unfolding sized
   least-lengths f =
-      let name = leb 16384 (length (work .out)) in
-      let text = leb 51200 (length (work .text)) in
-      let store = leb 65536 (length (work .store)) in
-      let ends = leb (least-ends-of kind) (length (work .ends)) in
-      let (x, i) = both-true name (text && store && ends) (sym e ∙ f) in
-      let (j, w) = both-true (text && store) ends i in
-      let (y, z) = both-true text store j in
-      record {
-        name = leb-true 16384 (length (work .out)) x;
-        text = leb-true 51200 (length (work .text)) y;
-        store = leb-true 65536 (length (work .store)) z;
-        ends = leb-true (least-ends-of kind) (length (work .ends)) w;
-      }
+      let (x, i) = both-true (leb 16384 (length (work .out))) (fit (least-ends-of kind) work) (sym e ∙ f) in
+      record { name = leb-true 16384 (length (work .out)) x; work = fit-long (least-ends-of kind) work i }
 
   pub goes-none : (input out : Text) → q ≡ false → Goes kind out out (taken-lines kind input out work) (record { taken = 0; written = 0 })
   unfolding work-sized bytes-taken listing if_then_else_

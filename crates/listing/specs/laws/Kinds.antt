@@ -1,23 +1,24 @@
 -- Laws of Kinds.antt. Assumes nothing.
-use mathlib.Core.Bool.{Bool, true, false, _&&_}
+use mathlib.Core.Bool.{Bool, true, false}
 use mathlib.Core.Option.{Option, none, some}
 use mathlib.Core.Path.{_≡_, refl, sym, ap, _∙_, subst}
 use Prim.Native.Nat.{_≤_, _<_}
 use native.Mathlib.Omega.{arith}
-use borrow.Author.Tests.{lt-ltb, le-leb, leb-true}
+use borrow.Author.Tests.{lt-ltb, leb-true}
 use lib.Dec.{leb}
 use lib.ListN.{length}
 use Rattle.grammar.specs.Text.{Text, if_then_else_}
-use Rattle.grammar.specs.Names.{Answer, named, refusal, mangled-name, front, demangle, most-symbol-bytes, least-text, least-store, work-fits, within, answer, length-of}
+use Rattle.grammar.specs.Names.{Answer, named, refusal, mangled-name, front, demangle, most-symbol-bytes, work-fits, within, answer, length-of}
 use Rattle.catalogue.specs.Recogniser.{classify}
 use Rattle.catalogue.specs.Answer.{normal-in, normal-told, normal-after, normal-symbol, normal-work-fits, normal-answer}
 use Rattle.demangle.specs.laws.Lengths.{short-answer, within-is, answer-is}
 use Rattle.demangle.specs.Outcome.{Slices, lent}
 use Rattle.demangle.specs.Printed.{Tells}
 use Rattle.demangle.specs.laws.Tells.{tells-as}
+use Rattle.demangle.specs.laws.Told.{long-fit}
 use Rattle.demangle.specs.declared.entry.Answer.{Answer as Code}
 use Rattle.normalize.specs.laws.Runs.{normal-behind}
-use Rattle.listing.specs.Listing.{answer-of, least-ends-of}
+use Rattle.listing.specs.Listing.{answer-of}
 use Rattle.listing.specs.declared.listing.Kind.{Kind}
 use Rattle.listing.specs.declared.listing.Kind.the-variants.{Names, Symbols}
 use Rattle.listing.specs.Kinds.{Sized}
@@ -62,20 +63,16 @@ unfolding answer-of normal-symbol normal-after
 too-long Names s h = too-long-for-name s h
 too-long Symbols s h = ap (normal-after s) (too-long-for-name s h)
 
-sized-fits : {kind : Kind} {l : Slices} → Sized kind l → leb least-text (length (l .text)) && leb least-store (length (l .store)) && leb (least-ends-of kind) (length (l .ends)) ≡ true
-sized-fits {kind} {l} h =
-    rw (le-leb least-text (length (l .text)) (h .text), le-leb least-store (length (l .store)) (h .store), le-leb (least-ends-of kind) (length (l .ends)) (h .ends))
-
 -- either entry tells the answer
 module _ {kind : Kind} {l : Slices} {out : Text} {r : Code} (s : Text) (h : Sized kind l) where
   pub name-told : kind ≡ Names → Tells (answer most-symbol-bytes (lent l) s) (l .out) out r → Tells (answer-of kind s) (l .out) out r
   unfolding answer-of work-fits
   name-told e d =
       let i : Sized Names l = subst (λ (k : Kind). Sized k l) e h in
-      tells-as (answer-is l s (i .name) (sized-fits i) ∙ ap (λ (k : Kind). answer-of k s) (sym e)) d
+      tells-as (answer-is l s (i .name) (long-fit (i .work)) ∙ ap (λ (k : Kind). answer-of k s) (sym e)) d
 
   pub symbol-told : kind ≡ Symbols → Tells (normal-answer (lent l) s) (l .out) out r → Tells (answer-of kind s) (l .out) out r
   unfolding answer-of normal-work-fits
   symbol-told e d =
       let i : Sized Symbols l = subst (λ (k : Kind). Sized k l) e h in
-      tells-as (normal-is l s (i .name) (sized-fits i) ∙ ap (λ (k : Kind). answer-of k s) (sym e)) d
+      tells-as (normal-is l s (i .name) (long-fit (i .work)) ∙ ap (λ (k : Kind). answer-of k s) (sym e)) d

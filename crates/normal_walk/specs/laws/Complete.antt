@@ -20,7 +20,7 @@ use Rattle.catalogue.specs.laws.ReadsBack.{lead-letter-is, lead-wrap-is, digit-
 use Rattle.normal_walk.specs.Walk.{got, when, distinct, wrote, with-args, enter}
 use Rattle.normal_walk.specs.laws.Table.{Kept, Table, TablePre, TableArgs, table-pre-root, table-pre-entry, entry-at, table, table-pre, table-args}
 use Rattle.normal_walk.specs.laws.Fuel.{walked, walked-parts, walked-more, walked-args, args-is}
-use Rattle.normal_walk.specs.laws.Steps.{walked-letter, walked-wrap, walked-N, lead-N, walked-name, walked-ref, walked-lit, parts-name, parts-ref, more-I, more-name}
+use Rattle.normal_walk.specs.laws.Steps.{walked-letter, walked-wrap, walked-N, lead-N-is, walked-name, walked-ref, walked-lit, parts-name, parts-ref, more-I, more-name}
 use Rattle.normal_walk.specs.laws.Written.{arg-bytes, wrote-entry, wrote-entry-pre, wrote-wrap, wrote-root, wrote-root-pre, wrote-sub, wrote-sub-pre, wrote-single, wrote-app, wrote-app-pre}
 
 abbrev is-i : ℕ → Bool
@@ -118,7 +118,7 @@ module _ {vs : List Ty} (a : Kept vs) where
   unfolding spell count if_then_else_
   nest-sub-walks q n t ws h p g r k z =
       ap (λ s. walked vs k (78 ∷ s)) (inner (spell-pre q) (name-bytes n) r)
-      ∙ walked-N vs k 78 (spell-pre q ++ (name-bytes n ++ (69 ∷ r))) lead-N
+      ∙ walked-N vs k 78 (spell-pre q ++ (name-bytes n ++ (69 ∷ r))) lead-N-is
       ∙ rw (
         g (name-bytes n ++ (69 ∷ r)) k (name-first is-e not-E n (69 ∷ r)),
         more-name ws (k + count-pre q) n (69 ∷ r) p t (spell-pre (normal-pre t (distinct vs))),
@@ -131,7 +131,7 @@ module _ {vs : List Ty} (a : Kept vs) where
       let s = and-left (not (single t)) (is-bare t) p in
       let b = and-right (not (single t)) (is-bare t) p in
       ap (λ s. walked vs k (78 ∷ s)) (inner′ (spell-pre q) (spell-args ss) r)
-      ∙ walked-N vs k 78 (spell-pre q ++ (73 ∷ (spell-args ss ++ (69 ∷ 69 ∷ r)))) lead-N
+      ∙ walked-N vs k 78 (spell-pre q ++ (73 ∷ (spell-args ss ++ (69 ∷ 69 ∷ r)))) lead-N-is
       ∙ rw (
         g (73 ∷ (spell-args ss ++ (69 ∷ 69 ∷ r))) k refl,
         more-I us (k + count-pre q) 73 (spell-args ss ++ (69 ∷ 69 ∷ r)) t (spell-pre (normal-pre t (distinct vs))) refl,

@@ -109,36 +109,36 @@ module _ (vs : List Ty) (k : ℕ) (n r : Text) (p : name-ok n ≡ true) where
       go [] h e = absurd (false≢true h)
       go (c ∷ s) h e = more-digit vs k c s t w (or-left (eqb c 73) (eqb c 69) (digit-IE c h)) ∙ rw e refl
 
-pub lead-S : lead (code "S") ≡ lead-S
+pub lead-S-is : lead (code "S") ≡ lead-S
 unfolding lead digit digit-value if_then_else_
-lead-S = refl
+lead-S-is = refl
 
-pub lead-N : lead (code "N") ≡ lead-N
+pub lead-N-is : lead (code "N") ≡ lead-N
 unfolding lead digit digit-value if_then_else_
-lead-N = refl
+lead-N-is = refl
 
-pub lead-L : lead (code "L") ≡ lead-L
+pub lead-L-is : lead (code "L") ≡ lead-L
 unfolding lead digit digit-value if_then_else_
-lead-L = refl
+lead-L-is = refl
 
 module _ (vs : List Ty) (k i : ℕ) (r : Text) (t : Ty) (e : getElem? vs i ≡ some t) where
   pub walked-ref : walked vs k (ref-bytes i ++ r)
       ≡ if-next (code "I") r (λ r′. when (single t && is-bare t) (with-args t (wrote t vs []) (walked-args vs k r′) enter)) (got t (wrote t vs []) vs k r)
   unfolding choose
   walked-ref =
-      walked-S vs k (code "S") ((ref-digits i ++ (code "_" ∷ [])) ++ r) lead-S
+      walked-S vs k (code "S") ((ref-digits i ++ (code "_" ∷ [])) ++ r) lead-S-is
       ∙ rw (append-assoc (ref-digits i) (95 ∷ []) r, ref-spelled i r) (rw e refl)
 
   pub parts-ref : is-class t ≡ true → walked-parts vs k (ref-bytes i ++ r) ≡ walked-more t (wrote t vs []) vs k r
   unfolding choose
   parts-ref p =
-      parts-S vs k (code "S") ((ref-digits i ++ (code "_" ∷ [])) ++ r) lead-S
+      parts-S vs k (code "S") ((ref-digits i ++ (code "_" ∷ [])) ++ r) lead-S-is
       ∙ rw (append-assoc (ref-digits i) (95 ∷ []) r, ref-spelled i r) (rw e (rw p refl))
 
 pub walked-lit : (vs : List Ty) (j : ℕ) (k : Kind) (g : Bool) (v r : Text) → lit-ok k g v ≡ true
     → walked vs j (code "L" ∷ (kind-code k ∷ (minus g ++ (v ++ (code "E" ∷ r))))) ≡ got (lit k g v) (lit-bytes (lit k g v)) vs j r
 walked-lit vs j k g v r p =
-    walked-L vs j (code "L") (kind-code k ∷ (minus g ++ (v ++ (code "E" ∷ r)))) lead-L ∙ rw (lit-spelled k g v r p) refl
+    walked-L vs j (code "L") (kind-code k ∷ (minus g ++ (v ++ (code "E" ∷ r)))) lead-L-is ∙ rw (lit-spelled k g v r p) refl
 
 -- ---------------------------------------------------------------- fewer bytes are left
 

@@ -1,20 +1,20 @@
 -- Laws of the answer of the entry for normal symbols, by what is told on the way. Assumes nothing.
-use mathlib.Core.Bool.{Bool, true, false, _&&_}
+use mathlib.Core.Bool.{true, false}
 use mathlib.Core.List.{[], _++_}
 use mathlib.Core.Option.{Option, none, some}
 use mathlib.Core.Path.{_≡_, refl, sym, ap, ap₂, _∙_, subst}
 use Prim.Native.Nat.{ℕ, _+_, _≤_, _<_}
 use native.Mathlib.Omega.{arith}
-use borrow.Author.Tests.{le-leb, lt-leb, leb-true}
+use borrow.Author.Tests.{le-leb, lt-leb}
 use lib.Dec.{leb}
 use lib.ListN.{length, drop}
 use lib.Seq.{paste, take-length}
 use Rattle.grammar.specs.Text.{Text, if_then_else_}
-use Rattle.grammar.specs.Names.{refusal, named, demangle, mangled-name, answer, within, work-fits, most-symbol-bytes, number-of}
+use Rattle.grammar.specs.Names.{refusal, named, demangle, mangled-name, answer, within, most-symbol-bytes, number-of}
 use Rattle.grammar.specs.Names as n
 use Rattle.grammar.specs.laws.Fuel.{never-0}
 use Rattle.catalogue.specs.Recogniser.{classify}
-use Rattle.catalogue.specs.Answer.{normal-in, normal-told, normal-after, normal-answer, normal-work-fits}
+use Rattle.catalogue.specs.Answer.{normal-in, normal-told, normal-after, normal-answer, normal-work-fits, least-normal-ends}
 use Rattle.normal_walk.specs.laws.Equal.{walk-is}
 use Rattle.normal_nodes.specs.Nodes.{note-symbol}
 use Rattle.normal_nodes.specs.laws.Equal.{nodes-are-walk}
@@ -23,15 +23,14 @@ use Rattle.demangle.specs.declared.entry.Answer.{Answer}
 use Rattle.demangle.specs.declared.entry.Answer.the-variants.{Name, Refused}
 use Rattle.demangle.specs.declared.symbol.Front.{Front}
 use Rattle.demangle.specs.declared.symbol.Front.the-variants as front-as
-use Rattle.demangle.specs.Outcome.{Slices, slices, lent, number-in}
+use Rattle.demangle.specs.Outcome.{Slices, slices, lent, number-in, Long, fit}
 use Rattle.demangle.specs.Symbols.{Fronts}
-use Rattle.demangle.specs.laws.Fronts.{both-true}
 use Rattle.demangle.specs.Printed.{Tells, refused-of}
 use Rattle.demangle.specs.laws.Tells.{tells-refusal, tells-name, tells-as}
-use Rattle.demangle.specs.laws.Told.{front-tells, told-leaves}
+use Rattle.demangle.specs.laws.Told.{front-tells, told-leaves, long-fit}
 use Rattle.demangle.specs.laws.Lengths.{answer-is}
 use Rattle.normalize.specs.Outcome.{normalized, Normalizes}
-use Rattle.normalize.specs.Parts.{Long, accepted-answer}
+use Rattle.normalize.specs.Parts.{accepted-answer}
 
 -- ---- a normal symbol, told
 
@@ -66,17 +65,12 @@ module _ (s out : Text) where
 
 -- ---- the reading for the name
 
-long-fits : (l : Slices) → Long l → work-fits (lent l) ≡ true
-unfolding work-fits
-long-fits l h =
-    rw (le-leb 51200 (length (l .text)) (h .text), le-leb 65536 (length (l .store)) (h .store), le-leb 2048 (length (l .ends)) (omega (arith, h .ends)))
-
 -- a reading whose output slice is never too short tells the number of the symbol
 pub number-is : (s out text store ends : Text) {out' : Text} (r : Answer) {k : ℕ} → Tells (answer most-symbol-bytes (lent (slices out text store ends)) s) out out' r
-    → 16384 ≤ length out → Long (slices [] text store ends) → k ≡ number-in r → k ≡ number-of (demangle most-symbol-bytes s)
+    → 16384 ≤ length out → Long least-normal-ends (slices [] text store ends) → k ≡ number-in r → k ≡ number-of (demangle most-symbol-bytes s)
 number-is s out text store ends r e h f g =
     let l = slices out text store ends in
-    g ∙ e .number ∙ ap number-of (answer-is l s h (long-fits l (record { text = f .text; store = f .store; ends = f .ends })))
+    g ∙ e .number ∙ ap number-of (answer-is l s h (long-fit (record { text = f .text; store = f .store; ends = omega (arith, f .ends) })))
 
 after-refused : (s : Text) (a : n.Answer) {k : ℕ} → k ≡ number-of a → (k ≡ 0 → ⊥) → normal-after s a ≡ refusal k
 unfolding number-of normal-after
@@ -87,17 +81,6 @@ after-accepted : (s : Text) (a : n.Answer) {k : ℕ} → (a ≡ refusal 0 → �
 unfolding number-of normal-after
 after-accepted s (named x) z e h = refl
 after-accepted s (refusal r) z e h = absurd (z (ap refusal (sym e ∙ h)))
-
--- ---- the lengths of the work slices
-
-abbrev pub fit : Slices → Bool
-fit l = leb 51200 (length (l .text)) && leb 65536 (length (l .store)) && leb 24576 (length (l .ends))
-
-pub fit-long : (l : Slices) → fit l ≡ true → Long l
-fit-long l h =
-    let (i, k) = both-true (leb 51200 (length (l .text)) && leb 65536 (length (l .store))) (leb 24576 (length (l .ends))) h in
-    let (x, y) = both-true (leb 51200 (length (l .text))) (leb 65536 (length (l .store))) i in
-    record { text = leb-true 51200 (length (l .text)) x; store = leb-true 65536 (length (l .store)) y; ends = leb-true 24576 (length (l .ends)) k }
 
 -- ---- by the front
 
@@ -110,11 +93,11 @@ module _ {s : Text} {f : Front} (h : Fronts s f) where
     abbrev here : Fronts s (front-as.Behind k)
     here = subst (Fronts s) e h
 
-    pub front-short : fit l ≡ false → Tells (normal-answer (lent l) s) (l .out) (l .out) (Refused 14)
+    pub front-short : fit least-normal-ends l ≡ false → Tells (normal-answer (lent l) s) (l .out) (l .out) (Refused 14)
     unfolding normal-answer normal-work-fits if_then_else_
     front-short g = tells-refusal (here .is _ ∙ rw g)
 
-    module _ (g : fit l ≡ true) where
+    module _ (g : fit least-normal-ends l ≡ true) where
       after-is : normal-answer (lent l) s ≡ within (length (l .out)) (normal-after s (demangle most-symbol-bytes s))
       unfolding normal-answer normal-work-fits if_then_else_ demangle
       after-is = here .is _ ∙ rw g (ap (λ (a : n.Answer). within (length (l .out)) (normal-after s a)) (sym (here .is mangled-name)))

@@ -18,7 +18,7 @@ returns-2 c =
     front-short (c .before .before .before .before .before .behind-front .ensures) (c .before .before .before .front .given .1) (slices (a .out .now) (a .text .now) (a .store .now) (a .ends .now)) (sym (c .before .work-fits .ensures) ∙ not-true _ (c .if1 .taken))
 
 read-behind-requires : tie.Need-read-behind-requires
-read-behind-requires c κs = (front-inside (c .before .before .before .before .before .before .before .before .before .behind-front .ensures) (c .before .before .before .before .before .before .before .front .given .1), fit-long _ (sym (c .before .before .before .before .before .work-fits .ensures) ∙ not-false _ (c .before .before .before .before .if1 .left)))
+read-behind-requires c κs = (front-inside (c .before .before .before .before .before .before .before .before .before .behind-front .ensures) (c .before .before .before .before .before .before .before .front .given .1), fit-long _ _ (sym (c .before .before .before .before .before .work-fits .ensures) ∙ not-false _ (c .before .before .before .before .if1 .left)))
 
 returns-3 : tie.Need-returns-3
 returns-3 c =

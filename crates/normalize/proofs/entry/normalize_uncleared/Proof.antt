@@ -3,8 +3,8 @@ use mathlib.Core.Path.{sym, _∙_}
 use native.Mathlib.Omega.{arith}
 use borrow.Author.Tests.{not-true, not-false}
 use Rattle.demangle.specs.Outcome.{slices}
-use Rattle.demangle.specs.laws.Told.{front-inside}
-use Rattle.normalize.specs.laws.Answers.{fit-long, front-refuses, front-short, reading-refuses, reading-accepts}
+use Rattle.demangle.specs.laws.Told.{front-inside, fit-long}
+use Rattle.normalize.specs.laws.Answers.{front-refuses, front-short, reading-refuses, reading-accepts}
 use borrow.Author.Needs.{needs}
 use Rattle.normalize.proofs.entry.normalize_uncleared.Statement.{statement}
 use Rattle.normalize.proofs.entry.normalize_uncleared.Tie as tie
@@ -20,7 +20,7 @@ returns-2 c =
     front-short (c .before .before .before .before .behind-front .ensures) (c .before .before .enum-told .given .1) (slices (a .out .now) (a .text .now) (a .store .now) (a .ends .now)) (sym (c .before .work-fits .ensures) ∙ not-true _ (c .if1 .taken))
 
 accepted-requires : tie.Need-accepted-requires
-accepted-requires c κs = fit-long _ (sym (c .before .before .before .before .work-fits .ensures) ∙ not-false _ (c .before .before .before .if1 .left))
+accepted-requires c κs = fit-long _ _ (sym (c .before .before .before .before .work-fits .ensures) ∙ not-false _ (c .before .before .before .if1 .left))
 
 returns-3 : tie.Need-returns-3
 returns-3 c =
@@ -31,7 +31,7 @@ returns-3 c =
 write-within-requires : tie.Need-write-within-requires
 write-within-requires c κs =
     let a = c .before .before .before .before .before .before .before .before .before .before .before .before .before .before .before .before .before .before .before .before .before .before .before .before .args in
-    let l = fit-long (slices (a .out .now) (a .text .now) (a .store .now) (a .ends .now)) (sym (c .before .before .before .before .before .before .before .before .before .before .before .before .before .before .before .work-fits .ensures) ∙ not-false _ (c .before .before .before .before .before .before .before .before .before .before .before .before .before .before .if1 .left)) in
+    let l = fit-long _ (slices (a .out .now) (a .text .now) (a .store .now) (a .ends .now)) (sym (c .before .before .before .before .before .before .before .before .before .before .before .before .before .before .before .work-fits .ensures) ∙ not-false _ (c .before .before .before .before .before .before .before .before .before .before .before .before .before .before .if1 .left)) in
     let k = c .before .before .before .before .before .before .before .before .before .before .accepted .kept in
     (front-inside (c .before .before .before .before .before .before .before .before .before .before .before .before .before .before .before .before .before .before .behind-front .ensures) (c .before .before .before .before .before .before .before .before .before .before .before .before .before .before .before .before .enum-told .given .1) .1, (omega (arith, l .store, k), omega (arith, l .ends, k)))
 
