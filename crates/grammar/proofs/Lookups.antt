@@ -17,7 +17,7 @@ use Rattle.grammar.specs.Words.{halves, behind-type, at-slot, without, l
 use Rattle.grammar.specs.declared.codes.Word.{Word}
 use Rattle.grammar.specs.declared.codes.Picked.{Picked}
 use Rattle.grammar.specs.declared.codes.Picked.the-variants.{At, Nothing}
-use Rattle.grammar.specs.laws.Laws.{both, same→eq}
+use Rattle.grammar.specs.laws.Text.{both, same→eq}
 use Rattle.grammar.proofs.Texts.{part-in-front}
 
 -- an arm: the table has the word w for the code, and w lies inside the words. Whoever unfolds this test can compute it.

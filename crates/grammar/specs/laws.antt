@@ -1,5 +1,5 @@
 -- Laws: propositions between definitions and code, and their proofs. Nothing here has to be believed.
-pub mod Laws
+pub mod Text
 pub mod Places
 pub mod Agree
 pub mod Runs

@@ -1,5 +1,5 @@
 -- Laws: propositions between definitions and code, and their proofs. Nothing here has to be believed.
-pub mod Laws
+pub mod Holds
 pub mod Tags
 pub mod Unnamed
 pub mod Decimals

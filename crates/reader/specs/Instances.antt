@@ -8,7 +8,7 @@ use Rattle.grammar.specs.Grammar.{reading, name-instance, type-instance, s-name
 use Rattle.parser.specs.declared.state.Parser.{Parser}
 use Rattle.parser.specs.Holds.{Memory, Holds}
 use Rattle.parser.specs.Halves.{with-args}
-use Rattle.parser.specs.laws.Laws.{with-templated}
+use Rattle.parser.specs.laws.Holds.{with-templated}
 
 -- a name, or else a type, with its arguments
 abbrev pub instance-of : Bool → Text → Reader Text

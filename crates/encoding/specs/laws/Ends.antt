@@ -12,7 +12,7 @@ use Rattle.grammar.specs.Text.{Text, b, choose, same, starts, each, join}
 use Rattle.grammar.specs.Tables.{qualifiers}
 use Rattle.grammar.specs.Reader.{give}
 use Rattle.grammar.specs.Grammar.{ended, only-void, qualifier}
-use Rattle.grammar.specs.laws.Laws.{starts-nothing}
+use Rattle.grammar.specs.laws.Text.{starts-nothing}
 use Rattle.grammar.specs.Words.{Picks, spelled}
 use Rattle.grammar.specs.declared.codes.Word.{Word}
 use Rattle.grammar.specs.declared.codes.Picked.{Picked}
@@ -24,8 +24,8 @@ use Rattle.parser.specs.declared.state.Read.{Read}
 use Rattle.parser.specs.States.{peeked}
 use Rattle.grammar.specs.laws.Places.{rest-none}
 use Rattle.parser.specs.Holds.{mem, part, Refines, Puts, given-of}
-use Rattle.parser.specs.laws.Laws.{given-refines}
-use Rattle.grammar.specs.laws.Laws.{same-not}
+use Rattle.parser.specs.laws.Holds.{given-refines}
+use Rattle.grammar.specs.laws.Text.{same-not}
 use Rattle.parser.specs.Adds.{Adds}
 use Rattle.parser.specs.laws.Adds.{adds-none, adds-more, stands-more}
 use Rattle.parser.specs.laws.Wraps.{newest-text, picked-at, picked-none}

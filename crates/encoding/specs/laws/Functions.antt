@@ -9,14 +9,14 @@ use lib.ListN.{length, take, length-append}
 use Rattle.grammar.specs.Text.{Text, b, if_then_else_, same, join}
 use Rattle.grammar.specs.Reader.{State, Result, ok, Reader, onto, give, while, one-more}
 use Rattle.grammar.specs.Grammar.{reading, ⟨type⟩, ended, only-void, bare-function-type}
-use Rattle.grammar.specs.laws.Laws.{both, same→eq}
+use Rattle.grammar.specs.laws.Text.{both, same→eq}
 use Rattle.store.specs.Stack.{Tail, Cut}
 use Rattle.store.specs.laws.Tails.{dropped, size, top-size}
 use Rattle.parser.specs.declared.state.Parser.{Parser}
 use Rattle.parser.specs.declared.state.Read.{Read}
 use Rattle.parser.specs.declared.state.Read.the-variants.{Text as read, Refused}
 use Rattle.parser.specs.Holds.{Memory, mem, window, Holds, Stands, Refines, refuses, Reads, Puts, Cuts, keep}
-use Rattle.parser.specs.laws.Laws.{by, less, Got, got, refused-on, holds-puts, stands}
+use Rattle.parser.specs.laws.Holds.{by, less, Got, got, refused-on, holds-puts, stands}
 use Rattle.parser.specs.laws.Halves.{give-short, give-long}
 use Rattle.parser.specs.laws.Wraps.{holds-cuts, stands-puts}
 use Rattle.reader.specs.declared.lists.Kind.the-variants.{Parameters}

@@ -14,7 +14,7 @@ use Rattle.grammar.specs.Tables.{Row, _⇒_, Table, labels}
 use Rattle.grammar.specs.Reader.{State, Result, ok, refused, Reader, onto, go-to, give, start, find, by-code}
 use Rattle.grammar.specs.Grammar.{reading, ⟨encoding⟩, ⟨name⟩, ⟨type⟩, encoding, anew, function-or-data, production}
 use Rattle.grammar.specs.laws.Agree.{moved, coded, all-coded}
-use Rattle.grammar.specs.laws.Laws.{both}
+use Rattle.grammar.specs.laws.Text.{both}
 use Rattle.grammar.specs.laws.Fuel.{reading-is}
 use Rattle.grammar.specs.laws.Finds.{all-of, by-word}
 use Rattle.grammar.specs.laws.Steps.{heads, within, no-row-of}

@@ -14,7 +14,7 @@ use Rattle.parser.specs.declared.state.Read.{Read}
 use Rattle.parser.specs.declared.state.Read.the-variants.{Text as read, Refused}
 use Rattle.parser.specs.States.{cv-to}
 use Rattle.parser.specs.Holds.{Memory, mem, window, Holds, Stands, Refines, Reads, keep}
-use Rattle.parser.specs.laws.Laws.{by, by-state, less, Got, got, refused-on, holds-cv, with-cv}
+use Rattle.parser.specs.laws.Holds.{by, by-state, less, Got, got, refused-on, holds-cv, with-cv}
 use Rattle.reader.specs.laws.Opens.{wrote-fits}
 use Rattle.encoding.specs.Encodings.{qualified-by, Qualifies, GoesOn, with-parameters, with-returned}
 use Rattle.encoding.specs.laws.Functions.{goes-on-at}

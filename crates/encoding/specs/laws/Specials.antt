@@ -21,7 +21,7 @@ use Rattle.parser.specs.declared.state.Read.the-variants.{Text as read, Refused
 use Rattle.parser.specs.States.{raised-to, moved-to}
 use Rattle.grammar.specs.laws.Places.{rest-none}
 use Rattle.parser.specs.Holds.{Memory, mem, window, Holds, Reads, Puts, keep, given-of}
-use Rattle.parser.specs.laws.Laws.{by-state, holds-moved, holds-puts, Got, got}
+use Rattle.parser.specs.laws.Holds.{by-state, holds-moved, holds-puts, Got, got}
 use Rattle.parser.specs.laws.Adds.{puts-from}
 use Rattle.encoding.specs.Encodings.{Labels, Fresh, Encodes}
 use Rattle.encoding.specs.laws.Answers.{encodes-by, encodes-refines, encodes-refused, encodes-given}

@@ -8,7 +8,7 @@ use Rattle.grammar.specs.Tables as w
 use Rattle.grammar.specs.Reader as r
 use Rattle.grammar.specs.Grammar as g
 use Rattle.grammar.specs.Names as n
-use Rattle.grammar.specs.laws.Laws.{both, same→eq}
+use Rattle.grammar.specs.laws.Text.{both, same→eq}
 use Rattle.grammar.specs.Text.{b, same}
 use Rattle.grammar.specs.Tables.{Row, _⇒_}
 use Rattle.grammar.specs.Names.{Answer, named, refusal, demangle, most-symbol-bytes}

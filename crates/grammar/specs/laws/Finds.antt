@@ -14,7 +14,7 @@ use Rattle.grammar.specs.Text.{Text, b, if_then_else_, choose, same, sta
 use Rattle.grammar.specs.Tables.{Row, _⇒_, Table}
 use Rattle.grammar.specs.Reader.{find, word-for}
 use Rattle.grammar.specs.Words.{halves}
-use Rattle.grammar.specs.laws.Laws.{both, starts-nothing}
+use Rattle.grammar.specs.laws.Text.{both, starts-nothing}
 
 -- every code of the table has so many bytes
 unfoldable pub all-of : {A : Type 0} → ℕ → List (Row A) → Bool

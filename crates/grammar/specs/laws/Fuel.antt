@@ -10,7 +10,7 @@ use lib.ListN.{length, drop, length-drop}
 use lib.Dec.{T, leb, leb→le}
 use Prim.Native.String.{String}
 use Rattle.grammar.specs.Text.{Text, b, if_then_else_, choose, number}
-use Rattle.grammar.specs.laws.Laws.{both}
+use Rattle.grammar.specs.laws.Text.{both}
 use Rattle.grammar.specs.Tables.{letters, d-letters, operators, labels, abbreviations, wrappers}
 use Rattle.grammar.specs.Reader.{State, Result, ok, refused, Reader, onto, give, go-to, set-args, push-arg, one-more, start}
 use Rattle.grammar.specs.Grammar.{Production, ⟨encoding⟩, ⟨name⟩, ⟨nested-name⟩, ⟨unqualified-name⟩, ⟨source-name⟩, ⟨operator-name⟩, ⟨type⟩, ⟨template-param⟩, ⟨template-args⟩, ⟨template-arg⟩, ⟨expr-primary⟩, ⟨substitution⟩, Parts, skipped, open-after, unnamed-type-name, template-param, substitution, reading}

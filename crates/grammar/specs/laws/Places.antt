@@ -9,7 +9,7 @@ use lib.Dec.{eqb}
 use lib.ListN.{length, drop, getD, set, length-set, length-drop, drop-of-length-le}
 use lib.Seq.{drop-cons, drop-set-lt, getD-set-same}
 use Rattle.grammar.specs.Text.{Text, if_then_else_, starts, run, past}
-use Rattle.grammar.specs.laws.Laws.{starts-nothing}
+use Rattle.grammar.specs.laws.Text.{starts-nothing}
 
 module _ (s : Text) (i : ℕ) where
   pub rest-some : i < length s → drop i s ≡ getD s i 0 ∷ drop (i + 1) s

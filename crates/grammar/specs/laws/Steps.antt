@@ -15,7 +15,7 @@ use Rattle.grammar.specs.Reader.{State, Result, ok, refused, Reader, ont
 use Rattle.grammar.specs.Grammar.{⟨source-name⟩, ⟨template-param⟩, reading}
 use Rattle.grammar.specs.Grammar as g
 use Rattle.grammar.specs.laws.Agree.{moved, coded, all-coded}
-use Rattle.grammar.specs.laws.Laws.{both, neither}
+use Rattle.grammar.specs.laws.Text.{both, neither}
 use Rattle.grammar.specs.laws.Fuel.{reading-is}
 use Rattle.grammar.specs.laws.Finds.{all-of, by-word}
 

@@ -12,7 +12,7 @@ use borrow.Author.Tests.{le-leb, lt-leb, leb-true, leb-false}
 use lib.ListN.{length, take, drop, set, length-set, length-append, length-drop, drop-of-length-le}
 use lib.Seq.{paste, paste-zero, length-paste, take-paste, drop-paste, drop-drop, take-length, take-all, set-split, append-snoc}
 use Rattle.grammar.specs.Text.{Text, if_then_else_, decimal}
-use Rattle.grammar.specs.laws.Laws.{decimal-last, decimal-more}
+use Rattle.grammar.specs.laws.Text.{decimal-last, decimal-more}
 use Rattle.grammar.specs.laws.Places.{set-front}
 use Rattle.listing.specs.Listing.{head, line, line-feed}
 use Rattle.listing.specs.Printed.{Digits, Begun, Heads, if-fits, Printed}

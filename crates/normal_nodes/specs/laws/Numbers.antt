@@ -20,7 +20,7 @@ use Rattle.catalogue.specs.Recogniser.{with-code, all-kinds, Lead, lead-letter,
 use Rattle.catalogue.specs.laws.ReadsBack.{lead-letter-is, lead-wrap-is, kind-at}
 use Rattle.catalogue.specs.laws.Entries.{seek-none, at-has}
 use Rattle.normal_walk.specs.Walk.{distinct, add-all, add as add-tree}
-use Rattle.normal_nodes.specs.laws.Laws.{same-test, at-left, at-end, at-either, seek-law, node-eq, same-node-yes, same-node-eq, letter-below, wrap-below, kind-below, every-wrap, no-byte, stands-is}
+use Rattle.normal_nodes.specs.laws.Nodes.{same-test, at-left, at-end, at-either, seek-law, node-eq, same-node-yes, same-node-eq, letter-below, wrap-below, kind-below, every-wrap, no-byte, stands-is}
 use Rattle.normal_nodes.specs.Nodes.{Node, least-number, arg-node, signed-kind, same-node, node-place, number-of, with-new, with-node, tag-of, a-lit, a-bare, a-class, a-ref, a-qual, may-stand, table-place, add, note-add-all, firsts, note-last-is}
 
 -- ---------------------------------------------------------------- trees of numbers

@@ -17,7 +17,7 @@ use Rattle.normal_walk.specs.laws.Holds.{OfRd}
 use Rattle.normal_walk.specs.laws.Leaves.{Literal, lit-sound}
 use Rattle.normal_walk.specs.laws.Sizes.{name-length}
 use Rattle.normal_nodes.specs.Nodes.{node, Notes, Got, got, bad, notes, put, go-to, settled, signed-kind, with-node, number-of, at-reference}
-use Rattle.normal_nodes.specs.laws.Laws.{kind-below}
+use Rattle.normal_nodes.specs.laws.Nodes.{kind-below}
 use Rattle.normal_steps.specs.Parts.{part}
 use Rattle.normal_steps.specs.laws.Parts.{part-length}
 use Rattle.normal_steps.specs.Answers.{NameAt, NameIs, RefAt, RefIs, Value, LitIs}

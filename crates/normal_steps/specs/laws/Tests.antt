@@ -11,7 +11,7 @@ use lib.Dec.{eqb, ltb}
 use lib.ListN.{length, take, drop}
 use lib.Seq.{drop-drop}
 use Rattle.grammar.specs.Text.{Text, if_then_else_, b, same, starts, digit}
-use Rattle.grammar.specs.laws.Laws.{starts-nothing}
+use Rattle.grammar.specs.laws.Text.{starts-nothing}
 use Rattle.grammar.specs.laws.Places.{starts-byte}
 use Rattle.grammar.specs.laws.NameSteps.{starts-one}
 use Rattle.catalogue.specs.Bytes.{all, first, and-left, and-right, eqb-yes}

@@ -7,7 +7,7 @@ use borrow.Author.Tests.{le-ltb}
 use lib.ListN.{length, take, drop, set, length-append}
 use lib.Seq.{sets-eq, take-at, drop-at, drop-drop, length-take-le}
 use Rattle.grammar.specs.Text.{Text, if_then_else_, decimal}
-use Rattle.grammar.specs.laws.Laws.{decimal-last, decimal-more}
+use Rattle.grammar.specs.laws.Text.{decimal-last, decimal-more}
 use Rattle.catalogue.specs.Spelling.{digit-of, base36, ref-digits, ref-bytes}
 use Rattle.normal_walk.specs.laws.Digits.{base36-one}
 use Rattle.normal_steps.specs.Written.{Wrote}

@@ -9,7 +9,7 @@ use native.Mathlib.Omega.{arith}
 use lib.Dec.{eqb, leb, ltb}
 use borrow.Author.Tests.{ltb-true, ltb-false, leb-true, le-leb, lt-leb, lt-ltb, le-ltb, ne-eqb}
 use Rattle.grammar.specs.Text.{Text, if_then_else_, between, run, past, digit-value, digit, number, decimal}
-use Rattle.grammar.specs.laws.Laws.{decimal-last}
+use Rattle.grammar.specs.laws.Text.{decimal-last}
 use Rattle.grammar.specs.Grammar.{index}
 use Rattle.catalogue.specs.Bytes.{all, first, and-left, and-right}
 use Rattle.catalogue.specs.laws.Bytes.{or-cases, or-true, not-true, all-append}

@@ -13,7 +13,7 @@ use Rattle.parser.specs.declared.state.Parser.{Parser}
 use Rattle.parser.specs.declared.state.Read.{Read}
 use Rattle.parser.specs.States.{raised-to, moved-to}
 use Rattle.parser.specs.Holds.{Memory, mem, window, Holds, Ready, Reads, Refines, Stands, Puts}
-use Rattle.parser.specs.laws.Laws.{by-state, holds-text, holds-moved, sooner}
+use Rattle.parser.specs.laws.Holds.{by-state, holds-text, holds-moved, sooner}
 use Rattle.parser.specs.Adds.{Adds}
 
 pub adds-none : {text : Text} {p : Parser} → Stack text (p .top) → Adds text text p p []

@@ -8,7 +8,7 @@ use native.Mathlib.Omega.{arith}
 use lib.ListN.{length, take, drop, set, length-set, length-drop, drop-of-length-le}
 use lib.Seq.{take-all}
 use Rattle.grammar.specs.Text.{Text, decimal}
-use Rattle.grammar.specs.laws.Laws.{decimal-last, decimal-more}
+use Rattle.grammar.specs.laws.Text.{decimal-last, decimal-more}
 use Rattle.grammar.specs.laws.Places.{set-front}
 
 -- the last digits of the number i stand from `from` on, and those of `rest` are to be written before them

@@ -22,7 +22,7 @@ use Rattle.parser.specs.declared.state.Read.{Read}
 use Rattle.parser.specs.declared.state.Read.the-variants.{Text as read, Refused}
 use Rattle.parser.specs.States.{subs-to, args-to}
 use Rattle.parser.specs.Holds.{Memory, mem, window, part, Holds, Stands, Refines, refuses, Puts, Pushes, pushed, full, given-of, low-bytes, high-bytes, low-ends, high-ends}
-use Rattle.parser.specs.laws.Laws.{answers, given-refines, holds-puts}
+use Rattle.parser.specs.laws.Holds.{answers, given-refines, holds-puts}
 use Rattle.parser.specs.Halves.{with-subs, with-args, Grows}
 
 -- ---------------------------------------------------------------- sizes

@@ -12,7 +12,7 @@ use lib.ListN.{length, take, drop, getD, length-drop}
 use lib.Seq.{drop-drop, take-suc, getD-drop, append-snoc}
 use Rattle.grammar.specs.Text.{Text, b, if_then_else_, choose, starts, holds, run, after-last, digit}
 use Rattle.grammar.specs.Grammar.{last, class-of, skipped, open-after, structor-ahead, std-ahead}
-use Rattle.grammar.specs.laws.Laws.{starts-nothing}
+use Rattle.grammar.specs.laws.Text.{starts-nothing}
 use Rattle.grammar.specs.laws.Places.{rest-some, rest-none}
 use Rattle.grammar.specs.laws.Runs.{run-more}
 use Rattle.parser.specs.Leaves.{qualifies, unargued, class-in, Classed, behind-colons, Sought}

@@ -13,7 +13,7 @@ use Rattle.grammar.specs.Text.{Text, b, if_then_else_, choose, same, starts}
 use Rattle.grammar.specs.Tables.{suffixes}
 use Rattle.grammar.specs.Reader.{State, word-for}
 use Rattle.grammar.specs.Grammar.{literal}
-use Rattle.grammar.specs.laws.Laws.{same→eq}
+use Rattle.grammar.specs.laws.Text.{same→eq}
 use Rattle.store.specs.Stack.{Tail, Cut, newest}
 use Rattle.store.specs.laws.Tails.{newest-is, top-size, dropped, replaced}
 use Rattle.store.specs.laws.Lists.{drop-take}
@@ -21,7 +21,7 @@ use Rattle.parser.specs.declared.state.Parser.{Parser}
 use Rattle.parser.specs.declared.literal.Kind.{Kind}
 use Rattle.parser.specs.declared.literal.Kind.the-variants.{Truth, Suffix, Cast}
 use Rattle.parser.specs.Holds.{mem, part, Stands, Puts, Cuts}
-use Rattle.parser.specs.laws.Laws.{by-state, holds-text, holds-puts}
+use Rattle.parser.specs.laws.Holds.{by-state, holds-text, holds-puts}
 use Rattle.grammar.specs.laws.Places.{rest-some}
 use Rattle.parser.specs.laws.Wraps.{stands-puts}
 use Rattle.parser.specs.Literals.{kind-of, signed, truth-of}

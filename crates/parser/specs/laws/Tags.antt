@@ -16,7 +16,7 @@ use Rattle.parser.specs.declared.state.Read.{Read}
 use Rattle.parser.specs.declared.state.Read.the-variants.{Refused}
 use Rattle.parser.specs.States.{moved-to}
 use Rattle.parser.specs.Holds.{Memory, mem, part, Reads, refuses, Puts, given-of}
-use Rattle.parser.specs.laws.Laws.{by, holds-moved, given-refines}
+use Rattle.parser.specs.laws.Holds.{by, holds-moved, given-refines}
 use Rattle.parser.specs.laws.Halves.{part-size}
 use Rattle.parser.specs.Adds.{Adds}
 use Rattle.parser.specs.laws.Adds.{adds-none, adds-more, adds-adds, adds-moved, puts-from, stands-adds}

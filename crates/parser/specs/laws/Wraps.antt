@@ -13,7 +13,7 @@ use Rattle.grammar.specs.Text.{Text, b, if_then_else_, choose, same, holds}
 use Rattle.grammar.specs.Tables.{_⇒_, Table}
 use Rattle.grammar.specs.Reader.{State, Reader, word-for}
 use Rattle.grammar.specs.Grammar.{at-slots}
-use Rattle.grammar.specs.laws.Laws.{both}
+use Rattle.grammar.specs.laws.Text.{both}
 use Rattle.grammar.specs.Words.{spelled, word-of, Picks, Picked-inside, Inside}
 use Rattle.grammar.specs.declared.codes.Word.{Word}
 use Rattle.grammar.specs.declared.codes.Picked.{Picked}
@@ -25,7 +25,7 @@ use Rattle.store.specs.laws.Tails.{size, top-size, newest-is, replaced, weaken}
 use Rattle.parser.specs.declared.state.Parser.{Parser}
 use Rattle.parser.specs.declared.state.Read.{Read}
 use Rattle.parser.specs.Holds.{Memory, mem, Holds, Stands, Reads, Puts, Cuts}
-use Rattle.parser.specs.laws.Laws.{by-state, holds-text, holds-puts, tail-puts}
+use Rattle.parser.specs.laws.Holds.{by-state, holds-text, holds-puts, tail-puts}
 use Rattle.parser.specs.laws.Halves.{newest-part}
 
 -- ---------------------------------------------------------------- states

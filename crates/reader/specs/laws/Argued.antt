@@ -11,7 +11,7 @@ use Rattle.grammar.specs.Reader.{State, Result, ok, refused, Reader, onto, unfi
 use Rattle.grammar.specs.Grammar.{reading, ⟨template-args⟩, last, onto-last}
 use Rattle.grammar.specs.Grammar as g
 use Rattle.parser.specs.Holds.{Memory, mem, Wrote, Pushes, pushed, keep}
-use Rattle.parser.specs.laws.Laws.{with-templated, holds-templated}
+use Rattle.parser.specs.laws.Holds.{with-templated, holds-templated}
 use Rattle.parser.specs.Halves.{with-args}
 use Rattle.parser.specs.States.{subs-to, args-to, templated-to}
 use Rattle.parser.specs.declared.state.Parser.{Parser}

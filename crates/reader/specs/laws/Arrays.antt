@@ -18,7 +18,7 @@ use Rattle.parser.specs.declared.state.Peeked.the-variants as peeked-as
 use Rattle.parser.specs.declared.state.Read.{Read}
 use Rattle.parser.specs.States.{peeked}
 use Rattle.parser.specs.Holds.{Memory, mem, part, Holds, Stands, Refines, Puts, given-of}
-use Rattle.parser.specs.laws.Laws.{given-refines}
+use Rattle.parser.specs.laws.Holds.{given-refines}
 use Rattle.parser.specs.laws.Literals.{stands-size, length-part}
 use Rattle.parser.specs.laws.Wraps.{stands-puts}
 use Rattle.grammar.specs.laws.Runs.{every-at, need-here, need-not, starts-one, starts-none, run-stops}

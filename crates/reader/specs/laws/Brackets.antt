@@ -17,7 +17,7 @@ use Rattle.grammar.specs.laws.Steps.{at-level}
 use Rattle.store.specs.Stack.{Tail}
 use Rattle.store.specs.laws.Tails.{whole, both, weaken, put-tail, size, top-size}
 use Rattle.parser.specs.Holds.{Memory, mem, Holds, Stands, Puts, keep}
-use Rattle.parser.specs.laws.Laws.{holds-depth, holds-moved}
+use Rattle.parser.specs.laws.Holds.{holds-depth, holds-moved}
 use Rattle.parser.specs.States.{moved-to, deeper, at-depth}
 use Rattle.parser.specs.declared.state.Parser.{Parser}
 use Rattle.reader.specs.laws.Standing.{stands-least}

@@ -19,7 +19,7 @@ use Rattle.grammar.specs.laws.Loops.{closed, up-to-E-is}
 use Rattle.grammar.specs.laws.Steps.{at-level, entered-in, entered-8, need-yes, need-no, from-text, same-from}
 use Rattle.grammar.specs.laws.NameSteps.{starts-one, arg-L, arg-X, arg-J, arg-type}
 use Rattle.parser.specs.Holds.{Memory, Holds, Stands, Refines, refuses}
-use Rattle.parser.specs.laws.Laws.{by-state, holds-entered, holds-moved}
+use Rattle.parser.specs.laws.Holds.{by-state, holds-entered, holds-moved}
 use Rattle.parser.specs.Leaves.{left-at, Skips, Skipped-inside}
 use Rattle.parser.specs.States.{moved-to, deeper}
 use Rattle.parser.specs.declared.leaf.Skipped.{Skipped}

@@ -10,12 +10,12 @@ use Rattle.grammar.specs.Text.{Text, b, if_then_else_, same, join}
 use Rattle.grammar.specs.Reader.{State, ok, Reader, onto, recorded, up-to-E, one-more}
 use Rattle.grammar.specs.Grammar.{reading, ⟨type⟩, slot, only-void}
 use Rattle.grammar.specs.Grammar as g
-use Rattle.grammar.specs.laws.Laws.{same→eq}
+use Rattle.grammar.specs.laws.Text.{same→eq}
 use Rattle.grammar.specs.laws.Loops.{closed}
 use Rattle.store.specs.Stack.{Tail, Cut, newest}
 use Rattle.store.specs.laws.Tails.{size, dropped}
 use Rattle.parser.specs.Holds.{Memory, mem, window, Wrote, Stands, Refines, Puts, Cuts, keep}
-use Rattle.parser.specs.laws.Laws.{stands}
+use Rattle.parser.specs.laws.Holds.{stands}
 use Rattle.parser.specs.laws.Wraps.{holds-cuts, end-text}
 use Rattle.parser.specs.declared.state.Parser.{Parser}
 use Rattle.parser.specs.declared.state.Read.{Read}

@@ -11,7 +11,7 @@ use Rattle.grammar.specs.Grammar.{reading, ⟨template-args⟩, name-args, name
 use Rattle.parser.specs.declared.state.Parser.{Parser}
 use Rattle.parser.specs.States.{args-to, templated-to}
 use Rattle.parser.specs.Holds.{Memory, Holds, Stands}
-use Rattle.parser.specs.laws.Laws.{by-state, holds-templated}
+use Rattle.parser.specs.laws.Holds.{by-state, holds-templated}
 use Rattle.reader.specs.Instances.{instance-of, at-S-of, bare, marked, Carries}
 use Rattle.reader.specs.laws.Opens.{at-S, s-name-is, s-type-is}
 use Rattle.reader.specs.laws.Standing.{stands-kept}

@@ -14,7 +14,7 @@ use Rattle.grammar.specs.Loops.{before-E}
 use Rattle.grammar.specs.laws.Loops.{Stepped, items-loop, args-loop}
 use Rattle.store.specs.Stack.{Stack}
 use Rattle.parser.specs.Holds.{Memory, mem, Holds, Wrote, Stands, Reads, Refines, reads, refuses, Puts, Pushes, pushed, full, window, keep}
-use Rattle.parser.specs.laws.Laws.{by, holds-puts, refused-on, Got, got}
+use Rattle.parser.specs.laws.Holds.{by, holds-puts, refused-on, Got, got}
 use Rattle.parser.specs.States.{peeked, args-to}
 use Rattle.parser.specs.declared.state.Parser.{Parser}
 use Rattle.parser.specs.declared.state.Peeked.the-variants as peeked-as

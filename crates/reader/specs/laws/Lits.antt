@@ -19,7 +19,7 @@ use Rattle.parser.specs.declared.state.Read.{Read}
 use Rattle.parser.specs.declared.state.Read.the-variants.{Text as read, Refused}
 use Rattle.parser.specs.States.{moved-to}
 use Rattle.parser.specs.Holds.{Memory, mem, window, part, Holds, Stands, Refines, refuses, Reads, Puts, keep, given-of}
-use Rattle.parser.specs.laws.Laws.{by, by-state, answers, Got, got, refused-on, less, sooner, given-refines, holds-moved, holds-puts, stands}
+use Rattle.parser.specs.laws.Holds.{by, by-state, answers, Got, got, refused-on, less, sooner, given-refines, holds-moved, holds-puts, stands}
 use Rattle.parser.specs.laws.Adds.{puts-from}
 use Rattle.parser.specs.laws.Wraps.{stands-puts}
 use Rattle.parser.specs.laws.Halves.{newest-part}

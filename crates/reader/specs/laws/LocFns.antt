@@ -15,7 +15,7 @@ use Rattle.parser.specs.declared.state.Read.{Read}
 use Rattle.parser.specs.declared.state.Read.the-variants.{Text as read, Refused}
 use Rattle.parser.specs.States.{moved-to}
 use Rattle.parser.specs.Holds.{Memory, mem, window, Holds, Stands, Refines, refuses, Reads, Puts, keep, given-of}
-use Rattle.parser.specs.laws.Laws.{by, answers, Got, got, refused-on, less, sooner, given-refines, holds-puts, stands, short-enough}
+use Rattle.parser.specs.laws.Holds.{by, answers, Got, got, refused-on, less, sooner, given-refines, holds-puts, stands, short-enough}
 use Rattle.parser.specs.laws.Adds.{puts-from}
 use Rattle.parser.specs.laws.Wraps.{stands-puts}
 use Rattle.parser.specs.laws.Halves.{give-short, give-long}

@@ -18,7 +18,7 @@ use Rattle.grammar.specs.laws.Places.{starts-byte}
 use Rattle.grammar.specs.laws.Loops.{closed, parts-loop, up-to-E-is}
 use Rattle.parser.specs.Holds.{Memory, part, Holds, Stands, Refines, refuses, window, keep, given-of}
 use Rattle.parser.specs.laws.Halves.{give-long}
-use Rattle.parser.specs.laws.Laws.{by, with-cv, with-templated, holds-moved, holds-cv, holds-templated, given-refines, sooner}
+use Rattle.parser.specs.laws.Holds.{by, with-cv, with-templated, holds-moved, holds-cv, holds-templated, given-refines, sooner}
 use Rattle.parser.specs.Leaves.{qualifies}
 use Rattle.grammar.specs.laws.Runs.{every-at, need-here, need-not}
 use Rattle.parser.specs.States.{peeked, moved-to, cv-to, templated-to}

@@ -21,7 +21,7 @@ use Rattle.parser.specs.declared.state.Read.the-variants.{Text as read, Refused
 use Rattle.parser.specs.States.{moved-to, deeper, at-depth}
 use Rattle.parser.specs.Holds.{Memory, window, Holds, Ready, Wrote, Refines, refuses, Reads, keep}
 use Rattle.reader.specs.laws.Standing.{wrote-kept}
-use Rattle.parser.specs.laws.Laws.{at-level, by-state, holds-moved, holds-entered, holds-depth, by, answers, Got, got, refused-on}
+use Rattle.parser.specs.laws.Holds.{at-level, by-state, holds-moved, holds-entered, holds-depth, by, answers, Got, got, refused-on}
 
 pub at-of : {p q : Parser} → q ≡ p → q .at ≡ p .at
 at-of e = ap (λ (x : Parser). x .at) e

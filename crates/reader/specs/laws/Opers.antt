@@ -13,7 +13,7 @@ use Rattle.grammar.specs.Tables.{Row, _⇒_, operators}
 use Rattle.grammar.specs.Reader.{State, refused, Reader, onto, give, unfit, go-to, set-templated, find, word-for, by-code}
 use Rattle.grammar.specs.Grammar.{reading, production, operator-name, unnamed-type-name, ⟨operator-name⟩, ⟨type⟩, ⟨unqualified-name⟩, ⟨source-name⟩}
 use Rattle.grammar.specs.laws.Agree.{moved}
-use Rattle.grammar.specs.laws.Laws.{both, starts-nothing}
+use Rattle.grammar.specs.laws.Text.{both, starts-nothing}
 use Rattle.grammar.specs.laws.Fuel.{reading-is}
 use Rattle.grammar.specs.laws.Finds.{all-of, by-word}
 use Rattle.grammar.specs.laws.Steps.{by-code-none}
@@ -29,7 +29,7 @@ use Rattle.parser.specs.declared.state.Peeked.{Peeked}
 use Rattle.parser.specs.declared.state.Peeked.the-variants as peeked-as
 use Rattle.parser.specs.States.{moved-to, templated-to, peeked}
 use Rattle.parser.specs.Holds.{Memory, mem, window, Holds, Refines, refuses, Reads, Puts, keep, given-of}
-use Rattle.parser.specs.laws.Laws.{by, by-state, got, refused-on, less, sooner, holds-moved}
+use Rattle.parser.specs.laws.Holds.{by, by-state, got, refused-on, less, sooner, holds-moved}
 use Rattle.parser.specs.laws.Adds.{puts-from, reads-moved}
 use Rattle.grammar.specs.laws.Runs.{case-here, case-not, past-is, past-stops}
 use Rattle.grammar.specs.laws.Places.{rest-some, rest-none}

@@ -22,7 +22,7 @@ use Rattle.store.specs.Stack.{Tail}
 use Rattle.store.specs.laws.Tails.{whole, both}
 use Rattle.parser.specs.Holds.{Memory, mem, Holds, Reads, Refines, reads, refuses, Puts, window, keep, given-of}
 use Rattle.parser.specs.laws.Halves.{give-short, give-long}
-use Rattle.parser.specs.laws.Laws.{by, holds-moved, holds-puts, tail-puts, got}
+use Rattle.parser.specs.laws.Holds.{by, holds-moved, holds-puts, tail-puts, got}
 use Rattle.parser.specs.States.{peeked, moved-to}
 use Rattle.parser.specs.declared.state.Parser.{Parser}
 use Rattle.parser.specs.declared.state.Peeked.the-variants as peeked-as

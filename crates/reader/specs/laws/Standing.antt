@@ -12,7 +12,7 @@ use Rattle.grammar.specs.laws.Agree.{moved}
 use Rattle.store.specs.Stack.{Stack, Tail}
 use Rattle.store.specs.laws.Tails.{whole, both, weaken, size, top-size}
 use Rattle.parser.specs.Holds.{Memory, mem, window, Holds, Wrote, Stands, Refines, Puts, keep, given-of}
-use Rattle.parser.specs.laws.Laws.{by-state, with-templated, holds-moved, holds-templated, holds-puts, given-refines}
+use Rattle.parser.specs.laws.Holds.{by-state, with-templated, holds-moved, holds-templated, holds-puts, given-refines}
 use Rattle.parser.specs.laws.Adds.{puts-from}
 use Rattle.parser.specs.laws.Wraps.{stands-puts}
 use Rattle.parser.specs.laws.Halves.{store-size, ends-size}

@@ -21,7 +21,7 @@ use Rattle.parser.specs.declared.state.Parser.{Parser}
 use Rattle.parser.specs.declared.leaf.Class.{Class}
 use Rattle.parser.specs.Holds.{Memory, mem, Holds, Stands, Puts, keep}
 use Rattle.parser.specs.States.{moved-to}
-use Rattle.parser.specs.laws.Laws.{holds-moved}
+use Rattle.parser.specs.laws.Holds.{holds-moved}
 use Rattle.parser.specs.Leaves.{Classed, class-in}
 use Rattle.parser.specs.laws.Leaves.{class-of-is}
 use Rattle.parser.specs.laws.Wraps.{stands-puts, end-text}

@@ -2,7 +2,7 @@
 use mathlib.Core.Path.{subst}
 use native.Mathlib.Omega.{arith}
 use Rattle.grammar.specs.Text.{b}
-use Rattle.parser.specs.laws.Laws.{holds-puts}
+use Rattle.parser.specs.laws.Holds.{holds-puts}
 use Rattle.encoding.specs.Encodings.{LoneVoid}
 use Rattle.encoding.specs.laws.Functions.{list, list-least, void-room, items-refused, void-given, list-long, list-given}
 use borrow.Author.Needs.{needs}

@@ -5,7 +5,7 @@ use Prim.Native.Nat.{_≤_, _-_}
 use native.Mathlib.Omega.{arith}
 use lib.ListN.{length, drop}
 use Rattle.grammar.specs.Text.{starts}
-use Rattle.grammar.specs.laws.Laws.{starts-nothing}
+use Rattle.grammar.specs.laws.Text.{starts-nothing}
 use Rattle.grammar.specs.laws.Places.{rest-none}
 use Rattle.grammar.proofs.Texts.{starts-short, starts-other, starts-more}
 use Rattle.grammar.proofs.text.starts_with.Statement.{statement}

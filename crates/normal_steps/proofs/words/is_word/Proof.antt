@@ -4,7 +4,7 @@ use Prim.Native.Nat.{ℕ}
 use lib.ListN.{take, drop, length-drop}
 use Rattle.grammar.specs.Text.{same}
 use Rattle.normal_steps.specs.laws.Parts.{part-length}
-use Rattle.grammar.specs.laws.Laws.{same-not}
+use Rattle.grammar.specs.laws.Text.{same-not}
 use Rattle.normal_steps.specs.laws.Tests.{starts-same}
 use borrow.Author.Needs.{needs}
 use native.Mathlib.Omega.{arith}

@@ -5,7 +5,7 @@ use lib.ListN.{take, drop}
 use Rattle.grammar.specs.Text.{same}
 use Rattle.normal_steps.specs.Parts.{part}
 use Rattle.normal_steps.specs.laws.Parts.{part-length}
-use Rattle.grammar.specs.laws.Laws.{same-not}
+use Rattle.grammar.specs.laws.Text.{same-not}
 use borrow.Author.Needs.{needs}
 use native.Mathlib.Omega.{arith}
 use Rattle.normal_steps.proofs.words.same_word.Statement.{statement}

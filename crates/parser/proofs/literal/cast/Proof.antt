@@ -6,7 +6,7 @@ use Prim.Native.Nat.{_-_}
 use Rattle.grammar.specs.Text.{b}
 use lib.ListN.{length, length-append}
 use Rattle.parser.specs.Holds.{part}
-use Rattle.parser.specs.laws.Laws.{less, given-refines}
+use Rattle.parser.specs.laws.Holds.{less, given-refines}
 use Rattle.parser.specs.laws.Adds.{stands-more}
 use Rattle.parser.specs.Literals.{signed}
 use Rattle.parser.specs.laws.Literals.{length-signed, length-part, stands-size}

@@ -6,7 +6,7 @@ use Rattle.grammar.specs.Text.{Text}
 use Rattle.grammar.specs.Reader.{give}
 use Rattle.store.specs.Stack.{newest}
 use Rattle.parser.specs.declared.literal.Kind.the-variants.{Truth, Cast}
-use Rattle.parser.specs.laws.Laws.{by}
+use Rattle.parser.specs.laws.Holds.{by}
 use Rattle.parser.specs.Literals.{kind-of}
 use Rattle.parser.specs.laws.Literals.{kind-said, stands-newest}
 use borrow.Author.Needs.{needs}

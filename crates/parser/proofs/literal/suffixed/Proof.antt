@@ -4,7 +4,7 @@ use native.Mathlib.Omega.{arith}
 use lib.ListN.{length-append}
 use Rattle.grammar.specs.Text.{b}
 use Rattle.parser.specs.Holds.{part}
-use Rattle.parser.specs.laws.Laws.{given-refines}
+use Rattle.parser.specs.laws.Holds.{given-refines}
 use Rattle.parser.specs.laws.Wraps.{stands-puts}
 use Rattle.parser.specs.laws.Adds.{stands-more}
 use Rattle.parser.specs.laws.Literals.{length-signed, length-part, stands-bare, stands-size}

@@ -2,7 +2,7 @@
 use mathlib.Core.Path.{refl, sym, _∙_}
 use Rattle.grammar.specs.Text.{if_then_else_, b}
 use Rattle.parser.specs.Holds.{given-of}
-use Rattle.parser.specs.laws.Laws.{by, given-refines}
+use Rattle.parser.specs.laws.Holds.{by, given-refines}
 use Rattle.parser.specs.laws.Wraps.{stands-puts}
 use Rattle.parser.specs.Literals.{truth-of}
 use Rattle.parser.specs.laws.Literals.{stands-bare, stands-size}

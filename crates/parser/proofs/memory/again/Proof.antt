@@ -1,6 +1,6 @@
 -- `parser::memory::again` puts bytes of the stack on it once more, by `stack::again`. Assumes nothing.
 use borrow.Author.Needs.{needs}
-use Rattle.parser.specs.laws.Laws.{puts-by}
+use Rattle.parser.specs.laws.Holds.{puts-by}
 use Rattle.parser.proofs.memory.again.Statement.{statement}
 use Rattle.parser.proofs.memory.again.Tie as tie
 

@@ -1,6 +1,6 @@
 -- `parser::memory::clear_args`: a table of no texts may hold anything. Assumes nothing.
 use borrow.Author.Needs.{needs}
-use Rattle.parser.specs.laws.Laws.{by-state}
+use Rattle.parser.specs.laws.Holds.{by-state}
 use Rattle.parser.specs.laws.Halves.{holds-no-args}
 use Rattle.parser.proofs.memory.clear_args.Statement.{statement}
 use Rattle.parser.proofs.memory.clear_args.Tie as tie

@@ -1,6 +1,6 @@
 -- `parser::memory::cut` removes bytes of the stack, by `stack::cut`. Assumes nothing.
 use borrow.Author.Needs.{needs}
-use Rattle.parser.specs.laws.Laws.{cuts-by}
+use Rattle.parser.specs.laws.Holds.{cuts-by}
 use Rattle.parser.proofs.memory.cut.Statement.{statement}
 use Rattle.parser.proofs.memory.cut.Tie as tie
 

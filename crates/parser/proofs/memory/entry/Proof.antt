@@ -6,7 +6,7 @@ use Rattle.grammar.specs.Text.{Text}
 use Rattle.grammar.specs.Reader.{give}
 use Rattle.store.specs.laws.Entries.{entries-sized}
 use Rattle.parser.specs.Holds.{refuses}
-use Rattle.parser.specs.laws.Laws.{by}
+use Rattle.parser.specs.laws.Holds.{by}
 use Rattle.parser.specs.laws.Halves.{give-long, part-size, wrote-one}
 use Rattle.parser.proofs.memory.entry.Statement.{statement}
 use Rattle.parser.proofs.memory.entry.Tie as tie

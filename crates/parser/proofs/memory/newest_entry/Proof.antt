@@ -5,7 +5,7 @@ use native.Mathlib.Omega.{arith}
 use borrow.Author.Needs.{needs}
 use lib.ListN.{take, drop}
 use Rattle.grammar.specs.Text.{same}
-use Rattle.grammar.specs.laws.Laws.{same-not}
+use Rattle.grammar.specs.laws.Text.{same-not}
 use Rattle.store.specs.laws.Entries.{entries-sized}
 use Rattle.parser.specs.Holds.{low-bytes, low-ends}
 use Rattle.parser.specs.laws.Halves.{newest-part, last-none, last-chosen}

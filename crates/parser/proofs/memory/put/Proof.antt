@@ -1,6 +1,6 @@
 -- `parser::memory::put` puts a word on the stack, by `stack::put`. Assumes nothing.
 use borrow.Author.Needs.{needs}
-use Rattle.parser.specs.laws.Laws.{puts-by}
+use Rattle.parser.specs.laws.Holds.{puts-by}
 use Rattle.parser.proofs.memory.put.Statement.{statement}
 use Rattle.parser.proofs.memory.put.Tie as tie
 

@@ -1,6 +1,6 @@
 -- `parser::memory::put_part` puts a part of a slice on the stack, by `stack::put_part`. Assumes nothing.
 use borrow.Author.Needs.{needs}
-use Rattle.parser.specs.laws.Laws.{puts-by}
+use Rattle.parser.specs.laws.Holds.{puts-by}
 use Rattle.parser.proofs.memory.put_part.Statement.{statement}
 use Rattle.parser.proofs.memory.put_part.Tie as tie
 

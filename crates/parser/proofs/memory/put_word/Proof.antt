@@ -2,7 +2,7 @@
 use borrow.Author.Needs.{needs}
 use Rattle.grammar.proofs.Lookups.{length-spelled}
 use Rattle.store.proofs.Stacks.{written-put}
-use Rattle.parser.specs.laws.Laws.{puts-by}
+use Rattle.parser.specs.laws.Holds.{puts-by}
 use Rattle.parser.proofs.memory.put_word.Statement.{statement}
 use Rattle.parser.proofs.memory.put_word.Tie as tie
 

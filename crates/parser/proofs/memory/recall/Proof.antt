@@ -5,7 +5,7 @@ use borrow.Author.Needs.{needs}
 use Rattle.grammar.specs.Reader.{refuse}
 use Rattle.store.specs.laws.Entries.{entries-sized}
 use Rattle.parser.specs.Holds.{refuses, low-bytes, low-ends}
-use Rattle.parser.specs.laws.Laws.{by}
+use Rattle.parser.specs.laws.Holds.{by}
 use Rattle.parser.specs.laws.Halves.{none-given, some-given}
 use Rattle.parser.proofs.memory.recall.Statement.{statement}
 use Rattle.parser.proofs.memory.recall.Tie as tie

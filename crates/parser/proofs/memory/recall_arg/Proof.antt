@@ -1,7 +1,7 @@
 -- `parser::memory::recall_arg` puts template argument k on the stack, from the second halves. Assumes nothing.
 use native.Mathlib.Omega.{arith}
 use borrow.Author.Needs.{needs}
-use Rattle.parser.specs.laws.Laws.{by}
+use Rattle.parser.specs.laws.Holds.{by}
 use Rattle.parser.specs.laws.Halves.{store-size, ends-size, args-lent, some-given}
 use Rattle.parser.proofs.memory.recall_arg.Statement.{statement}
 use Rattle.parser.proofs.memory.recall_arg.Tie as tie

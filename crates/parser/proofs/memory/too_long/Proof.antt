@@ -2,7 +2,7 @@
 use native.Mathlib.Omega.{arith}
 use borrow.Author.Needs.{needs}
 use Rattle.parser.specs.Holds.{refuses}
-use Rattle.parser.specs.laws.Laws.{by}
+use Rattle.parser.specs.laws.Holds.{by}
 use Rattle.parser.specs.laws.Halves.{fits-more, fits-not, recorded-no, recorded-long}
 use Rattle.parser.proofs.memory.too_long.Statement.{statement}
 use Rattle.parser.proofs.memory.too_long.Tie as tie

@@ -9,7 +9,7 @@ use Rattle.grammar.specs.Text.{Text, b}
 use Rattle.store.specs.Stack.{Stack}
 use Rattle.parser.specs.declared.state.Parser.{Parser}
 use Rattle.parser.specs.Holds.{Puts}
-use Rattle.parser.specs.laws.Laws.{holds-puts}
+use Rattle.parser.specs.laws.Holds.{holds-puts}
 use Rattle.parser.specs.laws.Wraps.{holds-cuts, puts-top, stands-turned}
 use borrow.Author.Needs.{needs}
 use Rattle.parser.proofs.memory.turned.Statement.{statement}

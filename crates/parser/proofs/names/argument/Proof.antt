@@ -1,6 +1,6 @@
 -- `parser::names::argument` puts a template argument on the stack, or T and its number where there is none. Assumes nothing.
 use native.Mathlib.Omega.{arith}
-use Rattle.parser.specs.laws.Laws.{by}
+use Rattle.parser.specs.laws.Holds.{by}
 use Rattle.parser.specs.laws.Halves.{none-given}
 use borrow.Author.Needs.{needs}
 use Rattle.parser.proofs.names.argument.Statement.{statement}

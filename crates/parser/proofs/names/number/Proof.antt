@@ -8,7 +8,7 @@ use borrow.Author.Needs.{needs}
 use lib.ListN.{length, length-set, length-take, length-drop}
 use Rattle.grammar.specs.Text.{Text}
 use Rattle.grammar.specs.Reader.{give}
-use Rattle.parser.specs.laws.Laws.{by}
+use Rattle.parser.specs.laws.Holds.{by}
 use Rattle.parser.specs.laws.Halves.{wrote-one}
 use Rattle.parser.specs.laws.Decimals.{Written, written-start, written-more, written-text, written-size}
 use Rattle.parser.proofs.names.number.Statement.{statement}

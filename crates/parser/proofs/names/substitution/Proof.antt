@@ -4,7 +4,7 @@ use native.Mathlib.Omega.{arith}
 use borrow.Author.Tests.{not-true, not-false}
 use Rattle.grammar.specs.Words.{word-of, Picked-inside}
 use Rattle.parser.specs.Holds.{refuses}
-use Rattle.parser.specs.laws.Laws.{by}
+use Rattle.parser.specs.laws.Holds.{by}
 use Rattle.parser.specs.laws.Adds.{stack-by, reads-moved, ready-moved}
 use Rattle.parser.specs.laws.References.{sub-none, sub-end, sub-word, sub-entry}
 use borrow.Author.Needs.{needs}

@@ -3,7 +3,7 @@ use mathlib.Core.Path.{sym, _∙_}
 use native.Mathlib.Omega.{arith}
 use borrow.Author.Tests.{not-true, not-false}
 use Rattle.parser.specs.Holds.{refuses}
-use Rattle.parser.specs.laws.Laws.{by}
+use Rattle.parser.specs.laws.Holds.{by}
 use Rattle.grammar.specs.laws.Places.{starts-inside}
 use Rattle.parser.specs.laws.Adds.{reads-moved, ready-moved}
 use Rattle.parser.specs.laws.References.{param-past, param-given}

@@ -6,7 +6,7 @@ use lib.ListN.{drop}
 use Rattle.grammar.specs.Reader.{give}
 use Rattle.grammar.specs.laws.Agree.{moved}
 use Rattle.parser.specs.Holds.{refuses}
-use Rattle.parser.specs.laws.Laws.{by, holds-moved}
+use Rattle.parser.specs.laws.Holds.{by, holds-moved}
 use Rattle.parser.specs.laws.Halves.{wrote-one}
 use Rattle.parser.specs.laws.Adds.{stack-by, puts-from}
 use Rattle.parser.specs.Source.{behind-number}

@@ -14,7 +14,7 @@ use Rattle.grammar.specs.laws.Agree.{moved}
 use Rattle.grammar.specs.laws.Finds.{by-word, all-of}
 use Rattle.parser.specs.Holds.{refuses}
 use Rattle.grammar.specs.laws.Places.{rest-some, rest-none}
-use Rattle.parser.specs.laws.Laws.{by, sooner, holds-moved}
+use Rattle.parser.specs.laws.Holds.{by, sooner, holds-moved}
 use Rattle.parser.specs.laws.Wraps.{picked-at, picked-none, reads-at}
 use Rattle.parser.proofs.types.builtin_d.Statement.{statement}
 use Rattle.parser.proofs.types.builtin_d.Tie as tie

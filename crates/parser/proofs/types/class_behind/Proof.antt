@@ -5,7 +5,7 @@ use native.Mathlib.Omega.{arith}
 use borrow.Author.Needs.{needs}
 use lib.ListN.{length-append}
 use Rattle.grammar.specs.Text.{b}
-use Rattle.parser.specs.laws.Laws.{holds-puts}
+use Rattle.parser.specs.laws.Holds.{holds-puts}
 use Rattle.parser.specs.laws.Wraps.{puts-top, stands-puts}
 use Rattle.parser.proofs.types.class_behind.Statement.{statement}
 use Rattle.parser.proofs.types.class_behind.Tie as tie

@@ -10,7 +10,7 @@ use Rattle.grammar.specs.Words.{spelled}
 use Rattle.grammar.specs.declared.codes.Word.{Word}
 use Rattle.grammar.proofs.Lookups.{length-spelled}
 use Rattle.store.specs.Stack.{Put, slots-in, newest}
-use Rattle.parser.specs.laws.Laws.{puts-by}
+use Rattle.parser.specs.laws.Holds.{puts-by}
 use Rattle.parser.proofs.types.weave_word.Statement.{statement}
 use Rattle.parser.proofs.types.weave_word.Tie as tie
 

@@ -15,7 +15,7 @@ use Rattle.grammar.specs.laws.Finds.{by-pair, all-of}
 use Rattle.grammar.proofs.Lookups.{length-spelled}
 use Rattle.store.specs.Stack.{slots-in}
 use Rattle.store.specs.laws.Lists.{drop-take}
-use Rattle.parser.specs.laws.Laws.{by, holds-puts}
+use Rattle.parser.specs.laws.Holds.{by, holds-puts}
 use Rattle.parser.specs.laws.Halves.{newest-part}
 use Rattle.parser.specs.Wraps.{Wrapper}
 use Rattle.parser.specs.laws.Wraps.{picked-at, picked-none, some-is, some-not, puts-top, stands-puts, behind, inside}

@@ -14,7 +14,7 @@ use Rattle.store.specs.Stack.{Stack, slots-in, lent, newest, below-newest}
 use Rattle.store.specs.laws.Lists.{drop-take}
 use Rattle.parser.specs.declared.state.Parser.{Parser}
 use Rattle.parser.specs.Holds.{Memory, Stands, Puts}
-use Rattle.parser.specs.laws.Laws.{by, puts-by, holds-puts}
+use Rattle.parser.specs.laws.Holds.{by, puts-by, holds-puts}
 use Rattle.parser.specs.laws.Wraps.{holds-cuts, puts-top, newest-size, below-text, end-text, woven-size, stands-replaced, behind, inside}
 use Rattle.parser.proofs.types.wrap_member.Statement.{statement}
 use Rattle.parser.proofs.types.wrap_member.Tie as tie

@@ -11,7 +11,7 @@ use Rattle.grammar.specs.Text.{Text, b, same, join}
 use Rattle.grammar.specs.Reader.{State, recorded}
 use Rattle.grammar.specs.Grammar.{only-void}
 use Rattle.parser.specs.Holds.{mem, Stands, keep}
-use Rattle.parser.specs.laws.Laws.{by, less, holds-puts}
+use Rattle.parser.specs.laws.Holds.{by, less, holds-puts}
 use Rattle.parser.specs.laws.Wraps.{holds-cuts, puts-least, stands-puts}
 use Rattle.reader.specs.Funcs.{opening}
 use Rattle.reader.specs.laws.Funcs.{function-listed, function-bare, only-one, not-only, newest-four, stands-without}

@@ -5,7 +5,7 @@ use native.Mathlib.Omega.{arith}
 use borrow.Author.Needs.{needs}
 use lib.ListN.{length-take, length-drop}
 use Rattle.store.specs.Stack.{newest}
-use Rattle.grammar.specs.laws.Laws.{same-not}
+use Rattle.grammar.specs.laws.Text.{same-not}
 use Rattle.store.proofs.Loops.{same-newest}
 use Rattle.store.proofs.stack.same.Statement.{statement}
 use Rattle.store.proofs.stack.same.Tie as tie

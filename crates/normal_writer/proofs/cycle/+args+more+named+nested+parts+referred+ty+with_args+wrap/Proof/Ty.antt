@@ -2,7 +2,7 @@
 use Prim.Native.Nat.{ℕ}
 use native.Mathlib.Omega.{arith}
 use mathlib.Core.Path.{sym, _∙_}
-use Rattle.normal_nodes.specs.laws.Laws.{letter-below}
+use Rattle.normal_nodes.specs.laws.Nodes.{letter-below}
 use Rattle.normal_steps.specs.laws.Leads.{lead-is}
 use Rattle.normal_steps.specs.laws.Moves.{moved-ready, ready-out}
 use Rattle.normal_writer.specs.laws.Types.{type-end, type-by, letter-answer, literal-answer, none-answer}

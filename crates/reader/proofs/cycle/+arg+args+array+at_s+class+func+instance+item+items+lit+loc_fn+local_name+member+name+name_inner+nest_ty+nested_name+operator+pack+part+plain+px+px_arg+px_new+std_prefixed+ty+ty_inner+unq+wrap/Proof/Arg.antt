@@ -3,7 +3,7 @@ use mathlib.Core.Path.{refl, sym, ap, _∙_}
 use Prim.Native.Nat.{ℕ}
 use Rattle.parser.specs.declared.state.Parser.{Parser}
 use Rattle.parser.specs.Holds.{refuses, keep}
-use Rattle.parser.specs.laws.Laws.{by, less, sooner, holds-moved}
+use Rattle.parser.specs.laws.Holds.{by, less, sooner, holds-moved}
 use Rattle.parser.specs.laws.Adds.{ready-moved, puts-from, stack-by}
 use Rattle.parser.specs.laws.Halves.{wrote-one}
 use Rattle.grammar.specs.laws.Places.{starts-inside}

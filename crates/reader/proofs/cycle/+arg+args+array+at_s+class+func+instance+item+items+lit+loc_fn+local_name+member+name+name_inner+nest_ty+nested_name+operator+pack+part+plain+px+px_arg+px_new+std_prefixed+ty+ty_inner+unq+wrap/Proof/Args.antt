@@ -6,7 +6,7 @@ use Prim.Native.Nat.{ℕ, _+_, _<_, min}
 use borrow.Author.Tests.{not-true, not-false}
 use Rattle.parser.specs.declared.state.Parser.{Parser}
 use Rattle.parser.specs.Holds.{Memory, mem, keep, Holds, Stands, refuses}
-use Rattle.parser.specs.laws.Laws.{by, holds-puts}
+use Rattle.parser.specs.laws.Holds.{by, holds-puts}
 use Rattle.parser.specs.laws.Adds.{stack-by}
 use Rattle.parser.specs.laws.Wraps.{stands-puts}
 use mathlib.Core.List.{[], _∷_}

@@ -2,7 +2,7 @@
 use Prim.Native.Nat.{ℕ, _+_}
 use mathlib.Core.Path.{_∙_}
 use Rattle.parser.specs.Holds.{refuses, keep}
-use Rattle.parser.specs.laws.Laws.{by, got, refused-on}
+use Rattle.parser.specs.laws.Holds.{by, got, refused-on}
 use Rattle.parser.specs.laws.Adds.{ready-moved}
 use Rattle.reader.specs.laws.Opens.{at-of, on-got, call-moved}
 use Rattle.reader.specs.laws.Standing.{stands-at}

@@ -8,7 +8,7 @@ use Rattle.reader.specs.laws.Opens.{s-std, s-sub, s-sub-read}
 use Rattle.reader.specs.Instances.{instance-of, at-S-of}
 use Rattle.reader.specs.laws.Instances.{at-S-is}
 use Rattle.parser.specs.Holds.{reads}
-use Rattle.parser.specs.laws.Laws.{by, got, refused-on}
+use Rattle.parser.specs.laws.Holds.{by, got, refused-on}
 use Rattle.reader.proofs.cycle.+arg+args+array+at_s+class+func+instance+item+items+lit+loc_fn+local_name+member+name+name_inner+nest_ty+nested_name+operator+pack+part+plain+px+px_arg+px_new+std_prefixed+ty+ty_inner+unq+wrap.Proof.LawsJoin.{narrow, stood, stands-top, instance-at}
 use Prim.Native.Nat.{ℕ}
 use borrow.Author.Needs.{needs}

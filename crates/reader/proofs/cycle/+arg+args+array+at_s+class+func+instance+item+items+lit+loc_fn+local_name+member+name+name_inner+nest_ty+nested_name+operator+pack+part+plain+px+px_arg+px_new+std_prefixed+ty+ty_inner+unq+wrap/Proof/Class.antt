@@ -7,7 +7,7 @@ use Rattle.grammar.specs.Tables.{_⇒_}
 use Rattle.grammar.specs.Reader.{State, ok, onto, push-sub, give, at-code}
 use Rattle.grammar.specs.Grammar.{reading, ⟨source-name⟩, class-type, type-instance}
 use Rattle.grammar.specs.laws.Steps.{at-code-yes, at-code-no}
-use Rattle.parser.specs.laws.Laws.{by, got, answers, refused-on, short-enough}
+use Rattle.parser.specs.laws.Holds.{by, got, answers, refused-on, short-enough}
 use Rattle.parser.specs.laws.Halves.{give-short}
 use Rattle.reader.proofs.cycle.+arg+args+array+at_s+class+func+instance+item+items+lit+loc_fn+local_name+member+name+name_inner+nest_ty+nested_name+operator+pack+part+plain+px+px_arg+px_new+std_prefixed+ty+ty_inner+unq+wrap.Proof.LawsJoin.{kept, push-refused, answer-as, narrow, stood, stands-top, instance-at}
 use Prim.Native.Nat.{ℕ}

@@ -8,7 +8,7 @@ use native.Mathlib.Omega.{arith}
 use Rattle.grammar.specs.Reader.{recorded}
 use Rattle.parser.specs.declared.state.Parser.{Parser}
 use Rattle.parser.specs.Holds.{refuses}
-use Rattle.parser.specs.laws.Laws.{by, got, refused-on, holds-puts}
+use Rattle.parser.specs.laws.Holds.{by, got, refused-on, holds-puts}
 use Rattle.grammar.specs.laws.Places.{starts-inside}
 use Rattle.reader.specs.laws.Closes.{got-list, list-refused, refuses-list, closed-no, closed-yes, ahead-is, behind-is, then-refused, then-ok}
 use Rattle.reader.specs.laws.Standing.{stands-moved, stands-least}

@@ -6,7 +6,7 @@ use Prim.Native.Nat.{ℕ}
 use borrow.Author.Needs.{needs}
 use native.Mathlib.Omega.{arith}
 use Rattle.grammar.specs.Reader.{onto, recorded}
-use Rattle.parser.specs.laws.Laws.{by, got, refused-on, sooner}
+use Rattle.parser.specs.laws.Holds.{by, got, refused-on, sooner}
 use Rattle.reader.specs.Instances.{marked}
 use Rattle.reader.specs.laws.Instances.{instance-is, carried}
 use Rattle.reader.specs.laws.Standing.{joined, wrote-least}

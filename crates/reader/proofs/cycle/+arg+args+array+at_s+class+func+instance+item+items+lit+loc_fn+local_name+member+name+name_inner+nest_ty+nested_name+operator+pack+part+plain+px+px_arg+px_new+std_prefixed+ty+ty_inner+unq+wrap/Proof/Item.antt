@@ -7,7 +7,7 @@ use denote.Enum.Declared
 use types.Run
 use Rattle.reader.proofs.lists.Kind as kind-type
 use Rattle.parser.specs.laws.Halves.{newest-part}
-use Rattle.parser.specs.laws.Laws.{got, stands}
+use Rattle.parser.specs.laws.Holds.{got, stands}
 use Rattle.reader.specs.declared.lists.Kind.{Kind}
 use Rattle.reader.specs.declared.lists.Kind.the-variants.{Parameters, Types, Arguments}
 use Rattle.reader.specs.laws.Items.{by-kind, argument-refused, argument-pushed}

@@ -11,7 +11,7 @@ use Rattle.parser.specs.declared.state.Read.{Read}
 use Rattle.parser.specs.declared.state.Read.the-variants.{Text as read, Refused}
 use Rattle.parser.specs.States.{subs-to, args-to}
 use Rattle.parser.specs.Holds.{Memory, mem, Holds, Wrote, Stands, Refines, refuses, Pushes, pushed, full, keep}
-use Rattle.parser.specs.laws.Laws.{sooner, less, stands}
+use Rattle.parser.specs.laws.Holds.{sooner, less, stands}
 use Rattle.parser.specs.Halves.{with-args}
 use Rattle.parser.specs.laws.Halves.{newest-part}
 use Rattle.reader.specs.Cycle.{Instance}

@@ -4,7 +4,7 @@ use mathlib.Core.Path.{sym, ap, _∙_}
 use borrow.Author.Tests.{not-true, not-false}
 use Rattle.parser.specs.declared.state.Parser.{Parser}
 use Rattle.parser.specs.Holds.{refuses}
-use Rattle.parser.specs.laws.Laws.{by}
+use Rattle.parser.specs.laws.Holds.{by}
 use Rattle.grammar.specs.laws.Places.{starts-inside}
 use Rattle.reader.specs.laws.Lits.{lit-none, lit-name-ready, lit-name-refused, lit-name-E, lit-name-open, lit-type-ready, lit-type-refused, lit-type-got, lit-open, lit-ready, lit-given}
 use Prim.Native.Nat.{ℕ}

@@ -2,7 +2,7 @@
 use Prim.Native.Nat.{ℕ}
 use mathlib.Core.Path.{sym, _∙_}
 use Rattle.parser.specs.Holds.{keep}
-use Rattle.parser.specs.laws.Laws.{by, got, refused-on}
+use Rattle.parser.specs.laws.Holds.{by, got, refused-on}
 use Rattle.reader.specs.laws.Opens.{on-got, member-is}
 use Rattle.reader.specs.laws.Standing.{stands-both}
 use Rattle.parser.specs.laws.Halves.{newest-part}

@@ -4,7 +4,7 @@ use Rattle.grammar.specs.Grammar.{reading, ⟨nested-name⟩, name-inner, s-nam
 use Rattle.grammar.specs.laws.Steps.{from-text, same-from}
 use Rattle.grammar.specs.laws.NameSteps.{name-N, name-S, name-L, name-Z, name-other, name-end}
 use Rattle.parser.specs.Holds.{refuses, keep}
-use Rattle.parser.specs.laws.Laws.{by, less, sooner}
+use Rattle.parser.specs.laws.Holds.{by, less, sooner}
 use Rattle.parser.specs.laws.Adds.{ready-moved}
 use Rattle.reader.specs.laws.Opens.{at-of, call-moved}
 use Rattle.reader.specs.laws.Arrays.{byte-at, byte-is, byte-inside, no-byte, no-name-code}

@@ -6,7 +6,7 @@ use Rattle.grammar.specs.Text.{Text, same, choose, if_then_else_}
 use Rattle.grammar.specs.Reader.{State, ok, onto, recorded}
 use Rattle.grammar.specs.Grammar.{reading, ⟨nested-name⟩, nested-type, last}
 use Rattle.parser.specs.Holds.{reads}
-use Rattle.parser.specs.laws.Laws.{by, got, refused-on}
+use Rattle.parser.specs.laws.Holds.{by, got, refused-on}
 use Rattle.reader.proofs.cycle.+arg+args+array+at_s+class+func+instance+item+items+lit+loc_fn+local_name+member+name+name_inner+nest_ty+nested_name+operator+pack+part+plain+px+px_arg+px_new+std_prefixed+ty+ty_inner+unq+wrap.Proof.LawsJoin.{stood, stands-top}
 use Prim.Native.Nat.{ℕ}
 use borrow.Author.Needs.{needs}

@@ -14,7 +14,7 @@ use Rattle.parser.specs.declared.state.Parser.{Parser}
 use Rattle.parser.specs.Holds.{mem, part, Holds, refuses, given-of}
 use Rattle.parser.specs.States.{cv-to, templated-to}
 use Rattle.grammar.specs.laws.Places.{starts-inside}
-use Rattle.parser.specs.laws.Laws.{by-state, holds-moved, by}
+use Rattle.parser.specs.laws.Holds.{by-state, holds-moved, by}
 use Rattle.reader.specs.laws.Nested.{no-parts, prefixes, named, nested-4, nested-open, from-start, Prefixing, prefixing-start, prefixing-more, prefixed-more, ready-for, prefixed-4, prefixed-E, prefixed-refuses, further}
 use borrow.Author.Needs.{needs}
 use native.Mathlib.Omega.{arith}

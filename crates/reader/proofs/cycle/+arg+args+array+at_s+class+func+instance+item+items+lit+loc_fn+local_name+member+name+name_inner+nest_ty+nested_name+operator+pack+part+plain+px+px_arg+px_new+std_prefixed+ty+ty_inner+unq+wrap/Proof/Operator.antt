@@ -2,7 +2,7 @@
 -- Assumes nothing.
 use Rattle.grammar.specs.Text.{b}
 use Rattle.parser.specs.Holds.{refuses}
-use Rattle.parser.specs.laws.Laws.{by, got}
+use Rattle.parser.specs.laws.Holds.{by, got}
 use Rattle.parser.specs.laws.Adds.{stack-by, puts-at}
 use Rattle.parser.specs.laws.Wraps.{picked-at, picked-none}
 use Rattle.reader.specs.laws.Opers.{operator-short, operator-no-c, operator-no-v, oper-word, oper-holds, oper-refused, oper-typed}

@@ -5,7 +5,7 @@ use lib.ListN.{length, drop, getD, length-set}
 use Rattle.parser.specs.declared.state.Parser.{Parser}
 use Rattle.parser.specs.declared.state.Peeked.the-variants as peeked-as
 use Rattle.parser.specs.Holds.{mem, refuses}
-use Rattle.parser.specs.laws.Laws.{by, holds-puts}
+use Rattle.parser.specs.laws.Holds.{by, holds-puts}
 use Rattle.parser.specs.States.{peeked}
 use Rattle.reader.specs.laws.Packs.{Packing, packing, packing-start, packed-4, packed-opens, packed-closes, packed-more, packed-refuses, packed-ends, inside, inner-E, opens-J, outer-small, text-short, text-further}
 use borrow.Author.Needs.{needs}

@@ -4,7 +4,7 @@ use Prim.Native.Nat.{ℕ}
 use borrow.Author.Needs.{needs}
 use native.Mathlib.Omega.{arith}
 use Rattle.grammar.specs.Grammar.{Production, reading}
-use Rattle.parser.specs.laws.Laws.{by, less}
+use Rattle.parser.specs.laws.Holds.{by, less}
 use Rattle.reader.specs.laws.Joined.{part-T, part-other, part-digit}
 use Rattle.reader.proofs.cycle.part.Reads as part
 use Rattle.reader.proofs.cycle.+arg+args+array+at_s+class+func+instance+item+items+lit+loc_fn+local_name+member+name+name_inner+nest_ty+nested_name+operator+pack+part+plain+px+px_arg+px_new+std_prefixed+ty+ty_inner+unq+wrap.Lts-part as lts

@@ -9,7 +9,7 @@ use Rattle.grammar.specs.Grammar.{reading, ⟨unqualified-name⟩, unscoped-nam
 use Rattle.grammar.specs.laws.Steps.{at-code-yes, at-code-no}
 use borrow.Author.Tests.{not-true, not-false}
 use Rattle.parser.specs.Holds.{reads}
-use Rattle.parser.specs.laws.Laws.{by, got, refused-on}
+use Rattle.parser.specs.laws.Holds.{by, got, refused-on}
 use Rattle.reader.proofs.cycle.+arg+args+array+at_s+class+func+instance+item+items+lit+loc_fn+local_name+member+name+name_inner+nest_ty+nested_name+operator+pack+part+plain+px+px_arg+px_new+std_prefixed+ty+ty_inner+unq+wrap.Proof.LawsJoin.{kept, push-refused, stood, stands-top, instance-at}
 use Prim.Native.Nat.{ℕ}
 use borrow.Author.Needs.{needs}

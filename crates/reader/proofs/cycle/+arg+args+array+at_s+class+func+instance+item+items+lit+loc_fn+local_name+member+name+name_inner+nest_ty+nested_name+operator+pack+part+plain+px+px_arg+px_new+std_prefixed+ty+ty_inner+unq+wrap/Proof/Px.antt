@@ -6,7 +6,7 @@ use borrow.Author.Needs.{needs}
 use native.Mathlib.Omega.{arith}
 use Rattle.grammar.specs.Text.{Text}
 use Rattle.grammar.specs.Grammar.{structor-ahead}
-use Rattle.parser.specs.laws.Laws.{holds-puts, got}
+use Rattle.parser.specs.laws.Holds.{holds-puts, got}
 use Rattle.parser.specs.declared.state.Parser.{Parser}
 use Rattle.reader.specs.Lists.{parted}
 use Rattle.reader.specs.laws.Closes.{then-ok}

@@ -5,7 +5,7 @@ use Prim.Native.Nat.{ℕ, _<_}
 use borrow.Author.Needs.{needs}
 use native.Mathlib.Omega.{arith}
 use lib.ListN.{length}
-use Rattle.parser.specs.laws.Laws.{got}
+use Rattle.parser.specs.laws.Holds.{got}
 use Rattle.parser.specs.Halves.{with-args}
 use Rattle.parser.specs.declared.state.Parser.{Parser}
 use Rattle.reader.specs.Lists.{unparted}

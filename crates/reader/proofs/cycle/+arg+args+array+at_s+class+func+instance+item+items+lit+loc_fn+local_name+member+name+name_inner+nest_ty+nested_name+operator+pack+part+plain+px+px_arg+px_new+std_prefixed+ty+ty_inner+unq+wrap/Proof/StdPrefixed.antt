@@ -11,7 +11,7 @@ use Rattle.grammar.specs.Reader.{State, Reader, onto, push-sub, give, at-code}
 use Rattle.grammar.specs.Grammar.{reading, ⟨unqualified-name⟩, std-ahead, std-name, name-instance}
 use Rattle.grammar.specs.laws.Agree.{moved}
 use Rattle.grammar.specs.laws.Steps.{at-code-yes, at-code-no}
-use Rattle.parser.specs.laws.Laws.{by, got, refused-on}
+use Rattle.parser.specs.laws.Holds.{by, got, refused-on}
 use Rattle.parser.specs.laws.Adds.{stack-by, puts-at}
 use Rattle.grammar.specs.laws.Runs.{need-here}
 use Rattle.reader.proofs.cycle.+arg+args+array+at_s+class+func+instance+item+items+lit+loc_fn+local_name+member+name+name_inner+nest_ty+nested_name+operator+pack+part+plain+px+px_arg+px_new+std_prefixed+ty+ty_inner+unq+wrap.Proof.LawsJoin.{kept, push-refused, stands-top, instance-at}

@@ -7,7 +7,7 @@ use Rattle.grammar.specs.Reader.{by-code, give, refused}
 use Rattle.grammar.specs.Grammar.{reading, ⟨template-param⟩, type-inner, nested-type, s-type, class-type}
 use Rattle.grammar.specs.laws.Steps.{from-text, same-from, inner-end, inner-letter, inner-A, inner-F, inner-M, inner-D, inner-u, inner-N, inner-T, inner-S, inner-class, inner-wrapper, inner-4}
 use Rattle.parser.specs.Holds.{refuses, keep}
-use Rattle.parser.specs.laws.Laws.{by, less, sooner}
+use Rattle.parser.specs.laws.Holds.{by, less, sooner}
 use Rattle.parser.specs.laws.Adds.{ready-moved, reads-moved, stack-by}
 use Rattle.parser.specs.laws.Wraps.{picked-at}
 use Rattle.reader.specs.laws.Opens.{at-of, call-moved}

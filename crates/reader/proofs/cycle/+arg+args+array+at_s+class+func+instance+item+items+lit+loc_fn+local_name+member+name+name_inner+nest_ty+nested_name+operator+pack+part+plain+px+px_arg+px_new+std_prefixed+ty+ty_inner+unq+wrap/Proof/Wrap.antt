@@ -1,6 +1,6 @@
 -- The answers of `wrap`. Assumes nothing.
 use Prim.Native.Nat.{ℕ}
-use Rattle.parser.specs.laws.Laws.{by, got, refused-on}
+use Rattle.parser.specs.laws.Holds.{by, got, refused-on}
 use mathlib.Core.Path.{_∙_}
 use Rattle.reader.specs.laws.Opens.{on-got, wrote-fits, wrapped-is}
 use Rattle.reader.specs.laws.Standing.{stands-at}

@@ -1,4 +1,4 @@
--- Laws of tests, what it means that one holds, and of numbers in decimal.
+-- Laws of texts: what it means that a test of them holds, and numbers in decimal.
 use mathlib.Core.Bool.{Bool, true, false, _&&_, _||_, true≢false, and-false}
 use mathlib.Core.List.{[], _∷_, _++_}
 use mathlib.Core.Path.{_≡_, refl, ap, ap₂, _∙_}
