@@ -13,8 +13,10 @@ use lib.Dec.{eqb, leb}
 use lib.ListN.{getElem?}
 use Rattle.grammar.specs.Text.{Text, b, if_then_else_, same, digit}
 use Rattle.catalogue.specs.Bytes.{all, first}
-use Rattle.catalogue.specs.Tree.{Wrap, Kind, Ty, Args, Enc, wP, wR, wO, wK, wV, kb, ki, kj, kl, km, letter, wrap, root, sub, app, lit, one, also, enc, same-ty, is-lit, is-class, is-bare, single, is-ref, is-qual}
-use Rattle.catalogue.specs.Spelling.{Sp, Pre, SpArgs, SpName, Sym, s-letter, s-wrap, s-ref, plain, templ, retempl, nest-sub, nest-app, s-lit, p-ref, p-root, p-sub, p-app, s-one, s-also, flat, scoped, symbol, spell-sym}
+use Rattle.catalogue.specs.Tree.{Wrap, Kind, Ty, Args, Enc, wP, wR, wO, wK, wV, kb, ki, kj, kl, km, letter, wrap, root, sub, app, lit, one, also, enc}
+use Rattle.catalogue.specs.Tree.{same-ty, is-lit, is-class, is-bare, single, is-ref, is-qual}
+use Rattle.catalogue.specs.Spelling.{Sp, Pre, SpArgs, SpName, Sym, s-letter, s-wrap, s-ref, plain, templ, retempl, nest-sub, nest-app, s-lit, p-ref}
+use Rattle.catalogue.specs.Spelling.{p-root, p-sub, p-app, s-one, s-also, flat, scoped, symbol, spell-sym}
 
 -- ---------------------------------------------------------------- source names and values
 

@@ -6,7 +6,8 @@ use mathlib.Core.Option.{Option, none, some}
 use Prim.Native.Nat.{ℕ, suc}
 use Rattle.grammar.specs.Text.{Text, if_then_else_}
 use Rattle.catalogue.specs.Tree.{Ty, Args, Enc, letter, wrap, root, sub, app, lit, one, also, enc, same-ty, single}
-use Rattle.catalogue.specs.Spelling.{Sp, Pre, SpArgs, SpName, Sym, s-letter, s-wrap, s-ref, plain, templ, retempl, nest-sub, nest-app, s-lit, p-ref, p-root, p-sub, p-app, s-one, s-also, flat, scoped, symbol, spell-sym}
+use Rattle.catalogue.specs.Spelling.{Sp, Pre, SpArgs, SpName, Sym, s-letter, s-wrap, s-ref, plain, templ, retempl, nest-sub, nest-app, s-lit, p-ref}
+use Rattle.catalogue.specs.Spelling.{p-root, p-sub, p-app, s-one, s-also, flat, scoped, symbol, spell-sym}
 use Rattle.catalogue.specs.Class.{push, push-new, Catalogue}
 
 -- ---------------------------------------------------------------- the place of an entry

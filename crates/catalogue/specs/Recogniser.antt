@@ -9,8 +9,10 @@ use lib.Dec.{eqb, leb}
 use lib.ListN.{length, take, drop}
 use Rattle.grammar.specs.Text.{Text, if_then_else_, choose, same, run, past, digit, number}
 use Rattle.grammar.specs.Grammar.{index}
-use Rattle.catalogue.specs.Tree.{Letter, Wrap, Kind, Enc, letter-code, wrap-code, kind-code, lv, lw, lb, lc, la, lh, ls, lt, li, lj, ll, lm, lx, ly, ln, lo, lf, ld, le, lg, lz, wP, wR, wO, wK, wV, kb, ki, kj, kl, km}
-use Rattle.catalogue.specs.Spelling.{Sp, Pre, SpArgs, SpName, Sym, s-letter, s-wrap, s-ref, plain, templ, retempl, nest-sub, nest-app, s-lit, p-ref, p-root, p-sub, p-app, s-one, s-also, flat, scoped, symbol, spell-sym}
+use Rattle.catalogue.specs.Tree.{Letter, Wrap, Kind, Enc, letter-code, wrap-code, kind-code, lv, lw, lb, lc, la, lh, ls, lt, li, lj, ll, lm, lx, ly, ln}
+use Rattle.catalogue.specs.Tree.{lo, lf, ld, le, lg, lz, wP, wR, wO, wK, wV, kb, ki, kj, kl, km}
+use Rattle.catalogue.specs.Spelling.{Sp, Pre, SpArgs, SpName, Sym, s-letter, s-wrap, s-ref, plain, templ, retempl, nest-sub, nest-app, s-lit, p-ref}
+use Rattle.catalogue.specs.Spelling.{p-root, p-sub, p-app, s-one, s-also, flat, scoped, symbol, spell-sym}
 use Rattle.catalogue.specs.Class.{Res, wrong, provided, valid}
 
 -- something read, and the bytes left; or no reading

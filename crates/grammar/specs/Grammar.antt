@@ -13,7 +13,9 @@ use lib.ListN.{length, take, drop, getElem?}
 use lib.Dec.{eqb, leb, ltb}
 use Rattle.grammar.specs.Text.{Text, b, if_then_else_, choose, same, starts, holds, ends, run, join, each, after-last, digit, number, decimal}
 use Rattle.grammar.specs.Tables.{_⇒_, letters, d-letters, operators, labels, abbreviations, qualifiers, wrappers, suffixes}
-use Rattle.grammar.specs.Reader.{refused, Reader, onto, _>>=_, _>>_, return, refuse, unfit, start, the, ahead, go-to, set-args, set-cv, set-templated, push-sub, push-arg, give, recorded, entered, word-for, by-code, cases, at-code, eat, need, see, any, every, while, up-to-E, one-more}
+use Rattle.grammar.specs.Reader.{refused, Reader, onto, _>>=_, _>>_, return, refuse, unfit, start, the, ahead, go-to, set-args, set-cv, set-templated}
+use Rattle.grammar.specs.Reader.{push-sub, push-arg, give, recorded, entered, word-for, by-code, cases, at-code, eat, need, see, any, every, while}
+use Rattle.grammar.specs.Reader.{up-to-E, one-more}
 
 pub data Production : Type 0 where
   ⟨encoding⟩ ⟨name⟩ ⟨nested-name⟩ ⟨unqualified-name⟩ ⟨source-name⟩ ⟨operator-name⟩ : Production

@@ -13,7 +13,8 @@ use Rattle.store.specs.Table.{Front}
 use Rattle.catalogue.specs.Bytes.{all}
 use Rattle.catalogue.specs.Spelling.{name-bytes}
 use Rattle.normal_walk.specs.Walk.{name, literal, lit-bytes}
-use Rattle.normal_nodes.specs.Nodes.{Node, node, Notes, Noter, Got, got, bad, firsts, with, when, put, go-to, noted, counted, number-of, tag-of, may-stand, lit-node, sub-node, arg-node, wrap-node, enter}
+use Rattle.normal_nodes.specs.Nodes.{Node, node, Notes, Noter, Got, got, bad, firsts, with, when, put, go-to, noted, counted, number-of, tag-of, may-stand}
+use Rattle.normal_nodes.specs.Nodes.{lit-node, sub-node, arg-node, wrap-node, enter}
 use Rattle.normal_steps.specs.Parts.{part}
 use Rattle.normal_steps.specs.Regions.{Regions}
 use Rattle.normal_steps.specs.States.{written-to}

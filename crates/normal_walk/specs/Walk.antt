@@ -15,7 +15,8 @@ use Rattle.catalogue.specs.Tree.{Kind, Ty, Args, letter, wrap, root, sub, app, 
 use Rattle.catalogue.specs.Spelling.{ref-bytes, name-bytes, minus, const-byte}
 use Rattle.catalogue.specs.Class.{name-ok, leading-zero, lit-ok, stands, push, push-new, most-arguments}
 use Rattle.catalogue.specs.Normal.{seek, known}
-use Rattle.catalogue.specs.Recogniser.{Rd, rd, stop, bind, if-next, read-name, with-code, all-kinds, Lead, lead-letter, lead-wrap, lead-digit, lead-S, lead-N, lead-L, lead-none, lead}
+use Rattle.catalogue.specs.Recogniser.{Rd, rd, stop, bind, if-next, read-name, with-code, all-kinds, Lead, lead-letter, lead-wrap, lead-digit, lead-S, lead-N}
+use Rattle.catalogue.specs.Recogniser.{lead-L, lead-none, lead}
 
 -- what is read, the bytes written for it, the table, the arguments so far, the bytes left; or the symbol is outside the class
 pub data Walk (A : Type 0) : Type 0 where

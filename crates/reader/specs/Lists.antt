@@ -42,7 +42,8 @@ kept-by Arguments d = keep d
 
 -- the code's list is the grammar's: its texts stand on the stack with ", " between them
 pub data Lists (k d : ℕ) (s base : Text) (from : ℕ) (m : Memory) : Texts → Result (List Text) → Type 0 where
-  listed : {p : Parser} {n count : ℕ} {ts : List Text} {σ : State} → Stands k d s base from m p n (join (b ", ") ts) σ → count ≡ length ts → Lists k d s base from m (items-as.Listed p n count) (ok ts σ)
+  listed : {p : Parser} {n count : ℕ} {ts : List Text} {σ : State} → Stands k d s base from m p n (join (b ", ") ts) σ → count ≡ length ts →
+      Lists k d s base from m (items-as.Listed p n count) (ok ts σ)
   unlisted : {r : ℕ} → Lists k d s base from m (items-as.Refused r) (refused r)
 
 abbrev pub ReadsItems : Kind → Text → Memory → Memory → Parser → Texts → Type 0

@@ -10,7 +10,8 @@ use borrow.Author.Fill.{fill-more}
 use borrow.Author.Tests.{eq-eqb, ne-eqb}
 use lib.Dec.{eqb}
 use lib.ListN.{length, take, drop, getD, set, length-set, length-drop, List·getD-append, drop-of-length-le, take-append-drop}
-use lib.Seq.{paste, paste-suc, length-paste-head, length-take-le, getD-append-add, getD-drop, getD-take, take-suc, take-length, take-take, take-add, drop-cons, drop-drop, drop-length}
+use lib.Seq.{paste, paste-suc, length-paste-head, length-take-le, getD-append-add, getD-drop, getD-take, take-suc, take-length, take-take, take-add, drop-cons}
+use lib.Seq.{drop-drop, drop-length}
 use Rattle.grammar.specs.Text.{Text, if_then_else_, same}
 use Rattle.store.specs.Stack.{zeros, slots-in, newest}
 use Rattle.store.specs.laws.Lists.{drop-take}

@@ -14,7 +14,9 @@ use Rattle.grammar.specs.Names.{high}
 use Rattle.catalogue.specs.Bytes.{all, and-left, and-right, eqb-eq}
 use Rattle.catalogue.specs.laws.Bytes.{all-append}
 use Rattle.catalogue.specs.Tree.{Letter, Wrap, Kind, wP, wR, wO, wK, wV, kb, ki, kj, kl, km, letter-code, wrap-code, kind-code}
-use Rattle.catalogue.specs.Spelling.{Sp, Pre, SpArgs, SpName, Sym, s-letter, s-wrap, s-ref, plain, templ, retempl, nest-sub, nest-app, s-lit, p-ref, p-root, p-sub, p-app, s-one, s-also, flat, scoped, symbol, spell, spell-pre, spell-args, spell-name, spell-params, spell-sym, ref-digits, length-digits, name-bytes, minus, const-byte}
+use Rattle.catalogue.specs.Spelling.{Sp, Pre, SpArgs, SpName, Sym, s-letter, s-wrap, s-ref, plain, templ, retempl, nest-sub, nest-app, s-lit, p-ref, p-root}
+use Rattle.catalogue.specs.Spelling.{p-sub, p-app, s-one, s-also, flat, scoped, symbol, spell, spell-pre, spell-args, spell-name, spell-params, spell-sym}
+use Rattle.catalogue.specs.Spelling.{ref-digits, length-digits, name-bytes, minus, const-byte}
 use Rattle.catalogue.specs.Class.{name-ok, word-byte}
 use Rattle.catalogue.specs.laws.Numbers.{digit-low, decimal-all}
 use Rattle.catalogue.specs.laws.ReadsBack.{OkSp, OkPre, OkArgs}

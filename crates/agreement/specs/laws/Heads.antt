@@ -13,7 +13,8 @@ use Rattle.grammar.specs.Grammar as g
 use Rattle.catalogue.specs.Bytes.{all, first, and-left}
 use Rattle.catalogue.specs.laws.Bytes.{not-true, all-append}
 use Rattle.catalogue.specs.Tree.{Letter, Wrap, wP, wR, wO, wK, wV, letter-code, wrap-code}
-use Rattle.catalogue.specs.Spelling.{Sp, Pre, SpArgs, s-letter, s-wrap, s-ref, plain, templ, retempl, nest-sub, nest-app, s-lit, p-ref, p-root, p-sub, p-app, s-one, s-also, spell, spell-pre, spell-args, name-bytes, length-digits, ref-digits, base36, digit-of}
+use Rattle.catalogue.specs.Spelling.{Sp, Pre, SpArgs, s-letter, s-wrap, s-ref, plain, templ, retempl, nest-sub, nest-app, s-lit, p-ref, p-root, p-sub, p-app}
+use Rattle.catalogue.specs.Spelling.{s-one, s-also, spell, spell-pre, spell-args, name-bytes, length-digits, ref-digits, base36, digit-of}
 use Rattle.catalogue.specs.Class.{name-ok, word-byte, listed, reserved}
 use Rattle.catalogue.specs.laws.Numbers.{Some, digit-low, decimal-value, decimal-all, decimal-some, ref-all}
 use Rattle.agreement.specs.laws.Letters.{every-letter}

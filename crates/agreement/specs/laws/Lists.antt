@@ -22,7 +22,9 @@ use Rattle.catalogue.specs.Class.{lit-ok}
 use Rattle.catalogue.specs.laws.NormalForm.{arg-bytes, nbytes}
 use Rattle.catalogue.specs.laws.WellFormed.{WfArgs}
 use Rattle.catalogue.specs.laws.Count.{number-of, nargs}
-use Rattle.agreement.specs.laws.Verdict.{at, Verdict, gives, next, assoc, then-by, by-equal, weaken, gives-as, before-E, guarded, guarded-is, closed, closed-by, up-to-E-is, in-reading, give-end, need-by, byte-E, byte-I, byte-L, entered-by, by-code-miss, push-arg-by, step-on, step-off}
+use Rattle.agreement.specs.laws.Verdict.{at, Verdict, gives, next, assoc, then-by, by-equal, weaken, gives-as, before-E, guarded, guarded-is, closed}
+use Rattle.agreement.specs.laws.Verdict.{closed-by, up-to-E-is, in-reading, give-end, need-by, byte-E, byte-I, byte-L, entered-by, by-code-miss}
+use Rattle.agreement.specs.laws.Verdict.{push-arg-by, step-on, step-off}
 use Rattle.agreement.specs.laws.Leaves.{find-miss, clear, starts-miss}
 use Rattle.agreement.specs.laws.Heads.{opens, some-bytes}
 use Rattle.agreement.specs.laws.Steps.{literal-arg-by}

@@ -17,7 +17,8 @@ use Rattle.grammar.specs.Grammar.{angled, last, onto-last, slot}
 use Rattle.grammar.specs.Names.{without-slots}
 use Rattle.catalogue.specs.Bytes.{all, first, and-left, and-right, and-both, eqb-eq, same-eq}
 use Rattle.catalogue.specs.laws.Bytes.{not-true}
-use Rattle.catalogue.specs.Tree.{Letter, Wrap, Kind, Ty, Args, Enc, wP, wR, wO, wK, wV, kb, ki, kj, kl, km, letter, wrap, root, sub, app, lit, one, also, enc, word, suffix, sign, literal, closes, last-closes, shut, print, print-args, is-void, inside, tail, print-enc}
+use Rattle.catalogue.specs.Tree.{Letter, Wrap, Kind, Ty, Args, Enc, wP, wR, wO, wK, wV, kb, ki, kj, kl, km, letter, wrap, root, sub, app, lit, one, also, enc}
+use Rattle.catalogue.specs.Tree.{word, suffix, sign, literal, closes, last-closes, shut, print, print-args, is-void, inside, tail, print-enc}
 use Rattle.catalogue.specs.Class.{name-ok, word-byte, listed, reserved, numeral, leading-zero, lit-ok}
 use Rattle.catalogue.specs.laws.Numbers.{digit-36}
 use Rattle.agreement.specs.laws.Letters.{every-letter}

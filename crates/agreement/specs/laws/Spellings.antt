@@ -15,8 +15,10 @@ use Rattle.catalogue.specs.Bytes.{first, and-right}
 use Rattle.catalogue.specs.laws.Bytes.{not-true, or-left}
 use borrow.Author.Tests.{ne-eqb}
 use Rattle.catalogue.specs.laws.Numbers.{digit-low}
-use Rattle.catalogue.specs.Tree.{Letter, Wrap, Kind, Ty, Args, letter, wrap, root, sub, app, lit, one, also, letter-code, wrap-code, kind-code, print, is-lit, is-ref, is-qual, is-class, is-bare, single, wP, wR, wO, wK, wV}
-use Rattle.catalogue.specs.Spelling.{Sp, Pre, SpArgs, s-letter, s-wrap, s-ref, plain, templ, retempl, nest-sub, nest-app, s-lit, p-ref, p-root, p-sub, p-app, s-one, s-also, spell, spell-pre, spell-args, ref-digits, name-bytes, minus}
+use Rattle.catalogue.specs.Tree.{Letter, Wrap, Kind, Ty, Args, letter, wrap, root, sub, app, lit, one, also, letter-code, wrap-code, kind-code, print, is-lit}
+use Rattle.catalogue.specs.Tree.{is-ref, is-qual, is-class, is-bare, single, wP, wR, wO, wK, wV}
+use Rattle.catalogue.specs.Spelling.{Sp, Pre, SpArgs, s-letter, s-wrap, s-ref, plain, templ, retempl, nest-sub, nest-app, s-lit, p-ref, p-root, p-sub, p-app}
+use Rattle.catalogue.specs.Spelling.{s-one, s-also, spell, spell-pre, spell-args, ref-digits, name-bytes, minus}
 use Rattle.catalogue.specs.Class.{name-ok, lit-ok, stands, push, push-new, Res, wrong, entry, resolve, resolve-pre, resolve-args}
 use Rattle.catalogue.specs.Class as class
 use Rattle.catalogue.specs.laws.Limits.{depth, depth-pre, depth-args}

@@ -16,7 +16,8 @@ use Rattle.grammar.specs.Grammar.{⟨type⟩, ⟨template-arg⟩, ⟨template-p
 use borrow.Author.Tests.{ne-eqb}
 use Rattle.catalogue.specs.laws.Numbers.{digit-low}
 use Rattle.catalogue.specs.Bytes.{first}
-use Rattle.catalogue.specs.Tree.{Letter, Wrap, lv, lw, lb, lc, la, lh, ls, lt, li, lj, ll, lm, lx, ly, ln, lo, lf, ld, le, lg, lz, wP, wR, wO, wK, wV, letter-code, wrap-code, word, suffix}
+use Rattle.catalogue.specs.Tree.{Letter, Wrap, lv, lw, lb, lc, la, lh, ls, lt, li, lj, ll, lm, lx, ly, ln, lo, lf, ld, le, lg, lz, wP, wR, wO, wK, wV}
+use Rattle.catalogue.specs.Tree.{letter-code, wrap-code, word, suffix}
 use Rattle.agreement.specs.laws.Verdict.{at, Verdict, Gives, in-reading, entered-by, by-code-hit, by-code-miss, at-code-hit, at-code-miss}
 use Rattle.agreement.specs.laws.Leaves.{clear, find-miss}
 use Rattle.agreement.specs.laws.Heads.{opens, no-structor, first-map}

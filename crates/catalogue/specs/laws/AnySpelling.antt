@@ -9,12 +9,16 @@ use lib.ListN.{getElem?}
 use Rattle.catalogue.specs.Bytes.{and-left, and-right}
 use Rattle.catalogue.specs.laws.Bytes.{not-true}
 use Rattle.catalogue.specs.Tree.{Ty, Args, Enc, root, is-class, is-bare, single}
-use Rattle.catalogue.specs.Spelling.{Sp, Pre, SpArgs, SpName, Sym, s-letter, s-wrap, s-ref, plain, templ, retempl, nest-sub, nest-app, s-lit, p-ref, p-root, p-sub, p-app, s-one, s-also, flat, scoped, symbol}
-use Rattle.catalogue.specs.Class.{name-ok, lit-ok, stands, all-types, push, entry, resolve, resolve-pre, resolve-args, resolve-name, resolve-params, resolve-sym, is-const, has-params}
+use Rattle.catalogue.specs.Spelling.{Sp, Pre, SpArgs, SpName, Sym, s-letter, s-wrap, s-ref, plain, templ, retempl, nest-sub, nest-app, s-lit, p-ref}
+use Rattle.catalogue.specs.Spelling.{p-root, p-sub, p-app, s-one, s-also, flat, scoped, symbol}
+use Rattle.catalogue.specs.Class.{name-ok, lit-ok, stands, all-types, push, entry, resolve, resolve-pre, resolve-args, resolve-name, resolve-params}
+use Rattle.catalogue.specs.Class.{resolve-sym, is-const, has-params}
 use Rattle.catalogue.specs.Normal.{after, after-pre, normal, normal-params, after-params, normal-name, after-name, normal-sym, after-sym}
 use Rattle.catalogue.specs.laws.WellFormed.{AllWf, Good, GoodPre, Post, post-ok, post-then, post-if, post-both, post-map, wf-push, entry-wf, resolve-wf, resolve-pre-wf}
 use Rattle.catalogue.specs.laws.Entries.{has, Closed, after-closed, after-pre-closed}
-use Rattle.catalogue.specs.laws.Limits.{depth, depth-pre, depth-args, short, short-pre, short-args, Same, Beside, BesidePre, BesideArgs, brackets, short-some, ref-beside, wrap-beside, root-beside, root-beside-pre, sub-beside, sub-beside-pre, app-beside, app-beside-pre, depth-name, depth-params, depth-sym, short-name, short-params, short-sym}
+use Rattle.catalogue.specs.laws.Limits.{depth, depth-pre, depth-args, short, short-pre, short-args, Same, Beside, BesidePre, BesideArgs, brackets}
+use Rattle.catalogue.specs.laws.Limits.{short-some, ref-beside, wrap-beside, root-beside, root-beside-pre, sub-beside, sub-beside-pre, app-beside}
+use Rattle.catalogue.specs.laws.Limits.{app-beside-pre, depth-name, depth-params, depth-sym, short-name, short-params, short-sym}
 
 -- what a spelling gives beside what the normal one gives from the table vs, by the spelling's own measures
 abbrev pub NoWorse : List Ty → Sp → Ty → List Ty → Type 0

@@ -9,12 +9,15 @@ use Rattle.grammar.specs.Tables.{Row, _⇒_, letters}
 use Rattle.grammar.specs.Reader.{word-for}
 use Rattle.catalogue.specs.Bytes.{all, first, and-left, and-right, same-eq}
 use Rattle.catalogue.specs.laws.Bytes.{or-left, or-right, not-true, run-of, past-of}
-use Rattle.catalogue.specs.Tree.{Letter, Wrap, Kind, Ty, Args, Enc, letter, wrap, root, sub, app, lit, one, also, enc, lv, lw, lb, lc, la, lh, ls, lt, li, lj, ll, lm, lx, ly, ln, lo, lf, ld, le, lg, lz, wP, wR, wO, wK, wV, kb, ki, kj, kl, km, same-ty-eq, is-lit, is-ref, word, suffix, sign, literal, last-closes, shut, print, print-args, is-void, inside, print-enc}
+use Rattle.catalogue.specs.Tree.{Letter, Wrap, Kind, Ty, Args, Enc, letter, wrap, root, sub, app, lit, one, also, enc, lv, lw, lb, lc, la, lh, ls, lt}
+use Rattle.catalogue.specs.Tree.{li, lj, ll, lm, lx, ly, ln, lo, lf, ld, le, lg, lz, wP, wR, wO, wK, wV, kb, ki, kj, kl, km, same-ty-eq, is-lit, is-ref}
+use Rattle.catalogue.specs.Tree.{word, suffix, sign, literal, last-closes, shut, print, print-args, is-void, inside, print-enc}
 use Rattle.catalogue.specs.Class.{word-byte, reserved, listed, name-ok, leading-zero, numeral, lit-ok, stands}
 use Rattle.catalogue.specs.laws.WellFormed.{Wf, WfArgs, WfEnc, wf-name}
 use Rattle.catalogue.specs.laws.Numbers.{digit-36}
 use Rattle.catalogue.specs.laws.Words.{a-word, lex, NoWord, lex-word}
-use Rattle.catalogue.specs.laws.NameReader.{find, words, phrases, kind-of, number-of, from-word, Bracket, angle, paren, Frame, at-name, items, State, want, have, gap, scope, minus, closed, gather, ampersand, step, walk, result, parse-name}
+use Rattle.catalogue.specs.laws.NameReader.{find, words, phrases, kind-of, number-of, from-word, Bracket, angle, paren, Frame, at-name, items, State}
+use Rattle.catalogue.specs.laws.NameReader.{want, have, gap, scope, minus, closed, gather, ampersand, step, walk, result, parse-name}
 
 -- ---------------------------------------------------------------- words
 

@@ -8,8 +8,11 @@ use native.Mathlib.Omega.{arith}
 use lib.ListN.{getElem?}
 use Rattle.grammar.specs.Text.{Text, if_then_else_}
 use Rattle.catalogue.specs.Tree.{Ty, Args, letter, wrap, root, sub, app, lit, one, also, is-class, is-bare, single}
-use Rattle.catalogue.specs.Spelling.{Sp, Pre, SpArgs, SpName, Sym, s-letter, s-wrap, s-ref, plain, templ, retempl, nest-sub, nest-app, s-lit, p-ref, p-root, p-sub, p-app, s-one, s-also, flat, scoped, symbol}
-use Rattle.catalogue.specs.Class.{name-ok, lit-ok, stands, all-types, push, last-is, push-new, Res, ok, and-then, entry, resolve, resolve-pre, resolve-args, resolve-name, resolve-params, resolve-sym, is-const, has-params, number, count, count-pre, count-args, count-name, count-params, count-sym}
+use Rattle.catalogue.specs.Spelling.{Sp, Pre, SpArgs, SpName, Sym, s-letter, s-wrap, s-ref, plain, templ, retempl, nest-sub, nest-app, s-lit, p-ref}
+use Rattle.catalogue.specs.Spelling.{p-root, p-sub, p-app, s-one, s-also, flat, scoped, symbol}
+use Rattle.catalogue.specs.Class.{name-ok, lit-ok, stands, all-types, push, last-is, push-new, Res, ok, and-then, entry, resolve, resolve-pre}
+use Rattle.catalogue.specs.Class.{resolve-args, resolve-name, resolve-params, resolve-sym, is-const, has-params, number, count, count-pre, count-args}
+use Rattle.catalogue.specs.Class.{count-name, count-params, count-sym}
 use Rattle.catalogue.specs.laws.WellFormed.{Post, post-ok, post-then, post-if, post-entry}
 use Rattle.catalogue.specs.laws.NoDoubles.{sum}
 

@@ -11,7 +11,8 @@ use Rattle.catalogue.specs.Bytes.{text-discrete, and-left, and-right, sa
 use Rattle.catalogue.specs.laws.Bytes.{not-true}
 use Rattle.catalogue.specs.Tree.{ty-discrete, same-ty, word, print, Enc, print-enc}
 use Rattle.catalogue.specs.Spelling.{digit-of, base36, ref-digits, spell, spell-sym}
-use Rattle.catalogue.specs.Class.{word-byte, reserved, listed, name-ok, numeral, lit-ok, stands, last-is, push-new, Res, ok, wrong, resolve, resolve-name, resolve-params, resolve-sym, count, count-sym, count-ok, valid, Catalogue}
+use Rattle.catalogue.specs.Class.{word-byte, reserved, listed, name-ok, numeral, lit-ok, stands, last-is, push-new, Res, ok, wrong, resolve}
+use Rattle.catalogue.specs.Class.{resolve-name, resolve-params, resolve-sym, count, count-sym, count-ok, valid, Catalogue}
 use Rattle.catalogue.specs.Normal.{seek, after, normal, normal-sym, write, normal-of}
 use Rattle.catalogue.specs.Recogniser.{cut, read-name, read-ref, with-code, read-lit, lead, parse, parse-types, parse-sym, classify}
 use Rattle.catalogue.specs.laws.Decision.{is-catalogue, classify-sound, decides}

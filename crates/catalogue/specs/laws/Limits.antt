@@ -9,7 +9,9 @@ use native.Mathlib.Omega.{arith}
 use lib.ListN.{length, length-append, getElem?}
 use Rattle.grammar.specs.Text.{Text}
 use Rattle.catalogue.specs.Tree.{Wrap, Ty, Args, letter, wrap, root, sub, app, lit, same-ty, is-bare, single}
-use Rattle.catalogue.specs.Spelling.{Sp, Pre, SpArgs, SpName, Sym, s-letter, s-wrap, s-ref, plain, templ, retempl, nest-sub, nest-app, s-lit, p-ref, p-root, p-sub, p-app, s-one, s-also, flat, scoped, symbol, name-bytes, const-byte, spell, spell-pre, spell-args, spell-name, spell-params, spell-sym}
+use Rattle.catalogue.specs.Spelling.{Sp, Pre, SpArgs, SpName, Sym, s-letter, s-wrap, s-ref, plain, templ, retempl, nest-sub, nest-app, s-lit, p-ref}
+use Rattle.catalogue.specs.Spelling.{p-root, p-sub, p-app, s-one, s-also, flat, scoped, symbol, name-bytes, const-byte, spell, spell-pre, spell-args}
+use Rattle.catalogue.specs.Spelling.{spell-name, spell-params, spell-sym}
 use Rattle.catalogue.specs.Class.{name-ok, push, push-new, entry}
 use Rattle.catalogue.specs.Normal.{seek, after, after-pre, after-args, ref-or, pre-or, templ-of, normal, normal-pre, normal-args}
 use Rattle.catalogue.specs.laws.WellFormed.{Post, post-entry}

@@ -12,8 +12,11 @@ use Rattle.grammar.specs.Text.{Text, if_then_else_, between, digit-value, digit
 use Rattle.grammar.specs.Names.{high}
 use Rattle.catalogue.specs.Bytes.{all, and-left, and-right, eqb-eq}
 use Rattle.catalogue.specs.laws.Bytes.{or-left, or-right, or-no}
-use Rattle.catalogue.specs.Tree.{Ty, Enc, Letter, Wrap, Kind, letter-code, wrap-code, kind-code, lv, lw, lb, lc, la, lh, ls, lt, li, lj, ll, lm, lx, ly, ln, lo, lf, ld, le, lg, lz, wP, wR, wO, wK, wV, kb, ki, kj, kl, km}
-use Rattle.catalogue.specs.Spelling.{Sp, Pre, SpArgs, SpName, Sym, s-letter, s-wrap, s-ref, plain, templ, retempl, nest-sub, nest-app, s-lit, p-ref, p-root, p-sub, p-app, s-one, s-also, flat, scoped, symbol, ref-digits, ref-bytes, length-digits, name-bytes, minus, spell, spell-pre, spell-args, const-byte, spell-name, spell-params, spell-sym}
+use Rattle.catalogue.specs.Tree.{Ty, Enc, Letter, Wrap, Kind, letter-code, wrap-code, kind-code, lv, lw, lb, lc, la, lh, ls, lt, li, lj, ll, lm, lx, ly}
+use Rattle.catalogue.specs.Tree.{ln, lo, lf, ld, le, lg, lz, wP, wR, wO, wK, wV, kb, ki, kj, kl, km}
+use Rattle.catalogue.specs.Spelling.{Sp, Pre, SpArgs, SpName, Sym, s-letter, s-wrap, s-ref, plain, templ, retempl, nest-sub, nest-app, s-lit, p-ref}
+use Rattle.catalogue.specs.Spelling.{p-root, p-sub, p-app, s-one, s-also, flat, scoped, symbol, ref-digits, ref-bytes, length-digits, name-bytes, minus}
+use Rattle.catalogue.specs.Spelling.{spell, spell-pre, spell-args, const-byte, spell-name, spell-params, spell-sym}
 use Rattle.catalogue.specs.Class.{word-byte, listed, reserved, name-ok, ok, resolve-sym, Catalogue}
 use Rattle.catalogue.specs.laws.Numbers.{digit-36, decimal-all, ref-all}
 use Rattle.catalogue.specs.laws.ReadsBack.{OkSp, OkPre, OkArgs}

@@ -10,7 +10,8 @@ use lib.ListN.{replicate}
 use Rattle.grammar.specs.Text.{Text, b, if_then_else_, same, digit, digit-value, decimal}
 use Rattle.catalogue.specs.Tree.{Ty, Args, Enc, letter, root, app, one, also, enc, li}
 use Rattle.catalogue.specs.Spelling.{Sym, SpArgs, s-letter, templ, s-one, s-also, flat, symbol, spell, spell-args, spell-sym}
-use Rattle.catalogue.specs.Class.{word-byte, reserved, listed, name-ok, ok, resolve, resolve-args, resolve-name, resolve-params, resolve-sym, number, count, count-args, count-sym, most-arguments, Catalogue}
+use Rattle.catalogue.specs.Class.{word-byte, reserved, listed, name-ok, ok, resolve, resolve-args, resolve-name, resolve-params, resolve-sym, number}
+use Rattle.catalogue.specs.Class.{count, count-args, count-sym, most-arguments, Catalogue}
 use Rattle.catalogue.specs.Recogniser.{parse-sym}
 use Rattle.catalogue.specs.laws.SymbolReadsBack.{parse-sym-spell}
 use Rattle.catalogue.specs.laws.Decision.{valid-of, resolves, few}

@@ -9,7 +9,8 @@ use lib.Dec.{eqb}
 use Rattle.grammar.specs.Text.{Text, b, if_then_else_, same, run, past, digit}
 use Rattle.grammar.specs.Tables.{Row, _⇒_}
 use Rattle.catalogue.specs.Bytes.{first}
-use Rattle.catalogue.specs.Tree.{Ty, Args, Enc, Kind, letter, wrap, root, sub, app, lit, one, also, enc, print, lv, lw, lb, lc, la, lh, ls, lt, li, lj, ll, lm, lx, ly, ln, lo, lf, ld, le, lg, lz, wP, wR, wO, wK, wV, kb, ki, kj, kl, km}
+use Rattle.catalogue.specs.Tree.{Ty, Args, Enc, Kind, letter, wrap, root, sub, app, lit, one, also, enc, print, lv, lw, lb, lc, la, lh, ls, lt, li, lj}
+use Rattle.catalogue.specs.Tree.{ll, lm, lx, ly, ln, lo, lf, ld, le, lg, lz, wP, wR, wO, wK, wV, kb, ki, kj, kl, km}
 use Rattle.catalogue.specs.laws.Words.{Token, a-word, a-mark, lex}
 
 -- ---------------------------------------------------------------- words with a meaning

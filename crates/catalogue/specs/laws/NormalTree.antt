@@ -9,7 +9,8 @@ use Rattle.grammar.specs.Text.{Text, if_then_else_}
 use Rattle.catalogue.specs.Tree.{Ty, Args, Enc, letter, wrap, root, sub, app, lit, one, also, enc, same-ty, same-ty-eq, is-class, is-bare, single}
 use Rattle.catalogue.specs.Spelling.{Sp, Pre, SpArgs, s-wrap, plain, nest-sub, p-root, p-sub, p-app}
 use Rattle.catalogue.specs.Class.{name-ok, push, push-new, ok, resolve, resolve-pre, resolve-args, resolve-name, resolve-params, resolve-sym, is-const, has-params}
-use Rattle.catalogue.specs.Normal.{later, seek, known, after, after-pre, after-args, ref-or, pre-or, templ-of, normal, normal-pre, normal-args, normal-params, after-params, normal-name, after-name, normal-sym, after-sym}
+use Rattle.catalogue.specs.Normal.{later, seek, known, after, after-pre, after-args, ref-or, pre-or, templ-of, normal, normal-pre, normal-args}
+use Rattle.catalogue.specs.Normal.{normal-params, after-params, normal-name, after-name, normal-sym, after-sym}
 use Rattle.catalogue.specs.laws.WellFormed.{Wf, WfArgs, WfParams, WfName, WfEnc, bare-class}
 
 pub later-some : (o : Option ℕ) (i : ℕ) → later o ≡ some i → (j : ℕ) × (i ≡ suc j) × (o ≡ some j)

@@ -13,12 +13,15 @@ use borrow.Author.Tests.{le-leb, ne-eqb}
 use Rattle.grammar.specs.Text.{Text, if_then_else_, choose, digit, digit-value}
 use Rattle.catalogue.specs.Bytes.{all, first, and-left}
 use Rattle.catalogue.specs.laws.Bytes.{or-left, or-right, run-of, past-of}
-use Rattle.catalogue.specs.Tree.{Letter, Wrap, Kind, letter-code, wrap-code, kind-code, lv, lw, lb, lc, la, lh, ls, lt, li, lj, ll, lm, lx, ly, ln, lo, lf, ld, le, lg, lz, wP, wR, wO, wK, wV, kb, ki, kj, kl, km}
-use Rattle.catalogue.specs.Spelling.{Sp, Pre, SpArgs, s-letter, s-wrap, s-ref, plain, templ, retempl, nest-sub, nest-app, s-lit, p-ref, p-root, p-sub, p-app, s-one, s-also, ref-digits, ref-bytes, length-digits, name-bytes, minus, spell, spell-pre, spell-args}
+use Rattle.catalogue.specs.Tree.{Letter, Wrap, Kind, letter-code, wrap-code, kind-code, lv, lw, lb, lc, la, lh, ls, lt, li, lj, ll, lm, lx, ly, ln, lo}
+use Rattle.catalogue.specs.Tree.{lf, ld, le, lg, lz, wP, wR, wO, wK, wV, kb, ki, kj, kl, km}
+use Rattle.catalogue.specs.Spelling.{Sp, Pre, SpArgs, s-letter, s-wrap, s-ref, plain, templ, retempl, nest-sub, nest-app, s-lit, p-ref, p-root, p-sub}
+use Rattle.catalogue.specs.Spelling.{p-app, s-one, s-also, ref-digits, ref-bytes, length-digits, name-bytes, minus, spell, spell-pre, spell-args}
 use Rattle.catalogue.specs.Class.{name-ok}
 use Rattle.catalogue.specs.laws.Numbers.{digit-low, Some, decimal-value, decimal-all, decimal-some, ref-all, ref-index}
 use Rattle.catalogue.specs.laws.Back.{name-start}
-use Rattle.catalogue.specs.Recogniser.{Rd, rd, bind, if-next, cut, read-name, read-ref, with-code, all-kinds, with-kind, read-lit, lead-letter, lead-wrap, lead-digit, lead, finish, parse, parse-nest, parse-more, parse-args}
+use Rattle.catalogue.specs.Recogniser.{Rd, rd, bind, if-next, cut, read-name, read-ref, with-code, all-kinds, with-kind, read-lit, lead-letter}
+use Rattle.catalogue.specs.Recogniser.{lead-wrap, lead-digit, lead, finish, parse, parse-nest, parse-more, parse-args}
 
 -- ---------------------------------------------------------------- leaves
 

@@ -12,8 +12,11 @@ use borrow.Author.Tests.{ne-eqb}
 use Rattle.grammar.specs.Text.{Text, b, if_then_else_, same, digit, digit-value}
 use Rattle.catalogue.specs.Bytes.{all, first, and-left, and-right, same-eq}
 use Rattle.catalogue.specs.Tree.{Kind, Ty, Args, Enc, kb, ki, kj, kl, km, app, is-class, is-bare, single}
-use Rattle.catalogue.specs.Spelling.{Sp, Pre, SpArgs, SpName, Sym, s-letter, s-wrap, s-ref, plain, templ, retempl, nest-sub, nest-app, s-lit, p-ref, p-root, p-sub, p-app, s-one, s-also, flat, scoped, symbol, name-bytes, spell, spell-pre, spell-args, spell-name, spell-params, spell-sym}
-use Rattle.catalogue.specs.Class.{name-ok, lit-ok, numeral, stands, all-types, push, Res, ok, and-then, entry, resolve, resolve-pre, resolve-args, resolve-name, resolve-params, resolve-sym, is-const, has-params}
+use Rattle.catalogue.specs.Spelling.{Sp, Pre, SpArgs, SpName, Sym, s-letter, s-wrap, s-ref, plain, templ, retempl, nest-sub, nest-app, s-lit, p-ref}
+use Rattle.catalogue.specs.Spelling.{p-root, p-sub, p-app, s-one, s-also, flat, scoped, symbol, name-bytes, spell, spell-pre, spell-args, spell-name}
+use Rattle.catalogue.specs.Spelling.{spell-params, spell-sym}
+use Rattle.catalogue.specs.Class.{name-ok, lit-ok, numeral, stands, all-types, push, Res, ok, and-then, entry, resolve, resolve-pre, resolve-args}
+use Rattle.catalogue.specs.Class.{resolve-name, resolve-params, resolve-sym, is-const, has-params}
 use Rattle.catalogue.specs.laws.WellFormed.{Post, post-ok, post-then, post-if, post-entry, post-is}
 use Rattle.catalogue.specs.laws.Numbers.{digit-low}
 use Rattle.catalogue.specs.laws.Back.{numeral-all}

@@ -8,8 +8,10 @@ use lib.ListN.{getElem?}
 use Rattle.grammar.specs.Text.{if_then_else_}
 use Rattle.catalogue.specs.Bytes.{and-right}
 use Rattle.catalogue.specs.Tree.{Ty, Args, Enc, letter, wrap, root, sub, app, lit, one, also, enc, is-class, is-bare, single}
-use Rattle.catalogue.specs.Spelling.{Sp, Pre, SpArgs, SpName, Sym, s-letter, s-wrap, s-ref, plain, templ, retempl, nest-sub, nest-app, s-lit, p-ref, p-root, p-sub, p-app, s-one, s-also, flat, scoped, symbol}
-use Rattle.catalogue.specs.Class.{name-ok, lit-ok, stands, all-types, push, last-is, push-new, Res, ok, wrong, and-then, provided, entry, resolve, resolve-pre, resolve-args, resolve-name, resolve-params, resolve-sym, is-const, has-params}
+use Rattle.catalogue.specs.Spelling.{Sp, Pre, SpArgs, SpName, Sym, s-letter, s-wrap, s-ref, plain, templ, retempl, nest-sub, nest-app, s-lit, p-ref}
+use Rattle.catalogue.specs.Spelling.{p-root, p-sub, p-app, s-one, s-also, flat, scoped, symbol}
+use Rattle.catalogue.specs.Class.{name-ok, lit-ok, stands, all-types, push, last-is, push-new, Res, ok, wrong, and-then, provided, entry, resolve}
+use Rattle.catalogue.specs.Class.{resolve-pre, resolve-args, resolve-name, resolve-params, resolve-sym, is-const, has-params}
 
 -- ---------------------------------------------------------------- what holds of a result
 

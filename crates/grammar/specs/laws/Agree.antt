@@ -12,7 +12,9 @@ use lib.Dec.{T, ltb}
 use Rattle.grammar.specs.Text.{Text, b, if_then_else_, choose, starts, past}
 use Rattle.grammar.specs.laws.Text.{both}
 use Rattle.grammar.specs.Tables.{Row, _⇒_}
-use Rattle.grammar.specs.Reader.{State, Result, ok, refused, Reader, onto, find, by-code, at-code, go-to, set-subs, set-args, set-depth, set-cv, set-templated, push-sub, push-arg, give, recorded, entered, refuse, return, see, eat, need, first, any, every, steps, while, up-to-E}
+use Rattle.grammar.specs.Reader.{State, Result, ok, refused, Reader, onto, find, by-code, at-code, go-to, set-subs, set-args, set-depth, set-cv}
+use Rattle.grammar.specs.Reader.{set-templated, push-sub, push-arg, give, recorded, entered, refuse, return, see, eat, need, first, any, every, steps}
+use Rattle.grammar.specs.Reader.{while, up-to-E}
 
 abbrev pub unread : State → ℕ
 unread s = length (s .rest)

@@ -13,10 +13,15 @@ use Rattle.grammar.specs.Text.{Text, b, if_then_else_, choose, number}
 use Rattle.grammar.specs.laws.Text.{both}
 use Rattle.grammar.specs.Tables.{letters, d-letters, operators, labels, abbreviations, wrappers}
 use Rattle.grammar.specs.Reader.{State, Result, ok, refused, Reader, onto, give, go-to, set-args, push-arg, one-more, start}
-use Rattle.grammar.specs.Grammar.{Production, ⟨encoding⟩, ⟨name⟩, ⟨nested-name⟩, ⟨unqualified-name⟩, ⟨source-name⟩, ⟨operator-name⟩, ⟨type⟩, ⟨template-param⟩, ⟨template-args⟩, ⟨template-arg⟩, ⟨expr-primary⟩, ⟨substitution⟩, Parts, skipped, open-after, unnamed-type-name, template-param, substitution, reading}
+use Rattle.grammar.specs.Grammar.{Production, ⟨encoding⟩, ⟨name⟩, ⟨nested-name⟩, ⟨unqualified-name⟩, ⟨source-name⟩, ⟨operator-name⟩, ⟨type⟩}
+use Rattle.grammar.specs.Grammar.{⟨template-param⟩, ⟨template-args⟩, ⟨template-arg⟩, ⟨expr-primary⟩, ⟨substitution⟩, Parts, skipped, open-after}
+use Rattle.grammar.specs.Grammar.{unnamed-type-name, template-param, substitution, reading}
 use Rattle.grammar.specs.Grammar as g
 use Rattle.grammar.specs.Names.{Answer, named, refusal, demangle, mangled-name, front, finished}
-use Rattle.grammar.specs.laws.Agree.{unread, Agree, reads, refuses, agree-eq, bind, weaken, tested, branch, chosen, coded, end, row, all-coded, by-code-agree, by-table-agree, at-code-agree, Keeps, Takes, Shrinks, go-to-agree, every-keeps, give-keeps, set-cv-keeps, set-templated-keeps, push-sub-keeps, push-arg-keeps, recorded-keeps, entered-agree, eat-keeps, see-keeps, need-takes, need-keeps, any-keeps, while-keeps, up-to-E-keeps}
+use Rattle.grammar.specs.laws.Agree.{unread, Agree, reads, refuses, agree-eq, bind, weaken, tested, branch, chosen, coded, end, row, all-coded}
+use Rattle.grammar.specs.laws.Agree.{by-code-agree, by-table-agree, at-code-agree, Keeps, Takes, Shrinks, go-to-agree, every-keeps, give-keeps}
+use Rattle.grammar.specs.laws.Agree.{set-cv-keeps, set-templated-keeps, push-sub-keeps, push-arg-keeps, recorded-keeps, entered-agree, eat-keeps}
+use Rattle.grammar.specs.laws.Agree.{see-keeps, need-takes, need-keeps, any-keeps, while-keeps, up-to-E-keeps}
 
 -- ---------------------------------------------------------------- productions of letters and digits alone
 

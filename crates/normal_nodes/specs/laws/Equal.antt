@@ -11,12 +11,15 @@ use Rattle.grammar.specs.Text.{Text, if_then_else_}
 use Rattle.catalogue.specs.Tree.{Ty, Args, letter, wrap, root, sub, app, lit, also, is-lit, is-bare}
 use Rattle.catalogue.specs.Spelling.{name-bytes, const-byte}
 use Rattle.catalogue.specs.Recogniser.{lead}
-use Rattle.normal_walk.specs.Walk.{Walk, Walker, name, walk-type, walk-parts, walk-more, walk-args, walk-types, at-lead, at-end, at-scoped, at-name, at-params, result, walk-enc, walk-sym}
+use Rattle.normal_walk.specs.Walk.{Walk, Walker, name, walk-type, walk-parts, walk-more, walk-args, walk-types, at-lead, at-end, at-scoped, at-name, at-params}
+use Rattle.normal_walk.specs.Walk.{result, walk-enc, walk-sym}
 use Rattle.normal_walk.specs.laws.Leaves.{begins}
 use Rattle.normal_walk.specs.laws.Fuel.{if-agree}
-use Rattle.normal_nodes.specs.Nodes.{Notes, Noter, Got, note-type, note-parts, note-more, note-args, note-types, note-at-lead, note-at-end, note-at-scoped, begun, at-function, note-at-params, symbol-of, note-encoding, note-symbol}
+use Rattle.normal_nodes.specs.Nodes.{Notes, Noter, Got, note-type, note-parts, note-more, note-args, note-types, note-at-lead, note-at-end}
+use Rattle.normal_nodes.specs.Nodes.{note-at-scoped, begun, at-function, note-at-params, symbol-of, note-encoding, note-symbol}
 use Rattle.normal_nodes.specs.laws.Numbers.{Den, forest-none, ext-refl, den-more, tag-bare, tag-lit}
-use Rattle.normal_nodes.specs.laws.Related.{Keeps, keeps-put, keeps-as, Never, Agree, both, alone, neither, agree-here, agree-when, agree-with, agree-if, agree-next, agree-then, agree-first, agree-no-first, agree-from, agree-onto}
+use Rattle.normal_nodes.specs.laws.Related.{Keeps, keeps-put, keeps-as, Never, Agree, both, alone, neither, agree-here, agree-when, agree-with, agree-if}
+use Rattle.normal_nodes.specs.laws.Related.{agree-next, agree-then, agree-first, agree-no-first, agree-from, agree-onto}
 use Rattle.normal_nodes.specs.laws.Productions.{behind, Lone, SameType, SameArgs, SameParts, SameMore, arg-same, parts-same, more-same, lead-same}
 
 -- ---------------------------------------------------------------- with the same fuel

@@ -15,7 +15,8 @@ use Rattle.catalogue.specs.Normal.{seek}
 use Rattle.catalogue.specs.Recogniser.{cut, read-name, with-code, lead}
 use Rattle.catalogue.specs.laws.Examples.{Rows, normals, inside, outside}
 use Rattle.normal_walk.specs.Walk.{name, reference, literal}
-use Rattle.normal_nodes.specs.Nodes.{same-node, seek-by, node-place, number-of, with-node, tag-of, may-stand, table-place, add, note-add-all, note-last-is, settled, entered-nested, note-type, note-types, note-encoding, note-symbol}
+use Rattle.normal_nodes.specs.Nodes.{same-node, seek-by, node-place, number-of, with-node, tag-of, may-stand, table-place, add, note-add-all}
+use Rattle.normal_nodes.specs.Nodes.{note-last-is, settled, entered-nested, note-type, note-types, note-encoding, note-symbol}
 
 -- the row's normal symbol is written
 abbrev is : Option Text → Text → Bool

@@ -12,7 +12,8 @@ use lib.ListN.{length, getElem?, length-append}
 use borrow.Author.Tests.{lt-ltb, le-ltb, le-leb}
 use Rattle.grammar.specs.Text.{Text, if_then_else_, choose, digit, digit-value}
 use Rattle.catalogue.specs.Bytes.{eqb-yes, eqb-eq}
-use Rattle.catalogue.specs.Tree.{Letter, Wrap, Kind, Ty, Args, letter, wrap, root, sub, app, lit, one, also, is-lit, is-class, is-bare, is-ref, is-qual, single, same-ty, same-ty-eq, same-ty-yes, letter-code, wrap-code, kind-code}
+use Rattle.catalogue.specs.Tree.{Letter, Wrap, Kind, Ty, Args, letter, wrap, root, sub, app, lit, one, also, is-lit, is-class, is-bare, is-ref, is-qual}
+use Rattle.catalogue.specs.Tree.{single, same-ty, same-ty-eq, same-ty-yes, letter-code, wrap-code, kind-code}
 use Rattle.catalogue.specs.Class.{stands, push, last-is}
 use Rattle.catalogue.specs.Normal.{seek, known}
 use Rattle.catalogue.specs.laws.NormalTree.{seek-at}
@@ -20,8 +21,10 @@ use Rattle.catalogue.specs.Recogniser.{with-code, all-kinds, Lead, lead-letter,
 use Rattle.catalogue.specs.laws.ReadsBack.{lead-letter-is, lead-wrap-is, kind-at}
 use Rattle.catalogue.specs.laws.Entries.{seek-none, at-has}
 use Rattle.normal_walk.specs.Walk.{distinct, add-all, add as add-tree}
-use Rattle.normal_nodes.specs.laws.Nodes.{same-test, at-left, at-end, at-either, seek-law, node-eq, same-node-yes, same-node-eq, letter-below, wrap-below, kind-below, every-wrap, no-byte, stands-is}
-use Rattle.normal_nodes.specs.Nodes.{Node, least-number, arg-node, signed-kind, same-node, node-place, number-of, with-new, with-node, tag-of, a-lit, a-bare, a-class, a-ref, a-qual, may-stand, table-place, add, note-add-all, firsts, note-last-is}
+use Rattle.normal_nodes.specs.laws.Nodes.{same-test, at-left, at-end, at-either, seek-law, node-eq, same-node-yes, same-node-eq, letter-below}
+use Rattle.normal_nodes.specs.laws.Nodes.{wrap-below, kind-below, every-wrap, no-byte, stands-is}
+use Rattle.normal_nodes.specs.Nodes.{Node, least-number, arg-node, signed-kind, same-node, node-place, number-of, with-new, with-node, tag-of, a-lit}
+use Rattle.normal_nodes.specs.Nodes.{a-bare, a-class, a-ref, a-qual, may-stand, table-place, add, note-add-all, firsts, note-last-is}
 
 -- ---------------------------------------------------------------- trees of numbers
 

@@ -14,7 +14,8 @@ use Rattle.catalogue.specs.Spelling.{ref-bytes}
 use Rattle.catalogue.specs.Class.{push}
 use Rattle.catalogue.specs.Recogniser.{Rd, rd, stop, if-next}
 use Rattle.normal_walk.specs.Walk.{Walk, Walker, got, bad, next, when, with, wrote}
-use Rattle.normal_nodes.specs.Nodes.{Node, Notes, Noter, Got, next as next-note, when as when-note, with as with-note, table-place, firsts, go-to, put, noted, pushed, counted, replaced, settled, entered, at-first}
+use Rattle.normal_nodes.specs.Nodes.{Node, Notes, Noter, Got, next as next-note, when as when-note, with as with-note, table-place, firsts, go-to, put}
+use Rattle.normal_nodes.specs.Nodes.{noted, pushed, counted, replaced, settled, entered, at-first}
 use Rattle.normal_nodes.specs.laws.Numbers.{Den, Dens, Forest, Extends, Noted, EntryIs, ext-refl, ext-trans, dens-more, dens-push, place-is}
 
 -- ---------------------------------------------------------------- what is kept

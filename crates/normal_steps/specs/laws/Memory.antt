@@ -12,7 +12,8 @@ use Rattle.store.specs.laws.Fronts.{front-less}
 use Rattle.store.specs.laws.Lists.{second-lent}
 use Rattle.catalogue.specs.Spelling.{ref-bytes}
 use Rattle.normal_walk.specs.laws.Sizes.{ref-length}
-use Rattle.normal_nodes.specs.Nodes.{Node, Notes, Got, notes, got, same-node, seek-by, node-place, number-at, number-of, with-new, with-node, table-place, firsts, pushed, replaced, settled}
+use Rattle.normal_nodes.specs.Nodes.{Node, Notes, Got, notes, got, same-node, seek-by, node-place, number-at, number-of, with-new, with-node, table-place}
+use Rattle.normal_nodes.specs.Nodes.{firsts, pushed, replaced, settled}
 use Rattle.normal_steps.specs.declared.state.Writer.{Writer}
 use Rattle.normal_steps.specs.declared.state.Told.the-variants.{Number}
 use Rattle.normal_steps.specs.States.{written-to, noted-to, entered-to}

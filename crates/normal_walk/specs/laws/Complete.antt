@@ -12,7 +12,8 @@ use Rattle.grammar.specs.Text.{Text, if_then_else_, digit}
 use Rattle.catalogue.specs.Bytes.{first, and-left, and-right}
 use Rattle.catalogue.specs.laws.Bytes.{or-right, not-true}
 use Rattle.catalogue.specs.Tree.{Letter, Wrap, Kind, Ty, Args, letter, wrap, root, sub, app, lit, one, also, is-class, is-bare, single, letter-code, wrap-code, kind-code}
-use Rattle.catalogue.specs.Spelling.{Sp, Pre, SpArgs, s-letter, s-wrap, s-ref, plain, templ, retempl, nest-sub, nest-app, s-lit, p-ref, p-root, p-sub, p-app, s-one, s-also, ref-digits, name-bytes, minus, spell, spell-pre, spell-args}
+use Rattle.catalogue.specs.Spelling.{Sp, Pre, SpArgs, s-letter, s-wrap, s-ref, plain, templ, retempl, nest-sub, nest-app, s-lit, p-ref, p-root, p-sub, p-app}
+use Rattle.catalogue.specs.Spelling.{s-one, s-also, ref-digits, name-bytes, minus, spell, spell-pre, spell-args}
 use Rattle.catalogue.specs.Class.{name-ok, lit-ok, stands, push, push-new, entry, resolve, resolve-pre, resolve-args, number, count, count-pre, count-args}
 use Rattle.catalogue.specs.Normal.{normal, normal-pre, normal-args}
 use Rattle.catalogue.specs.laws.WellFormed.{Post, post-ok, post-then, post-if, post-both, post-map, bare-class}
@@ -21,7 +22,8 @@ use Rattle.normal_walk.specs.Walk.{got, when, distinct, wrote, with-args
 use Rattle.normal_walk.specs.laws.Table.{Kept, Table, TablePre, TableArgs, table-pre-root, table-pre-entry, entry-at, table, table-pre, table-args}
 use Rattle.normal_walk.specs.laws.Fuel.{walked, walked-parts, walked-more, walked-args, args-is}
 use Rattle.normal_walk.specs.laws.Steps.{walked-letter, walked-wrap, walked-N, lead-N-is, walked-name, walked-ref, walked-lit, parts-name, parts-ref, more-I, more-name}
-use Rattle.normal_walk.specs.laws.Written.{arg-bytes, wrote-entry, wrote-entry-pre, wrote-wrap, wrote-root, wrote-root-pre, wrote-sub, wrote-sub-pre, wrote-single, wrote-app, wrote-app-pre}
+use Rattle.normal_walk.specs.laws.Written.{arg-bytes, wrote-entry, wrote-entry-pre, wrote-wrap, wrote-root, wrote-root-pre, wrote-sub, wrote-sub-pre}
+use Rattle.normal_walk.specs.laws.Written.{wrote-single, wrote-app, wrote-app-pre}
 
 abbrev is-i : ℕ → Bool
 is-i c = eqb c (code "I")

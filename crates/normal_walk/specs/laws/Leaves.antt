@@ -17,7 +17,8 @@ use Rattle.catalogue.specs.Tree.{Letter, Wrap, Kind, Ty, lit, letter-code, wrap
 use Rattle.catalogue.specs.Spelling.{ref-digits, length-digits, name-bytes, minus}
 use Rattle.catalogue.specs.Class.{name-ok, lit-ok}
 use Rattle.catalogue.specs.laws.Numbers.{ref-all, ref-index}
-use Rattle.catalogue.specs.Recogniser.{rd, stop, cut, read-name, with-code, all-letters, all-wraps, all-kinds, Lead, lead-letter, lead-wrap, lead-digit, lead-S, lead-N, lead-L, lead-none, lead}
+use Rattle.catalogue.specs.Recogniser.{rd, stop, cut, read-name, with-code, all-letters, all-wraps, all-kinds, Lead, lead-letter, lead-wrap, lead-digit}
+use Rattle.catalogue.specs.Recogniser.{lead-S, lead-N, lead-L, lead-none, lead}
 use Rattle.catalogue.specs.laws.ReadsBack.{name-read, name-some, kind-at, no-n, next-no}
 use Rattle.catalogue.specs.laws.SymbolReadsBack.{lit-digits}
 use Rattle.normal_walk.specs.Walk.{canonical, name, reference, value, literal}

@@ -11,7 +11,8 @@ use lib.ListN.{getElem?}
 use Rattle.grammar.specs.Text.{Text}
 use Rattle.catalogue.specs.Bytes.{eqb-eq}
 use Rattle.catalogue.specs.Tree.{Wrap, Ty, Args, letter, wrap, root, sub, app, one, also, is-class, is-bare, single, wrap-code, kind-code}
-use Rattle.catalogue.specs.Spelling.{Sp, Pre, SpArgs, s-letter, s-wrap, s-ref, plain, templ, retempl, nest-sub, nest-app, s-lit, p-ref, p-root, p-sub, p-app, s-one, s-also, ref-digits, name-bytes, minus, spell, spell-pre, spell-args}
+use Rattle.catalogue.specs.Spelling.{Sp, Pre, SpArgs, s-letter, s-wrap, s-ref, plain, templ, retempl, nest-sub, nest-app, s-lit, p-ref, p-root, p-sub, p-app}
+use Rattle.catalogue.specs.Spelling.{s-one, s-also, ref-digits, name-bytes, minus, spell, spell-pre, spell-args}
 use Rattle.catalogue.specs.Class.{name-ok, stands, push, ok, resolve, resolve-pre, resolve-args, number, count, count-pre, count-args}
 use Rattle.catalogue.specs.Recogniser.{Lead, lead-letter, lead-wrap, lead-digit, lead-S, lead-N, lead-L, lead-none, lead}
 use Rattle.catalogue.specs.laws.ReadsBack.{front, inner, inner′}

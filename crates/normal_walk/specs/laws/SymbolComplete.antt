@@ -13,8 +13,10 @@ use Rattle.grammar.specs.Text.{Text, if_then_else_}
 use Rattle.catalogue.specs.Bytes.{and-left, and-right}
 use Rattle.catalogue.specs.laws.Bytes.{or-false}
 use Rattle.catalogue.specs.Tree.{Ty, Args, Enc, root, sub, one, also, enc, is-lit}
-use Rattle.catalogue.specs.Spelling.{Sp, Pre, SpArgs, SpName, Sym, s-letter, s-wrap, s-ref, plain, templ, retempl, nest-sub, nest-app, s-lit, s-one, s-also, flat, scoped, symbol, name-bytes, const-byte, spell, spell-pre, spell-args, spell-name, spell-params, spell-sym}
-use Rattle.catalogue.specs.Class.{name-ok, all-types, resolve, resolve-pre, resolve-args, resolve-name, resolve-params, resolve-sym, is-const, has-params, count, count-pre, count-args, count-name, count-params, count-sym, most-arguments, Catalogue}
+use Rattle.catalogue.specs.Spelling.{Sp, Pre, SpArgs, SpName, Sym, s-letter, s-wrap, s-ref, plain, templ, retempl, nest-sub, nest-app, s-lit, s-one, s-also}
+use Rattle.catalogue.specs.Spelling.{flat, scoped, symbol, name-bytes, const-byte, spell, spell-pre, spell-args, spell-name, spell-params, spell-sym}
+use Rattle.catalogue.specs.Class.{name-ok, all-types, resolve, resolve-pre, resolve-args, resolve-name, resolve-params, resolve-sym, is-const, has-params}
+use Rattle.catalogue.specs.Class.{count, count-pre, count-args, count-name, count-params, count-sym, most-arguments, Catalogue}
 use Rattle.catalogue.specs.Normal.{normal, normal-pre, normal-args, normal-params, normal-name, normal-sym, after-name, write, normal-of}
 use Rattle.catalogue.specs.laws.WellFormed.{Post, post-ok, post-then, post-if, post-is}
 use Rattle.catalogue.specs.laws.AnySpelling.{closed-empty}

@@ -14,7 +14,8 @@ use Rattle.catalogue.specs.Bytes.{eqb-eq, and-both}
 use Rattle.catalogue.specs.laws.Bytes.{or-true}
 use Rattle.catalogue.specs.Tree.{Ty, Args, Enc, root, sub, app, enc, is-lit, is-bare}
 use Rattle.catalogue.specs.Spelling.{SpArgs, SpName, Sym, s-one, s-also, flat, scoped, symbol, name-bytes, const-byte, spell, spell-pre, spell-args, spell-name, spell-sym}
-use Rattle.catalogue.specs.Class.{name-ok, all-types, ok, resolve, resolve-args, resolve-name, resolve-params, resolve-sym, is-const, count, count-args, count-name, count-sym, most-arguments, Catalogue}
+use Rattle.catalogue.specs.Class.{name-ok, all-types, ok, resolve, resolve-args, resolve-name, resolve-params, resolve-sym, is-const, count, count-args}
+use Rattle.catalogue.specs.Class.{count-name, count-sym, most-arguments, Catalogue}
 use Rattle.catalogue.specs.Recogniser.{if-next}
 use Rattle.catalogue.specs.laws.ReadsBack.{inner}
 use Rattle.catalogue.specs.laws.Decision.{valid-of}

@@ -13,8 +13,10 @@ use Rattle.catalogue.specs.Tree.{Letter, Wrap, Kind, Ty, Args, letter, wrap, ro
 use Rattle.catalogue.specs.Spelling.{Sp, Pre, SpArgs, s-letter, s-wrap, s-ref, plain, templ, retempl, nest-sub, nest-app, s-lit, p-ref, p-root, p-sub, p-app, s-one, s-also}
 use Rattle.catalogue.specs.Class.{name-ok, lit-ok, stands, push, last-is, push-new, entry, resolve, resolve-pre, resolve-args}
 use Rattle.catalogue.specs.Normal.{seek, known, after, after-pre, after-args}
-use Rattle.catalogue.specs.laws.WellFormed.{Wf, WfArgs, AllWf, Good, GoodPre, Post, post-ok, post-then, post-if, post-entry, post-both, post-map, wf-push, wf-push-new, bare-class, entry-wf}
-use Rattle.catalogue.specs.laws.Entries.{has, has-push, has-seek, at-has, seek-has, last-has, Known, Closed, after-same, after-pre-same, after-args-same, grown-has, after-closed, after-pre-closed}
+use Rattle.catalogue.specs.laws.WellFormed.{Wf, WfArgs, AllWf, Good, GoodPre, Post, post-ok, post-then, post-if, post-entry, post-both, post-map, wf-push}
+use Rattle.catalogue.specs.laws.WellFormed.{wf-push-new, bare-class, entry-wf}
+use Rattle.catalogue.specs.laws.Entries.{has, has-push, has-seek, at-has, seek-has, last-has, Known, Closed, after-same, after-pre-same, after-args-same}
+use Rattle.catalogue.specs.laws.Entries.{grown-has, after-closed, after-pre-closed}
 use Rattle.catalogue.specs.laws.NoDoubles.{size, size-args, new-trans, after-new, after-pre-new, after-args-new, fresh}
 use Rattle.normal_walk.specs.Walk.{add, add-all, distinct}
 

@@ -10,7 +10,8 @@ use Rattle.grammar.specs.Text.{Text, if_then_else_, starts, run, past, number}
 use Rattle.catalogue.specs.Class.{name-ok}
 use Rattle.catalogue.specs.Recogniser.{Rd, rd, stop, cut, read-name, Lead, lead-letter, lead-wrap, lead-digit, lead-S, lead-N, lead-L, lead-none, lead}
 use Rattle.normal_walk.specs.Walk.{name}
-use Rattle.normal_nodes.specs.Nodes.{Notes, Noter, Got, got, next, when, with, put, go-to, entered, entered-nested, tag-of, a-bare, a-class, at-reference, note-at-parts, note-at-more, note-end-or, note-args, note-parts, note-more}
+use Rattle.normal_nodes.specs.Nodes.{Notes, Noter, Got, got, next, when, with, put, go-to, entered, entered-nested, tag-of, a-bare, a-class, at-reference}
+use Rattle.normal_nodes.specs.Nodes.{note-at-parts, note-at-more, note-end-or, note-args, note-parts, note-more}
 use Rattle.grammar.specs.laws.Places.{starts-byte}
 use Rattle.normal_steps.specs.States.{moved-to}
 use Rattle.normal_steps.specs.Leads.{class}
@@ -20,7 +21,8 @@ use Rattle.normal_steps.specs.laws.Told.{Answered, answered, refused, by, withi
 use Rattle.normal_steps.specs.laws.Steps.{on-got, on-bad}
 use Rattle.normal_steps.specs.laws.Moves.{first-byte, no-byte, byte-is, byte-not, holds-next}
 use Rattle.normal_steps.specs.laws.Tests.{byte-next}
-use Rattle.normal_steps.specs.laws.Limits.{spent-less, spent-spent, spent-stands, spent-moved, passed-spent, spent-took, took-spent, took-more, closed-spent, spent-nothing, spent-room}
+use Rattle.normal_steps.specs.laws.Limits.{spent-less, spent-spent, spent-stands, spent-moved, passed-spent, spent-took, took-spent, took-more, closed-spent}
+use Rattle.normal_steps.specs.laws.Limits.{spent-nothing, spent-room}
 use Rattle.normal_writer.specs.laws.FirstBytes.{parts-none, parts-some, more-some}
 use Rattle.normal_writer.specs.laws.Types.{by-name, by-reference, Behind, FirstPart, args-from, Enclosed}
 use Rattle.normal_writer.specs.laws.Loops.{SoFar, nothing-yet, one-more}

@@ -14,7 +14,8 @@ use Rattle.store.specs.Table.{Front}
 use Rattle.catalogue.specs.Spelling.{name-bytes}
 use Rattle.catalogue.specs.Recogniser.{Rd, stop, if-next}
 use Rattle.normal_walk.specs.Walk.{name}
-use Rattle.normal_nodes.specs.Nodes.{Notes, notes, Got, got, bad, next, when, with, begun, a-bare, a-lit, note-add-all, tag-of, note-at-scoped, at-function, note-at-end, note-at-params, note-type, note-types, note-parts, symbol-of, note-encoding, note-symbol}
+use Rattle.normal_nodes.specs.Nodes.{Notes, notes, Got, got, bad, next, when, with, begun, a-bare, a-lit, note-add-all, tag-of, note-at-scoped, at-function}
+use Rattle.normal_nodes.specs.Nodes.{note-at-end, note-at-params, note-type, note-types, note-parts, symbol-of, note-encoding, note-symbol}
 use Rattle.normal_steps.specs.Parts.{part}
 use Rattle.grammar.specs.laws.Places.{rest-some, rest-none}
 use Rattle.normal_steps.specs.laws.Tests.{next-here, next-not}

@@ -9,7 +9,8 @@ use lib.ListN.{length, drop, getD}
 use Rattle.grammar.specs.Text.{Text, starts}
 use Rattle.catalogue.specs.Tree.{Letter, Wrap}
 use Rattle.catalogue.specs.Recogniser.{if-next, Lead, lead-letter, lead-wrap, lead-L, lead-none, lead}
-use Rattle.normal_nodes.specs.Nodes.{Notes, Noter, Got, got, next, when, put, go-to, entered, note-at-lead, note-at-name, at-reference, note-with-args, note-type, note-args, note-parts}
+use Rattle.normal_nodes.specs.Nodes.{Notes, Noter, Got, got, next, when, put, go-to, entered, note-at-lead, note-at-name, at-reference, note-with-args}
+use Rattle.normal_nodes.specs.Nodes.{note-type, note-args, note-parts}
 use Rattle.normal_steps.specs.States.{moved-to}
 use Rattle.normal_steps.specs.Holds.{Work, out-to, notes-to, Holds, Ready, ReadyOut, ReadyNotes, Room, Spent, Tag}
 use Rattle.normal_steps.specs.Holds.{Refines, tells, refuses, Reads, Fueled, Steps, Does, Copies, Closes, most-number, at-literal, counts-arg, wraps, closed}

@@ -18,11 +18,15 @@ returns-3 c = front-z _ (c .before .before .before .before .before .if1 .left) (
 
 returns-4 : tie.Need-returns-4
 unfolding b
-returns-4 c = front-zz _ (c .before .before .before .before .before .before .before .before .if1 .left) (sym (c .before .before .before .before .before .before .before .has-high .ensures) ∙ c .before .before .before .before .before .before .if2 .left) (sym (c .before .before .before .before .starts-with .ensures) ∙ c .before .before .before .if3 .left) (sym (c .before .starts-with2 .ensures) ∙ c .if4 .taken)
+returns-4 c = front-zz _ (c .before .before .before .before .before .before .before .before .if1 .left)
+    (sym (c .before .before .before .before .before .before .before .has-high .ensures) ∙ c .before .before .before .before .before .before .if2 .left)
+    (sym (c .before .before .before .before .starts-with .ensures) ∙ c .before .before .before .if3 .left) (sym (c .before .starts-with2 .ensures) ∙ c .if4 .taken)
 
 returns-5 : tie.Need-returns-5
 unfolding b
-returns-5 c = front-3 _ (c .before .before .before .before .before .before .before .before .if1 .left) (sym (c .before .before .before .before .before .before .before .has-high .ensures) ∙ c .before .before .before .before .before .before .if2 .left) (sym (c .before .before .before .before .starts-with .ensures) ∙ c .before .before .before .if3 .left) (sym (c .before .starts-with2 .ensures) ∙ c .if4 .left)
+returns-5 c = front-3 _ (c .before .before .before .before .before .before .before .before .if1 .left)
+    (sym (c .before .before .before .before .before .before .before .has-high .ensures) ∙ c .before .before .before .before .before .before .if2 .left)
+    (sym (c .before .before .before .before .starts-with .ensures) ∙ c .before .before .before .if3 .left) (sym (c .before .starts-with2 .ensures) ∙ c .if4 .left)
 
 pub behind-front-spec : {M : Type 1} → statement M
 behind-front-spec =

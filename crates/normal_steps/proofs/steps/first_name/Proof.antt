@@ -50,7 +50,9 @@ enter-requires : tie.Need-enter-requires
 enter-requires c κs =
     let a = c .before .before .before .before .before .before .before .before .before .before .before .before .before .before .before .before .before .before .before .before .before .args in
     let h = c .before .before .before .before .before .before .before .before .before .before .before .before .before .before .before .before .before .before .before .before .before .pre .1 in
-    let x = name-at (a .s .now) (a .p .at) (c .before .before .before .before .before .before .before .before .before .before .before .before .before .before .before .before .before .source-name .ensures) (c .before .before .before .before .before .before .before .before .before .before .before .before .before .before .before .from .given .1) in
+    let x = name-at (a .s .now) (a .p .at)
+    (c .before .before .before .before .before .before .before .before .before .before .before .before .before .before .before .before .before .source-name .ensures)
+    (c .before .before .before .before .before .before .before .before .before .before .before .before .before .before .before .from .given .1) in
     let e = c .before .before .before .before .before .before .before .before .before .before .before .before .moved .ensures in
     let y = c .before .before .before .before .before .before .before .before .before .before .before .put-name .ensures in
     let w = name-wrote x h refl e y in
@@ -61,7 +63,9 @@ enter-requires c κs =
 returns-3 : tie.Need-returns-3
 returns-3 c σ h =
     let a = c .before .before .before .before .before .before .before .before .before .before .before .before .before .before .before .before .before .before .before .before .before .before .before .before .before .before .args in
-    let x = name-at (a .s .now) (a .p .at) (c .before .before .before .before .before .before .before .before .before .before .before .before .before .before .before .before .before .before .before .before .before .before .source-name .ensures) (c .before .before .before .before .before .before .before .before .before .before .before .before .before .before .before .before .before .before .before .before .from .given .1) in
+    let x = name-at (a .s .now) (a .p .at)
+    (c .before .before .before .before .before .before .before .before .before .before .before .before .before .before .before .before .before .before .before .before .before .before .source-name .ensures)
+    (c .before .before .before .before .before .before .before .before .before .before .before .before .before .before .before .before .before .before .before .before .from .given .1) in
     let e = c .before .before .before .before .before .before .before .before .before .before .before .before .before .before .before .before .before .moved .ensures in
     let y = c .before .before .before .before .before .before .before .before .before .before .before .before .before .before .before .before .put-name .ensures in
     let z = name-size x in
@@ -69,8 +73,13 @@ returns-3 c σ h =
     let t = told (c .before .before .before .before .before .before .before .before .before .before .before .before .note .ensures (work-of (name-held x h refl e y)) _ (name-held x h refl e y)) (c .before .before .before .before .before .before .before .before .noted .given .1) in
     let v = c .before .before .before .before .enter .ensures _ _ (t .0) in
     let l = took-more (a .p .out) (t .1 .0) (v .limits) (omega arith) in
-    let n = part (a .s .now) (c .before .before .before .before .before .before .before .before .before .before .before .before .before .before .before .before .before .before .before .before .from .given .0 .0) (c .before .before .before .before .before .before .before .before .before .before .before .before .before .before .before .before .before .before .before .before .from .given .0 .1 .0) in
-    by (with-some _ (ap name (h .rest) ∙ x .is) ∙ entered-is (root-node n) (a .p .out) (put (name-bytes n) (go-to (drop (c .before .before .before .before .before .before .before .before .before .before .before .before .before .before .before .before .before .before .before .before .from .given .0 .1 .0) (a .s .now)) σ)) (t .1 .1 .0))
+    let n = part (a .s .now)
+    (c .before .before .before .before .before .before .before .before .before .before .before .before .before .before .before .before .before .before .before .before .from .given .0 .0)
+    (c .before .before .before .before .before .before .before .before .before .before .before .before .before .before .before .before .before .before .before .before .from .given .0 .1 .0) in
+    by (with-some _ (ap name (h .rest) ∙ x .is) ∙ entered-is (root-node n) (a .p .out)
+    (put (name-bytes n) (go-to
+    (drop (c .before .before .before .before .before .before .before .before .before .before .before .before .before .before .before .before .before .before .before .before .from .given .0 .1 .0)
+    (a .s .now)) σ)) (t .1 .1 .0))
     (tells (v .holds) (omega arith, spent w l (omega arith) (omega arith) (omega arith) (omega arith)) (t .1 .1 .1))
 
 pub first-name-spec : {M : Type 1} → statement M

@@ -41,7 +41,11 @@ enter-requires c κs =
 returns-3 : tie.Need-returns-3
 returns-3 c σ h =
     let a = c .before .before .before .before .before .before .before .before .before .before .before .before .before .before .before .before .before .before .before .before .before .args in
-    let e = ap (may-stand (a .c)) (sym (c .before .before .before .before .before .before .before .before .before .before .before .before .before .before .before .before .tag-of .ensures _ (work-of h) σ h)) ∙ sym (c .before .before .before .before .before .before .before .before .before .before .before .before .before .before .before .may-stand .ensures) ∙ not-false _ (c .before .before .before .before .before .before .before .before .before .before .before .before .before .before .if1 .left) in
+    let e = ap (may-stand (a .c))
+    (sym (c .before .before .before .before .before .before .before .before .before .before .before .before .before .before .before .before .tag-of .ensures _
+    (work-of h) σ h)) ∙ sym
+    (c .before .before .before .before .before .before .before .before .before .before .before .before .before .before .before .may-stand .ensures) ∙ not-false _
+    (c .before .before .before .before .before .before .before .before .before .before .before .before .before .before .if1 .left) in
     let t = told (c .before .before .before .before .before .before .before .before .before .before .before .before .note .ensures (work-of h) σ h) (c .before .before .before .before .before .before .before .before .noted .given .1) in
     let v = c .before .before .before .before .enter .ensures _ _ (t .0) in
     by (when-true _ e ∙ entered-is (wrap-node (a .c) (a .t)) (a .from) σ (t .1 .1 .0))

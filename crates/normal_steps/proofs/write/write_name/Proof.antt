@@ -48,7 +48,13 @@ returns c =
     let l = part-length (a .s .now) (a .from) (a .to) (omega arith) in
     let d : length-digits p ≡ decimal (suc (a .to - a .from)) (a .to - a .from) = ap (λ (k : ℕ). decimal (suc k) k) l in
     let n = length-append (length-digits p) p in
-    wrote-as (ap (λ (t : Text). t ++ p) (sym d)) (wrote-both (omega (arith, ap length d)) (c .before .before .before .before .before .before .before .write-decimal .ensures) (record { is = c .before .before .copy .ensures ∙ wrote-paste (c .before .before .before .before .before .before .before .write-decimal .last .0) p (c .before .before .before .before .before .before .before .write-decimal .result) .is; end = omega arith }))
+    wrote-as (ap (λ (t : Text). t ++ p) (sym d))
+    (wrote-both (omega (arith, ap length d)) (c .before .before .before .before .before .before .before .write-decimal .ensures)
+    (record {
+      is = c .before .before .copy .ensures ∙ wrote-paste (c .before .before .before .before .before .before .before .write-decimal .last .0) p
+          (c .before .before .before .before .before .before .before .write-decimal .result) .is;
+      end = omega arith;
+    }))
 
 pub write-name-spec : {M : Type 1} → statement M
 write-name-spec =

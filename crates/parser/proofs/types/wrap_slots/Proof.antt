@@ -16,7 +16,8 @@ use Rattle.grammar.proofs.Lookups.{length-spelled}
 use Rattle.store.specs.Stack.{slots-in, newest}
 use Rattle.parser.specs.Holds.{Puts}
 use Rattle.parser.specs.laws.Holds.{holds-puts}
-use Rattle.parser.specs.laws.Wraps.{picked-at, picked-none, some-is, some-not, all-within, word-within, holds-cuts, puts-top, newest-text, newest-size, woven-size, stands-replaced}
+use Rattle.parser.specs.laws.Wraps.{picked-at, picked-none, some-is, some-not, all-within, word-within, holds-cuts, puts-top, newest-text, newest-size}
+use Rattle.parser.specs.laws.Wraps.{woven-size, stands-replaced}
 use Rattle.parser.proofs.types.wrap_slots.Statement.{statement}
 use Rattle.parser.proofs.types.wrap_slots.Tie as tie
 

@@ -42,7 +42,8 @@ sub-again-2 c =
     let at-start = before-longer at-longer in
     omega (arith, ap (λ (q : Parts). q .n) (at-longer .longer .ensures), at-longer .before .tilde-size .ensures, tilde-size (at-start .args .c), at-longer .before .before .shorter .ensures, at-longer .before .before .before .before .before .if1 .left)
 
-gap : (c : tie.After-struct-known) → c .before .before .before .before .before .before .before .before .before .before .longer .result .n - c .before .before .before .before .before .before .before .before .before .before .before .before .before .before .before .before .before .args .parts .n - c .before .before .before .before .before .before .before .before .before .before .before .before .shorter .result ≡ 2 * min
+gap : (c : tie.After-struct-known) →
+    c .before .before .before .before .before .before .before .before .before .before .longer .result .n - c .before .before .before .before .before .before .before .before .before .before .before .before .before .before .before .before .before .args .parts .n - c .before .before .before .before .before .before .before .before .before .before .before .before .shorter .result ≡ 2 * min
     (c .before .before .before .before .before .before .before .before .before .before .before .before .before .before .before .before .before .args .parts .count) 1 + c .before .before .before .before .before .before .before .before .before .before .before .tilde-size .result
 gap c = between (c .before .before .before .before .before .before .before .before .before .before .before .before .before .before .before .before .before .args .parts .count)
     (ap (λ (q : Parts). q .n) (c .before .before .before .before .before .before .before .before .before .before .longer .ensures))
@@ -60,7 +61,12 @@ gap-small : (c : tie.After-struct-known) → 2 * min
 gap-small c = omega (arith, c .before .before .before .before .before .before .before .before .before .before .before .tilde-size .ensures, tilde-size (c .before .before .before .before .before .before .before .before .before .before .before .before .before .before .before .before .before .args .c))
 
 back-small : (c : tie.After-struct-known) → c .before .before .before .before .before .before .before .before .before .before .before .before .before .class-of .result .back ≤ 32768
-back-small c = omega (arith, c .before .before .before .before .before .before .before .before .before .before .before .before .before .class-of .ensures .inside, c .before .before .before .before .before .before .before .before .before .before .before .before .before .before .before .before .before .pre .1, c .before .before .before .before .before .before .before .before .before .before .before .before .before .before .before .if1 .left)
+back-small c = omega (
+  arith,
+  c .before .before .before .before .before .before .before .before .before .before .before .before .before .class-of .ensures .inside,
+  c .before .before .before .before .before .before .before .before .before .before .before .before .before .before .before .before .before .pre .1,
+  c .before .before .before .before .before .before .before .before .before .before .before .before .before .before .before .if1 .left,
+)
 
 back-there : (c : tie.After-struct-known) → c .before .before .before .before .before .before .before .before .before .before .before .before .before .class-of .result .back +
     (2 * min (c .before .before .before .before .before .before .before .before .before .before .before .before .before .before .before .before .before .args .parts .count) 1 + c .before .before .before .before .before .before .before .before .before .before .before .tilde-size .result) ≤ c .before .before .before .before .tilde .result .top
@@ -68,7 +74,12 @@ back-there c =
     let u = c .before .before .before .before .before .before .before .before .separated .ensures in
     let a = puts-top (c .before .before .before .before .before .before .before .before .before .before .before .before .before .class-of .result .back)
     (c .before .before .before .before .before .before .before .before .before .before .before .before .before .before .before .before .before .pre .0 .3 .1 .text) u
-    (omega (arith, c .before .before .before .before .before .before .before .before .before .before .before .before .before .class-of .ensures .inside, c .before .before .before .before .before .before .before .before .before .before .before .before .before .before .before .before .before .pre .1, c .before .before .before .before .before .before .before .before .before .before .before .before .before .before .before .if1 .left))
+    (omega (
+      arith,
+      c .before .before .before .before .before .before .before .before .before .before .before .before .before .class-of .ensures .inside,
+      c .before .before .before .before .before .before .before .before .before .before .before .before .before .before .before .before .before .pre .1,
+      c .before .before .before .before .before .before .before .before .before .before .before .before .before .before .before .if1 .left,
+    ))
     (omega (arith, back-small c)) in
     let e = puts-top (c .before .before .before .before .before .before .before .before .before .before .before .before .before .class-of .result .back + length
     (before-part (c .before .before .before .before .before .before .before .before .before .before .before .before .before .before .before .before .before .args .parts .count)))

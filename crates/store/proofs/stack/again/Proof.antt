@@ -12,7 +12,10 @@ shift-requires : tie.Need-shift-requires
 shift-requires c κs = (omega arith, (omega arith, inr (omega arith)))
 
 returns : tie.Need-returns
-returns c = again-put (c .before .before .before .before .before .before .before .before .before .args .from) (c .before .before .before .before .before .before .before .before .before .args .n) (c .before .before .before .before .before .before .before .before .before .pre .0) (c .before .before .before .before .before .before .room .ensures) (c .before .before .before .before .before .before .before .before .before .pre .1 .0) (c .before .before .before .before .before .before .before .before .before .pre .1 .1 .0) (c .before .before .shift .ensures)
+returns c = again-put (c .before .before .before .before .before .before .before .before .before .args .from)
+    (c .before .before .before .before .before .before .before .before .before .args .n) (c .before .before .before .before .before .before .before .before .before .pre .0)
+    (c .before .before .before .before .before .before .room .ensures) (c .before .before .before .before .before .before .before .before .before .pre .1 .0)
+    (c .before .before .before .before .before .before .before .before .before .pre .1 .1 .0) (c .before .before .shift .ensures)
 
 pub again-spec : {M : Type 1} → statement M
 again-spec =

@@ -9,13 +9,20 @@ use Rattle.grammar.specs.Grammar.{reading, ⟨source-name⟩, class-type, type-
 use Rattle.grammar.specs.laws.Steps.{at-code-yes, at-code-no}
 use Rattle.parser.specs.laws.Holds.{by, got, answers, refused-on, short-enough}
 use Rattle.parser.specs.laws.Halves.{give-short}
-use Rattle.reader.proofs.cycle.+arg+args+array+at_s+class+func+instance+item+items+lit+loc_fn+local_name+member+name+name_inner+nest_ty+nested_name+operator+pack+part+plain+px+px_arg+px_new+std_prefixed+ty+ty_inner+unq+wrap.Proof.LawsJoin.{kept, push-refused, answer-as, narrow, stood, stands-top, instance-at}
+use Rattle.reader.proofs.cycle.+arg+args+array+at_s+class+func+instance+item+items+lit+loc_fn+local_name+member+name+name_inner+nest_ty+nested_name+operator+pack+part+plain+px+px_arg+px_new+std_prefixed+ty+ty_inner+unq+wrap.Proof.LawsJoin.{kept}
+use Rattle.reader.proofs.cycle.+arg+args+array+at_s+class+func+instance+item+items+lit+loc_fn+local_name+member+name+name_inner+nest_ty+nested_name+operator+pack+part+plain+px+px_arg+px_new+std_prefixed+ty+ty_inner+unq+wrap.Proof.LawsJoin.{push-refused}
+use Rattle.reader.proofs.cycle.+arg+args+array+at_s+class+func+instance+item+items+lit+loc_fn+local_name+member+name+name_inner+nest_ty+nested_name+operator+pack+part+plain+px+px_arg+px_new+std_prefixed+ty+ty_inner+unq+wrap.Proof.LawsJoin.{answer-as}
+use Rattle.reader.proofs.cycle.+arg+args+array+at_s+class+func+instance+item+items+lit+loc_fn+local_name+member+name+name_inner+nest_ty+nested_name+operator+pack+part+plain+px+px_arg+px_new+std_prefixed+ty+ty_inner+unq+wrap.Proof.LawsJoin.{narrow}
+use Rattle.reader.proofs.cycle.+arg+args+array+at_s+class+func+instance+item+items+lit+loc_fn+local_name+member+name+name_inner+nest_ty+nested_name+operator+pack+part+plain+px+px_arg+px_new+std_prefixed+ty+ty_inner+unq+wrap.Proof.LawsJoin.{stood}
+use Rattle.reader.proofs.cycle.+arg+args+array+at_s+class+func+instance+item+items+lit+loc_fn+local_name+member+name+name_inner+nest_ty+nested_name+operator+pack+part+plain+px+px_arg+px_new+std_prefixed+ty+ty_inner+unq+wrap.Proof.LawsJoin.{stands-top}
+use Rattle.reader.proofs.cycle.+arg+args+array+at_s+class+func+instance+item+items+lit+loc_fn+local_name+member+name+name_inner+nest_ty+nested_name+operator+pack+part+plain+px+px_arg+px_new+std_prefixed+ty+ty_inner+unq+wrap.Proof.LawsJoin.{instance-at}
 use Prim.Native.Nat.{ℕ}
 use borrow.Author.Needs.{needs}
 use native.Mathlib.Omega.{arith}
 use Rattle.reader.proofs.cycle.class.Reads as class
 use Rattle.reader.proofs.cycle.+arg+args+array+at_s+class+func+instance+item+items+lit+loc_fn+local_name+member+name+name_inner+nest_ty+nested_name+operator+pack+part+plain+px+px_arg+px_new+std_prefixed+ty+ty_inner+unq+wrap.Lts-class as lts
-use Rattle.reader.proofs.cycle.+arg+args+array+at_s+class+func+instance+item+items+lit+loc_fn+local_name+member+name+name_inner+nest_ty+nested_name+operator+pack+part+plain+px+px_arg+px_new+std_prefixed+ty+ty_inner+unq+wrap.Proof.Cycle.{class-at, class-calls}
+use Rattle.reader.proofs.cycle.+arg+args+array+at_s+class+func+instance+item+items+lit+loc_fn+local_name+member+name+name_inner+nest_ty+nested_name+operator+pack+part+plain+px+px_arg+px_new+std_prefixed+ty+ty_inner+unq+wrap.Proof.Cycle.{class-at}
+use Rattle.reader.proofs.cycle.+arg+args+array+at_s+class+func+instance+item+items+lit+loc_fn+local_name+member+name+name_inner+nest_ty+nested_name+operator+pack+part+plain+px+px_arg+px_new+std_prefixed+ty+ty_inner+unq+wrap.Proof.Cycle.{class-calls}
 
 -- a name that became an entry
 class-step : {x : Text} (σ : State) {σ₁ σ₂ : State} → reading ⟨source-name⟩ σ ≡ ok x σ₁ → push-sub x σ₁ ≡ ok tt σ₂ → class-type reading σ ≡ at-code ("I" ⇒ type-instance reading x ∷ []) (give x) σ₂

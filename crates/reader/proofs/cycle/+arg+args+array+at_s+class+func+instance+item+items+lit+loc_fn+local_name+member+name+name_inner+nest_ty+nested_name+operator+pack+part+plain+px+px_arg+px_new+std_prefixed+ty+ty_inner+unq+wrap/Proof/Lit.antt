@@ -6,13 +6,15 @@ use Rattle.parser.specs.declared.state.Parser.{Parser}
 use Rattle.parser.specs.Holds.{refuses}
 use Rattle.parser.specs.laws.Holds.{by}
 use Rattle.grammar.specs.laws.Places.{starts-inside}
-use Rattle.reader.specs.laws.Lits.{lit-none, lit-name-ready, lit-name-refused, lit-name-E, lit-name-open, lit-type-ready, lit-type-refused, lit-type-got, lit-open, lit-ready, lit-given}
+use Rattle.reader.specs.laws.Lits.{lit-none, lit-name-ready, lit-name-refused, lit-name-E, lit-name-open, lit-type-ready, lit-type-refused, lit-type-got}
+use Rattle.reader.specs.laws.Lits.{lit-open, lit-ready, lit-given}
 use Prim.Native.Nat.{ℕ}
 use borrow.Author.Needs.{needs}
 use native.Mathlib.Omega.{arith}
 use Rattle.reader.proofs.cycle.lit.Reads as lit
 use Rattle.reader.proofs.cycle.+arg+args+array+at_s+class+func+instance+item+items+lit+loc_fn+local_name+member+name+name_inner+nest_ty+nested_name+operator+pack+part+plain+px+px_arg+px_new+std_prefixed+ty+ty_inner+unq+wrap.Lts-lit as lts
-use Rattle.reader.proofs.cycle.+arg+args+array+at_s+class+func+instance+item+items+lit+loc_fn+local_name+member+name+name_inner+nest_ty+nested_name+operator+pack+part+plain+px+px_arg+px_new+std_prefixed+ty+ty_inner+unq+wrap.Proof.Cycle.{lit-at, lit-calls}
+use Rattle.reader.proofs.cycle.+arg+args+array+at_s+class+func+instance+item+items+lit+loc_fn+local_name+member+name+name_inner+nest_ty+nested_name+operator+pack+part+plain+px+px_arg+px_new+std_prefixed+ty+ty_inner+unq+wrap.Proof.Cycle.{lit-at}
+use Rattle.reader.proofs.cycle.+arg+args+array+at_s+class+func+instance+item+items+lit+loc_fn+local_name+member+name+name_inner+nest_ty+nested_name+operator+pack+part+plain+px+px_arg+px_new+std_prefixed+ty+ty_inner+unq+wrap.Proof.Cycle.{lit-calls}
 
 -- Stages: places that later facts cite. Each function goes from one to the one before it.
 module _ (t : ℕ) where

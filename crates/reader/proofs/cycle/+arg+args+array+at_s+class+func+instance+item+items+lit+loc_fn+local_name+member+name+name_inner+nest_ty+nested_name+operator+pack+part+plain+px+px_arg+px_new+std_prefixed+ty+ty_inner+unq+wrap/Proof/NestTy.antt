@@ -7,13 +7,15 @@ use Rattle.grammar.specs.Reader.{State, ok, onto, recorded}
 use Rattle.grammar.specs.Grammar.{reading, ⟨nested-name⟩, nested-type, last}
 use Rattle.parser.specs.Holds.{reads}
 use Rattle.parser.specs.laws.Holds.{by, got, refused-on}
-use Rattle.reader.proofs.cycle.+arg+args+array+at_s+class+func+instance+item+items+lit+loc_fn+local_name+member+name+name_inner+nest_ty+nested_name+operator+pack+part+plain+px+px_arg+px_new+std_prefixed+ty+ty_inner+unq+wrap.Proof.LawsJoin.{stood, stands-top}
+use Rattle.reader.proofs.cycle.+arg+args+array+at_s+class+func+instance+item+items+lit+loc_fn+local_name+member+name+name_inner+nest_ty+nested_name+operator+pack+part+plain+px+px_arg+px_new+std_prefixed+ty+ty_inner+unq+wrap.Proof.LawsJoin.{stood}
+use Rattle.reader.proofs.cycle.+arg+args+array+at_s+class+func+instance+item+items+lit+loc_fn+local_name+member+name+name_inner+nest_ty+nested_name+operator+pack+part+plain+px+px_arg+px_new+std_prefixed+ty+ty_inner+unq+wrap.Proof.LawsJoin.{stands-top}
 use Prim.Native.Nat.{ℕ}
 use borrow.Author.Needs.{needs}
 use native.Mathlib.Omega.{arith}
 use Rattle.reader.proofs.cycle.nest_ty.Reads as nest-ty
 use Rattle.reader.proofs.cycle.+arg+args+array+at_s+class+func+instance+item+items+lit+loc_fn+local_name+member+name+name_inner+nest_ty+nested_name+operator+pack+part+plain+px+px_arg+px_new+std_prefixed+ty+ty_inner+unq+wrap.Lts-nest_ty as lts
-use Rattle.reader.proofs.cycle.+arg+args+array+at_s+class+func+instance+item+items+lit+loc_fn+local_name+member+name+name_inner+nest_ty+nested_name+operator+pack+part+plain+px+px_arg+px_new+std_prefixed+ty+ty_inner+unq+wrap.Proof.Cycle.{nest-ty-at, nest-ty-calls}
+use Rattle.reader.proofs.cycle.+arg+args+array+at_s+class+func+instance+item+items+lit+loc_fn+local_name+member+name+name_inner+nest_ty+nested_name+operator+pack+part+plain+px+px_arg+px_new+std_prefixed+ty+ty_inner+unq+wrap.Proof.Cycle.{nest-ty-at}
+use Rattle.reader.proofs.cycle.+arg+args+array+at_s+class+func+instance+item+items+lit+loc_fn+local_name+member+name+name_inner+nest_ty+nested_name+operator+pack+part+plain+px+px_arg+px_new+std_prefixed+ty+ty_inner+unq+wrap.Proof.Cycle.{nest-ty-calls}
 
 -- a name that is the newest entry, and one that is not
 nested-old : (σ : State) {x : Text} {σ₁ : State} → reading ⟨nested-name⟩ σ ≡ ok x σ₁ → choose (last (σ₁ .subs)) (same x) false ≡ true → nested-type reading σ ≡ ok x σ₁

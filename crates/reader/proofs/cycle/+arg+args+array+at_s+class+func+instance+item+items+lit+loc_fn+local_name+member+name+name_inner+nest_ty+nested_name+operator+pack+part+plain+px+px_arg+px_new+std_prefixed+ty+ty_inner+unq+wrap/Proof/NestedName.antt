@@ -15,12 +15,14 @@ use Rattle.parser.specs.Holds.{mem, part, Holds, refuses, given-of}
 use Rattle.parser.specs.States.{cv-to, templated-to}
 use Rattle.grammar.specs.laws.Places.{starts-inside}
 use Rattle.parser.specs.laws.Holds.{by-state, holds-moved, by}
-use Rattle.reader.specs.laws.Nested.{no-parts, prefixes, named, nested-4, nested-open, from-start, Prefixing, prefixing-start, prefixing-more, prefixed-more, ready-for, prefixed-4, prefixed-E, prefixed-refuses, further}
+use Rattle.reader.specs.laws.Nested.{no-parts, prefixes, named, nested-4, nested-open, from-start, Prefixing, prefixing-start, prefixing-more}
+use Rattle.reader.specs.laws.Nested.{prefixed-more, ready-for, prefixed-4, prefixed-E, prefixed-refuses, further}
 use borrow.Author.Needs.{needs}
 use native.Mathlib.Omega.{arith}
 use Rattle.reader.proofs.cycle.nested_name.Reads as nested-name
 use Rattle.reader.proofs.cycle.+arg+args+array+at_s+class+func+instance+item+items+lit+loc_fn+local_name+member+name+name_inner+nest_ty+nested_name+operator+pack+part+plain+px+px_arg+px_new+std_prefixed+ty+ty_inner+unq+wrap.Lts-nested_name as lts
-use Rattle.reader.proofs.cycle.+arg+args+array+at_s+class+func+instance+item+items+lit+loc_fn+local_name+member+name+name_inner+nest_ty+nested_name+operator+pack+part+plain+px+px_arg+px_new+std_prefixed+ty+ty_inner+unq+wrap.Proof.Cycle.{nested-name-at, nested-name-calls}
+use Rattle.reader.proofs.cycle.+arg+args+array+at_s+class+func+instance+item+items+lit+loc_fn+local_name+member+name+name_inner+nest_ty+nested_name+operator+pack+part+plain+px+px_arg+px_new+std_prefixed+ty+ty_inner+unq+wrap.Proof.Cycle.{nested-name-at}
+use Rattle.reader.proofs.cycle.+arg+args+array+at_s+class+func+instance+item+items+lit+loc_fn+local_name+member+name+name_inner+nest_ty+nested_name+operator+pack+part+plain+px+px_arg+px_new+std_prefixed+ty+ty_inner+unq+wrap.Proof.Cycle.{nested-name-calls}
 
 abbrev pub Inv-loop : lts.InvT-loop
 Inv-loop s text₀ store₀ ends₀ at from to next₀ parts₀ text store ends next parts = Prefixing s (mem text₀ store₀ ends₀) next₀ (mem text store ends) next parts

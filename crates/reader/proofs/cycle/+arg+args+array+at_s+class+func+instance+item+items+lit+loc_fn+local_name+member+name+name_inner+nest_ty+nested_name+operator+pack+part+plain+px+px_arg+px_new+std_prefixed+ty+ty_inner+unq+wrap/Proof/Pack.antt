@@ -7,12 +7,14 @@ use Rattle.parser.specs.declared.state.Peeked.the-variants as peeked-as
 use Rattle.parser.specs.Holds.{mem, refuses}
 use Rattle.parser.specs.laws.Holds.{by, holds-puts}
 use Rattle.parser.specs.States.{peeked}
-use Rattle.reader.specs.laws.Packs.{Packing, packing, packing-start, packed-4, packed-opens, packed-closes, packed-more, packed-refuses, packed-ends, inside, inner-E, opens-J, outer-small, text-short, text-further}
+use Rattle.reader.specs.laws.Packs.{Packing, packing, packing-start, packed-4, packed-opens, packed-closes, packed-more, packed-refuses, packed-ends}
+use Rattle.reader.specs.laws.Packs.{inside, inner-E, opens-J, outer-small, text-short, text-further}
 use borrow.Author.Needs.{needs}
 use native.Mathlib.Omega.{arith}
 use Rattle.reader.proofs.cycle.pack.Reads as pack
 use Rattle.reader.proofs.cycle.+arg+args+array+at_s+class+func+instance+item+items+lit+loc_fn+local_name+member+name+name_inner+nest_ty+nested_name+operator+pack+part+plain+px+px_arg+px_new+std_prefixed+ty+ty_inner+unq+wrap.Lts-pack as lts
-use Rattle.reader.proofs.cycle.+arg+args+array+at_s+class+func+instance+item+items+lit+loc_fn+local_name+member+name+name_inner+nest_ty+nested_name+operator+pack+part+plain+px+px_arg+px_new+std_prefixed+ty+ty_inner+unq+wrap.Proof.Cycle.{pack-at, pack-calls}
+use Rattle.reader.proofs.cycle.+arg+args+array+at_s+class+func+instance+item+items+lit+loc_fn+local_name+member+name+name_inner+nest_ty+nested_name+operator+pack+part+plain+px+px_arg+px_new+std_prefixed+ty+ty_inner+unq+wrap.Proof.Cycle.{pack-at}
+use Rattle.reader.proofs.cycle.+arg+args+array+at_s+class+func+instance+item+items+lit+loc_fn+local_name+member+name+name_inner+nest_ty+nested_name+operator+pack+part+plain+px+px_arg+px_new+std_prefixed+ty+ty_inner+unq+wrap.Proof.Cycle.{pack-calls}
 
 abbrev pub Inv-loop : lts.InvT-loop
 Inv-loop s text₀ store₀ ends₀ next₀ outer₀ level₀ n₀ text store ends next outer level n = Packing s (mem text₀ store₀ ends₀) next₀ (mem text store ends) next outer level n

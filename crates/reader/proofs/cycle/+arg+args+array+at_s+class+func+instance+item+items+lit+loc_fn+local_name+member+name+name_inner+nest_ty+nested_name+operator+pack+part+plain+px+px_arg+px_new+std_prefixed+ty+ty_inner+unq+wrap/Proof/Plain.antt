@@ -10,13 +10,18 @@ use Rattle.grammar.specs.laws.Steps.{at-code-yes, at-code-no}
 use borrow.Author.Tests.{not-true, not-false}
 use Rattle.parser.specs.Holds.{reads}
 use Rattle.parser.specs.laws.Holds.{by, got, refused-on}
-use Rattle.reader.proofs.cycle.+arg+args+array+at_s+class+func+instance+item+items+lit+loc_fn+local_name+member+name+name_inner+nest_ty+nested_name+operator+pack+part+plain+px+px_arg+px_new+std_prefixed+ty+ty_inner+unq+wrap.Proof.LawsJoin.{kept, push-refused, stood, stands-top, instance-at}
+use Rattle.reader.proofs.cycle.+arg+args+array+at_s+class+func+instance+item+items+lit+loc_fn+local_name+member+name+name_inner+nest_ty+nested_name+operator+pack+part+plain+px+px_arg+px_new+std_prefixed+ty+ty_inner+unq+wrap.Proof.LawsJoin.{kept}
+use Rattle.reader.proofs.cycle.+arg+args+array+at_s+class+func+instance+item+items+lit+loc_fn+local_name+member+name+name_inner+nest_ty+nested_name+operator+pack+part+plain+px+px_arg+px_new+std_prefixed+ty+ty_inner+unq+wrap.Proof.LawsJoin.{push-refused}
+use Rattle.reader.proofs.cycle.+arg+args+array+at_s+class+func+instance+item+items+lit+loc_fn+local_name+member+name+name_inner+nest_ty+nested_name+operator+pack+part+plain+px+px_arg+px_new+std_prefixed+ty+ty_inner+unq+wrap.Proof.LawsJoin.{stood}
+use Rattle.reader.proofs.cycle.+arg+args+array+at_s+class+func+instance+item+items+lit+loc_fn+local_name+member+name+name_inner+nest_ty+nested_name+operator+pack+part+plain+px+px_arg+px_new+std_prefixed+ty+ty_inner+unq+wrap.Proof.LawsJoin.{stands-top}
+use Rattle.reader.proofs.cycle.+arg+args+array+at_s+class+func+instance+item+items+lit+loc_fn+local_name+member+name+name_inner+nest_ty+nested_name+operator+pack+part+plain+px+px_arg+px_new+std_prefixed+ty+ty_inner+unq+wrap.Proof.LawsJoin.{instance-at}
 use Prim.Native.Nat.{ℕ}
 use borrow.Author.Needs.{needs}
 use native.Mathlib.Omega.{arith}
 use Rattle.reader.proofs.cycle.plain.Reads as plain
 use Rattle.reader.proofs.cycle.+arg+args+array+at_s+class+func+instance+item+items+lit+loc_fn+local_name+member+name+name_inner+nest_ty+nested_name+operator+pack+part+plain+px+px_arg+px_new+std_prefixed+ty+ty_inner+unq+wrap.Lts-plain as lts
-use Rattle.reader.proofs.cycle.+arg+args+array+at_s+class+func+instance+item+items+lit+loc_fn+local_name+member+name+name_inner+nest_ty+nested_name+operator+pack+part+plain+px+px_arg+px_new+std_prefixed+ty+ty_inner+unq+wrap.Proof.Cycle.{plain-at, plain-calls}
+use Rattle.reader.proofs.cycle.+arg+args+array+at_s+class+func+instance+item+items+lit+loc_fn+local_name+member+name+name_inner+nest_ty+nested_name+operator+pack+part+plain+px+px_arg+px_new+std_prefixed+ty+ty_inner+unq+wrap.Proof.Cycle.{plain-at}
+use Rattle.reader.proofs.cycle.+arg+args+array+at_s+class+func+instance+item+items+lit+loc_fn+local_name+member+name+name_inner+nest_ty+nested_name+operator+pack+part+plain+px+px_arg+px_new+std_prefixed+ty+ty_inner+unq+wrap.Proof.Cycle.{plain-calls}
 
 -- a name that was read
 unscoped-step : (σ : State) {x : Text} {σ₁ : State} → reading ⟨unqualified-name⟩ σ ≡ ok x σ₁ → unscoped-name reading σ ≡ at-code ("I" ⇒ _>>_ (push-sub x) (name-instance reading x) ∷ []) (return x) σ₁

@@ -14,14 +14,18 @@ use Rattle.grammar.specs.laws.Steps.{at-code-yes, at-code-no}
 use Rattle.parser.specs.laws.Holds.{by, got, refused-on}
 use Rattle.parser.specs.laws.Adds.{stack-by, puts-at}
 use Rattle.grammar.specs.laws.Runs.{need-here}
-use Rattle.reader.proofs.cycle.+arg+args+array+at_s+class+func+instance+item+items+lit+loc_fn+local_name+member+name+name_inner+nest_ty+nested_name+operator+pack+part+plain+px+px_arg+px_new+std_prefixed+ty+ty_inner+unq+wrap.Proof.LawsJoin.{kept, push-refused, stands-top, instance-at}
+use Rattle.reader.proofs.cycle.+arg+args+array+at_s+class+func+instance+item+items+lit+loc_fn+local_name+member+name+name_inner+nest_ty+nested_name+operator+pack+part+plain+px+px_arg+px_new+std_prefixed+ty+ty_inner+unq+wrap.Proof.LawsJoin.{kept}
+use Rattle.reader.proofs.cycle.+arg+args+array+at_s+class+func+instance+item+items+lit+loc_fn+local_name+member+name+name_inner+nest_ty+nested_name+operator+pack+part+plain+px+px_arg+px_new+std_prefixed+ty+ty_inner+unq+wrap.Proof.LawsJoin.{push-refused}
+use Rattle.reader.proofs.cycle.+arg+args+array+at_s+class+func+instance+item+items+lit+loc_fn+local_name+member+name+name_inner+nest_ty+nested_name+operator+pack+part+plain+px+px_arg+px_new+std_prefixed+ty+ty_inner+unq+wrap.Proof.LawsJoin.{stands-top}
+use Rattle.reader.proofs.cycle.+arg+args+array+at_s+class+func+instance+item+items+lit+loc_fn+local_name+member+name+name_inner+nest_ty+nested_name+operator+pack+part+plain+px+px_arg+px_new+std_prefixed+ty+ty_inner+unq+wrap.Proof.LawsJoin.{instance-at}
 use Rattle.reader.specs.laws.Standing.{given-as, word-holds, word-joined}
 use Prim.Native.Nat.{ℕ}
 use borrow.Author.Needs.{needs}
 use native.Mathlib.Omega.{arith}
 use Rattle.reader.proofs.cycle.std_prefixed.Reads as std-prefixed
 use Rattle.reader.proofs.cycle.+arg+args+array+at_s+class+func+instance+item+items+lit+loc_fn+local_name+member+name+name_inner+nest_ty+nested_name+operator+pack+part+plain+px+px_arg+px_new+std_prefixed+ty+ty_inner+unq+wrap.Lts-std_prefixed as lts
-use Rattle.reader.proofs.cycle.+arg+args+array+at_s+class+func+instance+item+items+lit+loc_fn+local_name+member+name+name_inner+nest_ty+nested_name+operator+pack+part+plain+px+px_arg+px_new+std_prefixed+ty+ty_inner+unq+wrap.Proof.Cycle.{std-prefixed-at, std-prefixed-calls}
+use Rattle.reader.proofs.cycle.+arg+args+array+at_s+class+func+instance+item+items+lit+loc_fn+local_name+member+name+name_inner+nest_ty+nested_name+operator+pack+part+plain+px+px_arg+px_new+std_prefixed+ty+ty_inner+unq+wrap.Proof.Cycle.{std-prefixed-at}
+use Rattle.reader.proofs.cycle.+arg+args+array+at_s+class+func+instance+item+items+lit+loc_fn+local_name+member+name+name_inner+nest_ty+nested_name+operator+pack+part+plain+px+px_arg+px_new+std_prefixed+ty+ty_inner+unq+wrap.Proof.Cycle.{std-prefixed-calls}
 
 -- what is done with the name behind St
 abbrev std-rest : Text → Reader Text

@@ -5,7 +5,8 @@ use Rattle.grammar.specs.Text.{b}
 use Rattle.grammar.specs.Tables.{d-letters}
 use Rattle.grammar.specs.Reader.{by-code, give, refused}
 use Rattle.grammar.specs.Grammar.{reading, ⟨template-param⟩, type-inner, nested-type, s-type, class-type}
-use Rattle.grammar.specs.laws.Steps.{from-text, same-from, inner-end, inner-letter, inner-A, inner-F, inner-M, inner-D, inner-u, inner-N, inner-T, inner-S, inner-class, inner-wrapper, inner-4}
+use Rattle.grammar.specs.laws.Steps.{from-text, same-from, inner-end, inner-letter, inner-A, inner-F, inner-M, inner-D, inner-u, inner-N, inner-T, inner-S}
+use Rattle.grammar.specs.laws.Steps.{inner-class, inner-wrapper, inner-4}
 use Rattle.parser.specs.Holds.{refuses, keep}
 use Rattle.parser.specs.laws.Holds.{by, less, sooner}
 use Rattle.parser.specs.laws.Adds.{ready-moved, reads-moved, stack-by}
@@ -17,7 +18,8 @@ use borrow.Author.Needs.{needs}
 use native.Mathlib.Omega.{arith}
 use Rattle.reader.proofs.cycle.ty_inner.Reads as ty-inner
 use Rattle.reader.proofs.cycle.+arg+args+array+at_s+class+func+instance+item+items+lit+loc_fn+local_name+member+name+name_inner+nest_ty+nested_name+operator+pack+part+plain+px+px_arg+px_new+std_prefixed+ty+ty_inner+unq+wrap.Lts-ty_inner as lts
-use Rattle.reader.proofs.cycle.+arg+args+array+at_s+class+func+instance+item+items+lit+loc_fn+local_name+member+name+name_inner+nest_ty+nested_name+operator+pack+part+plain+px+px_arg+px_new+std_prefixed+ty+ty_inner+unq+wrap.Proof.Cycle.{ty-inner-at, ty-inner-calls}
+use Rattle.reader.proofs.cycle.+arg+args+array+at_s+class+func+instance+item+items+lit+loc_fn+local_name+member+name+name_inner+nest_ty+nested_name+operator+pack+part+plain+px+px_arg+px_new+std_prefixed+ty+ty_inner+unq+wrap.Proof.Cycle.{ty-inner-at}
+use Rattle.reader.proofs.cycle.+arg+args+array+at_s+class+func+instance+item+items+lit+loc_fn+local_name+member+name+name_inner+nest_ty+nested_name+operator+pack+part+plain+px+px_arg+px_new+std_prefixed+ty+ty_inner+unq+wrap.Proof.Cycle.{ty-inner-calls}
 
 -- Stages: places that later facts cite. Each function goes from one to the one before it.
 module _ (t : ℕ) where
