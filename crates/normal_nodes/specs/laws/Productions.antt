@@ -13,7 +13,7 @@ use Rattle.catalogue.specs.Spelling.{name-bytes}
 use Rattle.catalogue.specs.Class.{stands, push, last-is, push-new}
 use Rattle.catalogue.specs.Recogniser.{if-next, Lead, lead-letter, lead-wrap, lead-digit, leadS, leadN, leadL, leadNone}
 use Rattle.normal_walk.specs.Walk.{Walk, Walker, got, bad, when, with, name, reference, literal, lit-bytes, wrote, in-brackets, with-args, enter, enter-nested, at-lead, at-parts, end-or, at-more, at-arg}
-use Rattle.normal_walk.specs.laws.Holds.{OfRd}
+use Rattle.normal_walk.specs.laws.Joins.{OfRd}
 use Rattle.normal_walk.specs.laws.Leaves.{Literal, lit-sound, Begins}
 use Rattle.normal_nodes.specs.Nodes.{Node, Notes, Noter, Got, next as next-note, when as when-note, note-at-name, at-reference, root-node, sub-node, arg-node, wrap-node, lit-node, number-of, tag-of, may-stand, go-to, put, noted, settled, entered, entered-nested, note-with-args, note-at-lead, note-at-parts, note-end-or, note-at-more, note-at-arg}
 use Rattle.normal_nodes.specs.laws.Numbers.{Den, snoc, NodeIs, ext-refl, note, first-arg, next-arg, tag-bare, tag-class, tag-root, tag-sub, tag-stands, newest-is, entry-is}

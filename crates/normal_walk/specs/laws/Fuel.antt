@@ -15,7 +15,7 @@ use Rattle.catalogue.specs.Spelling.{name-bytes}
 use Rattle.catalogue.specs.Class.{push}
 use Rattle.catalogue.specs.Recogniser.{Rd, rd, stop, if-next, Lead, lead-letter, lead-wrap, lead-digit, leadS, leadN, leadL, leadNone, lead}
 use Rattle.normal_walk.specs.Walk.{Walk, got, bad, Walker, next, when, with, name, reference, wrote, in-brackets, with-args, enter, end-or, at-lead, at-parts, at-more, at-arg, at-end, walkType, walk-parts, walk-more, walk-args, walk-types}
-use Rattle.normal_walk.specs.laws.Holds.{OfRd, Claim, Of}
+use Rattle.normal_walk.specs.laws.Joins.{OfRd, Claim, Of}
 use Rattle.normal_walk.specs.laws.Fewer.{Fewer, name-fewer, ref-fewer, type-fewer, args-fewer}
 
 -- ---------------------------------------------------------------- joined readings that agree
