@@ -9,3 +9,4 @@ pub mod Steps
 pub mod NameSteps
 pub mod Examples
 pub mod Loops
+pub mod Decimals

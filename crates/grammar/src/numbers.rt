@@ -1,8 +1,9 @@
-// Numbers in a base, read from the bytes of a symbol.
+// Numbers in a base, read from the bytes of a symbol; and written in decimal.
 ghost use mathlib.Core.Path.{_≡_};
 ghost use Prim.Native.Nat.{_+_, _*_, _≤_, min};
+ghost use lib.ListN.{length};
 ghost use Rattle.grammar.specs.Text.{digit-value};
-ghost use Rattle.grammar.specs.Numbers.{most, Numbered};
+ghost use Rattle.grammar.specs.Numbers.{most, Numbered, decimal-size, Decimal};
 
 pub struct Number {
     pub value: u64,
@@ -66,4 +67,21 @@ pub fn seq_id(s: &[u8], at: usize) -> Number
     ensures { λ r. ⌜ Numbered 36 (now (s .entry)) at r ⌝ }
 {
     digits(s, at, 36)
+}
+
+// The digits of n, the last of them before `end`. Returned is the place of the first.
+pub fn write_decimal(out: &mut [u8], end: usize, n: u64) -> usize
+    requires { ⌜ (decimal-size n ≤ end) × (end ≤ length (now out)) ⌝ }
+    ensures { λ r. ⌜ Decimal n end (now (out .entry)) (now (out .exit)) r ⌝ }
+{
+    let mut from = end;
+    let mut rest = n;
+    while 10 <= rest {
+        from -= 1;
+        out[from] = 48 + (rest % 10) as u8;
+        rest = rest / 10;
+    }
+    let first = from - 1;
+    out[first] = 48 + rest as u8;
+    first
 }

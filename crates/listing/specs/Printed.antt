@@ -1,30 +1,11 @@
 -- What the functions that write a line leave, and the laws of it. Assumes nothing.
-use mathlib.Core.List.{_++_}
 use mathlib.Core.Path.{_≡_}
-use Prim.Native.Nat.{ℕ, _+_, _-_, _^_, _≤_, _<_}
+use Prim.Native.Nat.{ℕ, _+_, _-_}
 use lib.Dec.{leb}
 use lib.ListN.{length, drop}
 use lib.Seq.{paste}
-use Rattle.grammar.specs.Text.{Text, if_then_else_, decimal}
+use Rattle.grammar.specs.Text.{Text, if_then_else_}
 use Rattle.listing.specs.Listing.{head}
-
--- ---------------------------------------------------------------- digits
-
--- the digits of n stand in the list l' from r on, and behind them what l has from `end` on
-pub record Digits (n end : ℕ) (l l' : Text) (r : ℕ) : Type 0 where
-  pub low : end ≤ r + 5
-  pub below : r < end
-  pub is : drop r l' ≡ decimal 5 n ++ drop end l
-
--- the last digits of n stand from `from` on; those of `rest`, of which there are no more than `left`, go before them
-pub record Begun (n end : ℕ) (l l' : Text) (from rest : ℕ) : Type 0 where
-  pub left : ℕ
-  pub some : 1 ≤ left
-  pub most : left ≤ 5
-  pub place : from + 5 ≡ end + left
-  pub low : rest < 10 ^ left
-  pub size : length l' ≡ length l
-  pub is : decimal 5 n ++ drop end l ≡ decimal left rest ++ drop from l'
 
 -- ---------------------------------------------------------------- the head of a line
 

@@ -4,6 +4,7 @@ use demangle::entry::Answer;
 use demangle::entry::clear;
 use demangle::entry::demangle_uncleared;
 use demangle::symbol;
+use grammar::numbers;
 use grammar::text;
 use normalize::entry::normalize_uncleared;
 use store::stack;
@@ -13,7 +14,7 @@ ghost use lib.ListN.{length};
 ghost use Rattle.demangle.specs.Outcome.{slices, number-in, bytes-in};
 ghost use Rattle.demangle.specs.Printed.{Tells};
 ghost use Rattle.listing.specs.Listing.{line, answer-of, listing-line, fitting, lines, least-ends-of, sized, Lists};
-ghost use Rattle.listing.specs.Printed.{Digits, Heads, Printed};
+ghost use Rattle.listing.specs.Printed.{Heads, Printed};
 ghost use Rattle.listing.specs.Lines.{Goes};
 ghost use Rattle.listing.specs.Kinds.{Sized};
 ghost use Rattle.listing.specs.Entry.{taken-lines};
@@ -33,33 +34,16 @@ pub struct Listed {
     pub written: usize,
 }
 
-// The digits of n, the last of them before `end`. Returned is the place of the first.
-fn write_decimal(out: &mut [u8], end: usize, n: usize) -> usize
-    requires { ⌜ (n < 100000) × ((5 ≤ end) × (end ≤ length (now out))) ⌝ }
-    ensures { λ r. ⌜ Digits n end (now (out .entry)) (now (out .exit)) r ⌝ }
-{
-    let mut from = end;
-    let mut rest = n;
-    while 10 <= rest {
-        from -= 1;
-        out[from] = 48 + (rest % 10) as u8;
-        rest = rest / 10;
-    }
-    let first = from - 1;
-    out[first] = 48 + rest as u8;
-    first
-}
-
 // Number and length, each with its comma, at the end of the 12 bytes. Returned is where they begin.
 fn write_head(out: &mut [u8], number: usize, bytes: usize) -> usize
     requires { ⌜ (length (now out) ≡ 12) × ((number < 100000) × (bytes < 100000)) ⌝ }
     ensures { λ r. ⌜ Heads number bytes (now (out .exit)) r ⌝ }
 {
     out[11] = b',';
-    let second = write_decimal(out, 11, bytes);
+    let second = numbers::write_decimal(out, 11, bytes as u64);
     let comma = second - 1;
     out[comma] = b',';
-    write_decimal(out, comma, number)
+    numbers::write_decimal(out, comma, number as u64)
 }
 
 // The line with the number and the name, into `out` from `at` on. Returned is its length, or 0 where it does not fit.

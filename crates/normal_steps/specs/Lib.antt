@@ -2,9 +2,9 @@ pub mod Parts
 pub mod Alphabets
 pub mod Answers
 pub mod Leads
-pub mod Written
+pub mod WrittenAt
 pub mod States
-pub mod Holds
+pub mod Carries
 pub mod Seeks
 pub mod Rows
 pub mod Regions

@@ -2,8 +2,8 @@
 use mathlib.Core.List.{List, [], _∷_}
 use Prim.Native.Nat.{ℕ, zero, suc, _+_, _-_}
 use lib.ListN.{drop, getD}
-use Rattle.normal_steps.specs.Holds.{Row}
-use Rattle.normal_steps.specs.laws.Holds.{row}
+use Rattle.normal_steps.specs.Carries.{Row}
+use Rattle.normal_steps.specs.laws.Carries.{row}
 
 -- the node at a place
 abbrev pub row-at : List ℕ → ℕ → Row

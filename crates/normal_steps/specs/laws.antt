@@ -15,5 +15,5 @@ pub mod Parts
 pub mod Regions
 pub mod Rows
 pub mod Seeks
-pub mod Written
-pub mod Holds
+pub mod WrittenAt
+pub mod Carries

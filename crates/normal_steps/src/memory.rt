@@ -15,7 +15,7 @@ ghost use Rattle.catalogue.specs.Spelling.{name-bytes};
 ghost use Rattle.normal_nodes.specs.Nodes.{Notes, node, same-node, note-last-is, settled, pushed};
 ghost use Rattle.normal_steps.specs.Parts.{part};
 ghost use Rattle.normal_steps.specs.Seeks.{Sought};
-ghost use Rattle.normal_steps.specs.Holds.{Work, work, notes-to, Holds, Ready, ReadyNotes, Tag, Room, Steps, Does, Puts, Inside, node-in, nodes-in, notes-node, most-number};
+ghost use Rattle.normal_steps.specs.Carries.{Work, work, notes-to, Carries, Ready, ReadyNotes, Tag, Room, Steps, Does, Puts, Inside, node-in, nodes-in, notes-node, most-number};
 ghost use Rattle.normal_steps.specs.Rows.{row-at, rows-of};
 
 // A byte is written.
@@ -67,7 +67,7 @@ pub fn tag_of(notes: &[u16], p: Writer, d: usize) -> usize
 // The number of entry i of the table.
 pub fn entry(notes: &[u16], p: Writer, i: usize) -> usize
     requires { ⌜ (i < p .table) × ((s : Text) × ReadyNotes s (now notes) p) ⌝ }
-    ensures { λ r. ⌜ ((s : Text) (ws : Work) (σ : Notes) → Holds s (notes-to ws (now (notes .entry))) p σ → (getElem? (σ .table) i ≡ some r) × (r < most-number)) ⌝ }
+    ensures { λ r. ⌜ ((s : Text) (ws : Work) (σ : Notes) → Carries s (notes-to ws (now (notes .entry))) p σ → (getElem? (σ .table) i ≡ some r) × (r < most-number)) ⌝ }
 {
     notes[Writer::TABLE + i] as usize
 }
@@ -75,7 +75,7 @@ pub fn entry(notes: &[u16], p: Writer, i: usize) -> usize
 // Whether the newest entry of the table is d.
 pub fn newest(notes: &[u16], p: Writer, d: usize) -> bool
     requires { ⌜ ((s : Text) × ReadyNotes s (now notes) p) ⌝ }
-    ensures { λ r. ⌜ ((s : Text) (ws : Work) (σ : Notes) → Holds s (notes-to ws (now (notes .entry))) p σ → r ≡ note-last-is d (σ .table)) ⌝ }
+    ensures { λ r. ⌜ ((s : Text) (ws : Work) (σ : Notes) → Carries s (notes-to ws (now (notes .entry))) p σ → r ≡ note-last-is d (σ .table)) ⌝ }
 {
     let n = p.table;
     if n == 0 {

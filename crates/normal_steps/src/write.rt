@@ -1,4 +1,5 @@
 // References and source names, written.
+use grammar::numbers;
 use grammar::text;
 ghost use mathlib.Core.Path.{_≡_};
 ghost use Prim.Native.Nat.{suc, _+_, _-_, _≤_, _<_};
@@ -6,7 +7,7 @@ ghost use lib.ListN.{length};
 ghost use Rattle.grammar.specs.Text.{decimal};
 ghost use Rattle.catalogue.specs.Spelling.{digit-of, ref-bytes, name-bytes};
 ghost use Rattle.normal_steps.specs.Parts.{part};
-ghost use Rattle.normal_steps.specs.Written.{Wrote};
+ghost use Rattle.normal_steps.specs.WrittenAt.{WrittenAt};
 
 // A digit or a capital.
 fn digit_of(d: usize) -> u8
@@ -23,7 +24,7 @@ fn digit_of(d: usize) -> u8
 // The reference to entry i.
 pub fn write_reference(out: &mut [u8], at: usize, i: usize) -> usize
     requires { ⌜ (i ≤ 4096) × (at + length (ref-bytes i) ≤ length (now out)) ⌝ }
-    ensures { λ r. ⌜ Wrote (now (out .entry)) (now (out .exit)) at r (ref-bytes i) ⌝ }
+    ensures { λ r. ⌜ WrittenAt (now (out .entry)) (now (out .exit)) at r (ref-bytes i) ⌝ }
 {
     out[at] = b'S';
     if i == 0 {
@@ -49,38 +50,38 @@ pub fn write_reference(out: &mut [u8], at: usize, i: usize) -> usize
     at + 5
 }
 
+// How many digits a number has, four at most.
+fn decimal_length(n: usize) -> usize
+    requires { ⌜ n < 10000 ⌝ }
+    ensures { λ r. ⌜ r ≡ length (decimal (suc n) n) ⌝ }
+{
+    if n < 10 {
+        return 1;
+    }
+    if n < 100 {
+        return 2;
+    }
+    if n < 1000 {
+        return 3;
+    }
+    4
+}
+
 // A number of at most four digits.
 fn write_decimal(out: &mut [u8], at: usize, n: usize) -> usize
     requires { ⌜ (n < 10000) × (at + length (decimal (suc n) n) ≤ length (now out)) ⌝ }
-    ensures { λ r. ⌜ Wrote (now (out .entry)) (now (out .exit)) at r (decimal (suc n) n) ⌝ }
+    ensures { λ r. ⌜ WrittenAt (now (out .entry)) (now (out .exit)) at r (decimal (suc n) n) ⌝ }
 {
-    if n < 10 {
-        out[at] = 48 + n as u8;
-        return at + 1;
-    }
-    if n < 100 {
-        out[at] = 48 + (n / 10) as u8;
-        out[at + 1] = 48 + (n % 10) as u8;
-        return at + 2;
-    }
-    if n < 1000 {
-        out[at] = 48 + (n / 10 / 10) as u8;
-        out[at + 1] = 48 + (n / 10 % 10) as u8;
-        out[at + 2] = 48 + (n % 10) as u8;
-        return at + 3;
-    }
-    out[at] = 48 + (n / 10 / 10 / 10) as u8;
-    out[at + 1] = 48 + (n / 10 / 10 % 10) as u8;
-    out[at + 2] = 48 + (n / 10 % 10) as u8;
-    out[at + 3] = 48 + (n % 10) as u8;
-    at + 4
+    let end = at + decimal_length(n);
+    numbers::write_decimal(out, end, n as u64);
+    end
 }
 
 // The length of an identifier and its bytes.
 pub fn write_name(out: &mut [u8], at: usize, s: &[u8], from: usize, to: usize) -> usize
     requires { ⌜ (from ≤ to) × ((to ≤ length (now s)) × ((to - from ≤ 4096)
         × (at + length (name-bytes (part (now s) from to)) ≤ length (now out)))) ⌝ }
-    ensures { λ r. ⌜ Wrote (now (out .entry)) (now (out .exit)) at r (name-bytes (part (now (s .entry)) from to)) ⌝ }
+    ensures { λ r. ⌜ WrittenAt (now (out .entry)) (now (out .exit)) at r (name-bytes (part (now (s .entry)) from to)) ⌝ }
 {
     let n = to - from;
     let next = write_decimal(out, at, n);

@@ -2,12 +2,12 @@
 pub mod Examples
 pub mod Table
 pub mod Digits
-pub mod Holds
+pub mod Joins
 pub mod Leaves
 pub mod Fewer
 pub mod Fuel
 pub mod Steps
-pub mod Written
+pub mod NormalSpelling
 pub mod Complete
 pub mod SymbolComplete
 pub mod Sound

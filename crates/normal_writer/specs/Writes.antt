@@ -9,23 +9,23 @@ use Rattle.grammar.specs.Text.{Text}
 use Rattle.catalogue.specs.Spelling.{name-bytes}
 use Rattle.normal_walk.specs.Walk.{name}
 use Rattle.normal_nodes.specs.Nodes.{Notes, notes, Got, got, bad, with, begun, note-at-scoped, at-function, note-at-end, note-parts, note-types}
-use Rattle.normal_steps.specs.Holds.{Work, out-to, Holds}
+use Rattle.normal_steps.specs.Carries.{Work, out-to, Carries}
 use Rattle.normal_steps.specs.declared.state.Writer.{Writer}
 use Rattle.normal_writer.specs.declared.symbol.Headed.{Headed}
 use Rattle.normal_writer.specs.declared.symbol.Headed.the-variants.{Name, Bad as no-name}
-use Rattle.normal_writer.specs.declared.symbol.Written.{Written}
-use Rattle.normal_writer.specs.declared.symbol.Written.the-variants.{Symbol, Bad}
+use Rattle.normal_writer.specs.declared.symbol.Finished.{Finished}
+use Rattle.normal_writer.specs.declared.symbol.Finished.the-variants.{Symbol, Bad}
 
 -- the normal symbol stands in `out`, and the state says what is used of the slices
-pub data Writes (s : Text) (ws : Work) : Written → Option Text → Type 0 where
-  writes : {p : Writer} {σ : Notes} → Holds s ws p σ → Writes s ws (Symbol p) (some (σ .out))
+pub data Writes (s : Text) (ws : Work) : Finished → Option Text → Type 0 where
+  writes : {p : Writer} {σ : Notes} → Carries s ws p σ → Writes s ws (Symbol p) (some (σ .out))
   outside : Writes s ws Bad none
 
 -- ---------------------------------------------------------------- names
 
 -- a function's name was written, and whether it has a K
 pub data Heads (s : Text) (ws : Work) : Headed → Got Bool → Type 0 where
-  heads : {p : Writer} {k : Bool} {σ : Notes} → Holds s ws p σ → 2 ≤ p .at → Heads s ws (Name p k) (got k σ)
+  heads : {p : Writer} {k : Bool} {σ : Notes} → Carries s ws p σ → 2 ≤ p .at → Heads s ws (Name p k) (got k σ)
   nameless : Heads s ws no-name bad
 
 -- a source name behind _Z
@@ -47,11 +47,11 @@ Functions s ws' r = (m : ℕ) → length s ≤ m + 3 → Heads s ws' r (at-funct
 -- ---------------------------------------------------------------- types
 
 -- the types to the end were written
-pub data Ended (s : Text) (ws : Work) : Written → Got (Unit {0}) → Type 0 where
-  ended : {p : Writer} {σ : Notes} → Holds s ws p σ → Ended s ws (Symbol p) (got tt σ)
+pub data Ended (s : Text) (ws : Work) : Finished → Got (Unit {0}) → Type 0 where
+  ended : {p : Writer} {σ : Notes} → Carries s ws p σ → Ended s ws (Symbol p) (got tt σ)
   broken : Ended s ws Bad bad
 
 -- none, where nothing is left
-abbrev pub Types : Text → Work → Work → Writer → Written → Type 0
+abbrev pub Types : Text → Work → Work → Writer → Finished → Type 0
 Types s ws ws' p r =
-    (σ : Notes) → Holds s ws p σ → (m : ℕ) → length s + 1 ≤ m + p .at → Ended s ws' r (note-at-end σ (σ .rest) (λ ρ. note-types m ρ))
+    (σ : Notes) → Carries s ws p σ → (m : ℕ) → length s + 1 ≤ m + p .at → Ended s ws' r (note-at-end σ (σ .rest) (λ ρ. note-types m ρ))

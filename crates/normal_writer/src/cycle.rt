@@ -12,7 +12,7 @@ ghost use lib.ListN.{length};
 ghost use Rattle.catalogue.specs.Tree.{Wrap};
 ghost use Rattle.catalogue.specs.Recogniser.{lead-wrap, lead-digit, lead-S, lead-N};
 ghost use Rattle.normal_nodes.specs.Nodes.{note-type, note-args, note-parts, note-more};
-ghost use Rattle.normal_steps.specs.Holds.{work, Ready, Fueled, most-number};
+ghost use Rattle.normal_steps.specs.Carries.{work, Ready, Fueled, most-number};
 ghost use Rattle.normal_writer.specs.Cycle.{Leads, WithArgs};
 
 // <type>, <template-arg>

@@ -13,11 +13,11 @@ ghost use lib.ListN.{length};
 ghost use Rattle.store.specs.Table.{Front};
 ghost use Rattle.normal_nodes.specs.Nodes.{note-symbol};
 ghost use Rattle.normal_steps.specs.States.{begun-at};
-ghost use Rattle.normal_steps.specs.Holds.{work, Ready};
+ghost use Rattle.normal_steps.specs.Carries.{work, Ready};
 ghost use Rattle.normal_writer.specs.Writes.{Plain, Scoped, Functions, Types, Writes};
 
 // The normal symbol is written; or the symbol is outside the class.
-pub enum Written {
+pub enum Finished {
     Symbol(Writer),
     Bad,
 }
@@ -81,44 +81,44 @@ fn function(s: &[u8], out: &mut [u8], notes: &mut [u16]) -> Headed
 }
 
 // <type>+ to the end
-fn types(s: &[u8], out: &mut [u8], notes: &mut [u16], p: Writer) -> Written
+fn types(s: &[u8], out: &mut [u8], notes: &mut [u16], p: Writer) -> Finished
     requires { ⌜ Ready (now s) (work (now out) (now notes)) p ⌝ }
     ensures { λ r. ⌜ Types (now (s .entry)) (work (now (out .entry)) (now (notes .entry))) (work (now (out .exit)) (now (notes .exit))) p r ⌝ }
 {
     let mut next = p;
     while next.at < s.len() {
         let Told::Number(q, t) = cycle::ty(s, out, notes, next) else {
-            return Written::Bad;
+            return Finished::Bad;
         };
         if memory::tag_of(notes, q, t) == b'L' as usize {
-            return Written::Bad;
+            return Finished::Bad;
         }
         next = q;
     }
-    Written::Symbol(next)
+    Finished::Symbol(next)
 }
 
 // <encoding> ::= <name> [<type>+]; at most 1,024 arguments
-pub fn write_symbol(s: &[u8], out: &mut [u8], notes: &mut [u16]) -> Written
+pub fn write_symbol(s: &[u8], out: &mut [u8], notes: &mut [u16]) -> Finished
     requires { ⌜ (length (now s) ≤ 4096) × ((length (now out) ≡ 65536) × (length (now notes) ≡ 24576)) ⌝ }
     ensures { λ r. ⌜ Writes (now (s .entry)) (work (now (out .exit)) (now (notes .exit))) r (note-symbol (now (s .entry))) ⌝ }
 {
     if !bytes::starts_with(s, 0, b"_Z") {
-        return Written::Bad;
+        return Finished::Bad;
     }
     let Headed::Name(p, constant) = function(s, out, notes) else {
-        return Written::Bad;
+        return Finished::Bad;
     };
     if constant {
         if s.len() <= p.at {
-            return Written::Bad;
+            return Finished::Bad;
         }
     }
-    let Written::Symbol(q) = types(s, out, notes, p) else {
-        return Written::Bad;
+    let Finished::Symbol(q) = types(s, out, notes, p) else {
+        return Finished::Bad;
     };
     if 1024 < q.args {
-        return Written::Bad;
+        return Finished::Bad;
     }
-    Written::Symbol(q)
+    Finished::Symbol(q)
 }

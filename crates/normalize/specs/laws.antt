@@ -1,5 +1,5 @@
 -- Laws: propositions between definitions and code, and their proofs. Nothing here has to be believed.
-pub mod Written
+pub mod FromWriter
 pub mod Answers
 pub mod Runs
 pub mod Demand

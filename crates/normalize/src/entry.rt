@@ -6,7 +6,7 @@ use demangle::symbol::Front;
 use grammar::text as bytes;
 use normal_steps::state::Writer;
 use normal_writer::symbol as writing;
-use normal_writer::symbol::Written;
+use normal_writer::symbol::Finished;
 use store::stack;
 ghost use mathlib.Core.List.{[]};
 ghost use mathlib.Core.Option.{some};
@@ -101,7 +101,7 @@ fn write(s: &[u8], out: &mut [u8], store: &mut [u8], notes: &mut [u16]) -> Answe
     requires { ⌜ (length (now s) ≤ 4096) × ((length (now store) ≡ 65536) × (length (now notes) ≡ 24576)) ⌝ }
     ensures { λ r. ⌜ Tells (accepted-answer (length (now (out .entry))) (now (s .entry))) (now (out .entry)) (now (out .exit)) r ⌝ }
 {
-    let Written::Symbol(p) = writing::write_symbol(s, store, notes) else {
+    let Finished::Symbol(p) = writing::write_symbol(s, store, notes) else {
         return Answer::Refused(6);
     };
     print(out, store, p.out)

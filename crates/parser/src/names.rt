@@ -192,16 +192,8 @@ pub fn number(text: &mut [u8], p: Parser, i: u64) -> Read
         (mem (now (text .entry)) store ends) (mem (now (text .exit)) store ends) p r) ⌝ }
 {
     let mut digits = [0u8; 21];
-    let mut from: usize = 21;
-    let mut rest = i;
-    while 10 <= rest {
-        from -= 1;
-        digits[from] = 48 + (rest % 10) as u8;
-        rest = rest / 10;
-    }
-    let last = from - 1;
-    digits[last] = 48 + rest as u8;
-    let start = last - 1;
+    let first = numbers::write_decimal(&mut digits, 21, i);
+    let start = first - 1;
     digits[start] = b'T';
     let n = 21 - start;
     Read::Text(memory::put(text, p, &digits[start..]), n)

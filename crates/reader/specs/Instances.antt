@@ -31,7 +31,7 @@ marked true σ = with-templated true σ
 marked false σ = σ
 
 -- the next state holds f of what the state holds, at the same place, depth and height
-pub record Carries (f : State → State) (p r : Parser) : Type 0 where
+pub record Passes (f : State → State) (p r : Parser) : Type 0 where
   pub at : r .at ≡ p .at
   pub depth : r .depth ≡ p .depth
   pub top : r .top ≡ p .top

@@ -1,60 +1,41 @@
 -- Laws of Printed.antt. Assumes nothing.
 use mathlib.Core.Bool.{Bool, true, false}
 use mathlib.Core.List.{[], _∷_, _++_, append-assoc}
-use mathlib.Core.Logic.{⊎-elim}
 use mathlib.Core.Path.{_≡_, refl, sym, ap, ap₂, _∙_}
-use Prim.Native.Nat.{ℕ, suc, _+_, _-_, _/_, _%_, _^_, _≤_, _<_}
-use native.Mathlib.Nat.{div-lt-iff-lt-mul, eq-or-lt-of-le}
+use Prim.Native.Nat.{ℕ, suc, _+_, _-_, _≤_, _<_}
 use native.Mathlib.Omega.{arith}
 use lib.Dec.{leb}
 use native.Mathlib.Numerals.{add-one}
 use borrow.Author.Tests.{le-leb, lt-leb, leb-true, leb-false}
-use lib.ListN.{length, take, drop, set, length-set, length-append, length-drop, drop-of-length-le}
+use lib.ListN.{length, take, drop, set, length-append, length-drop, drop-of-length-le}
 use lib.Seq.{paste, paste-zero, length-paste, take-paste, drop-paste, drop-drop, take-length, take-all, set-split, append-snoc}
 use Rattle.grammar.specs.Text.{Text, if_then_else_, decimal}
-use Rattle.grammar.specs.laws.Text.{decimal-last, decimal-more}
 use Rattle.grammar.specs.laws.Places.{set-front}
+use Rattle.grammar.specs.Numbers.{decimal-size, Decimal}
+use Rattle.grammar.specs.laws.Decimals.{decimal-some, decimal-most, decimal-enough, decimal-from}
 use Rattle.listing.specs.Listing.{head, line, line-feed}
-use Rattle.listing.specs.Printed.{Digits, Begun, Heads, if-fits, Printed}
+use Rattle.listing.specs.Printed.{Heads, if-fits, Printed}
 
-pub begin : (n end : ℕ) (l : Text) → n < 100000 → Begun n end l l end n
-begin n end l h = record { left = 5; some = omega arith; most = omega arith; place = refl; low = h; size = refl; is = refl }
+-- ---------------------------------------------------------------- digits
 
-module _ {n end : ℕ} {l l' : Text} {from rest : ℕ} (w : Begun n end l l' from rest) (hi : end ≤ length l) (lo : 5 ≤ end) where
-  more-left : 10 ≤ rest → 2 ≤ w .left
-  more-left h = ⊎-elim (λ (e : 1 ≡ w .left). let k : rest < 10 ^ 1 = rw (sym e) at (w .low) in absurd (omega arith)) (λ k. k) (eq-or-lt-of-le (w .some))
+pub five-digits : (n : ℕ) → n < 100000 → decimal 20 n ≡ decimal 5 n
+five-digits n h = let l : n < 100000000000000000000 = omega arith in decimal-enough 20 5 n (omega arith) (omega arith) l h
 
-  pub begun-more : 10 ≤ rest → Begun n end l (set l' (from - 1) (48 + rest % 10)) (from - 1) (rest / 10)
-  begun-more h =
-      let m = more-left h in
-      let x : ℕ = 48 + rest % 10 in
-      let e : w .left ≡ suc (w .left - 1) = omega arith in
-      let p : 10 ^ (w .left) ≡ 10 ^ suc (w .left - 1) = ap (λ (j : ℕ). 10 ^ j) e in
-      let d : drop (from - 1) (set l' (from - 1) x) ≡ x ∷ drop from l' =
-      set-front l' (from - 1) x (omega (arith, w .size, w .place, w .most, w .some)) ∙ ap (λ (j : ℕ). x ∷ drop j l') {x = from - 1 + 1} {y = from} (omega (arith, w .place, w .most, w .some)) in
-      record {
-        left = w .left - 1;
-        some = omega arith;
-        most = omega (arith, w .most);
-        place = omega (arith, w .place, w .some);
-        low = div-lt-iff-lt-mul {k = 10} {x = rest} {y = 10 ^ (w .left - 1)} (omega arith) .1 (omega (arith, w .low));
-        size = simp length-set (w .size);
-        is =
-            w .is
-            ∙ ap (λ (t : Text). t ++ drop from l') (decimal-more (w .left) rest h (w .some))
-            ∙ append-assoc (decimal (w .left - 1) (rest / 10)) (x ∷ []) (drop from l')
-            ∙ ap (λ (t : Text). decimal (w .left - 1) (rest / 10) ++ t) (sym d);
-      }
+pub digits-fit : (n : ℕ) → n < 100000 → decimal-size n ≤ 5
+digits-fit n h = omega (arith, ap length (five-digits n h), decimal-most 5 n)
 
-  pub begun-done : rest < 10 → Digits n end l (set l' (from - 1) (48 + rest)) (from - 1)
-  begun-done h = record {
-    low = omega (arith, w .place, w .some);
-    below = omega (arith, w .place, w .most, w .some);
-    is =
-        set-front l' (from - 1) (48 + rest) (omega (arith, w .size, w .place, w .most, w .some))
-        ∙ ap (λ (j : ℕ). (48 + rest) ∷ drop j l') {x = from - 1 + 1} {y = from} (omega (arith, w .place, w .most, w .some))
-        ∙ sym (w .is ∙ ap (λ (t : Text). t ++ drop from l') (decimal-last (w .left) rest h (w .some)));
-  }
+-- the digits of n stand in the list l' from r on, and behind them what l has from `end` on
+pub record Digits (n end : ℕ) (l l' : Text) (r : ℕ) : Type 0 where
+  pub low : end ≤ r + 5
+  pub below : r < end
+  pub is : drop r l' ≡ decimal 5 n ++ drop end l
+
+pub digits : {n end : ℕ} {l l' : Text} {r : ℕ} → n < 100000 → end ≤ length l → Decimal n end l l' r → Digits n end l l' r
+digits {n} {end} {l} h k w = record {
+  low = omega (arith, w .place, digits-fit n h);
+  below = omega (arith, w .place, decimal-some 20 n (omega arith));
+  is = decimal-from w k ∙ ap (λ (t : Text). t ++ drop end l) (five-digits n h);
+}
 
 pub heads : {number bytes second r : ℕ} (l l₁ l₂ : Text) → length l ≡ 12 → length l₁ ≡ 12 → length l₂ ≡ 12 → Digits bytes 11 (set l 11 44) l₁ second → Digits number (second - 1) (set l₁ (second - 1) 44) l₂ r
     → Heads number bytes l₂ r

@@ -11,7 +11,7 @@ use lib.ListN.{length, getD, getElem?, length-append}
 use Rattle.catalogue.specs.Bytes.{all, and-left, and-right, and-both}
 use Rattle.catalogue.specs.laws.Bytes.{all-append}
 use Rattle.normal_nodes.specs.Nodes.{with-new, table-place, add, note-add-all, firsts, note-last-is}
-use Rattle.normal_steps.specs.Holds.{most-number, small}
+use Rattle.normal_steps.specs.Carries.{most-number, small}
 
 -- ---------------------------------------------------------------- one entry more
 

@@ -13,7 +13,7 @@ use Rattle.catalogue.specs.Tree.{Ty, lit, kind-code}
 use Rattle.catalogue.specs.Spelling.{name-bytes}
 use Rattle.catalogue.specs.Recogniser.{Rd, rd, stop}
 use Rattle.normal_walk.specs.Walk.{name, reference, literal, lit-bytes}
-use Rattle.normal_walk.specs.laws.Holds.{OfRd}
+use Rattle.normal_walk.specs.laws.Joins.{OfRd}
 use Rattle.normal_walk.specs.laws.Leaves.{Literal, lit-sound}
 use Rattle.normal_walk.specs.laws.Sizes.{name-length}
 use Rattle.normal_nodes.specs.Nodes.{node, Notes, Got, got, bad, notes, put, go-to, settled, signed-kind, with-node, number-of, at-reference}
@@ -23,7 +23,7 @@ use Rattle.normal_steps.specs.laws.Parts.{part-length}
 use Rattle.normal_steps.specs.Answers.{NameAt, NameIs, RefAt, RefIs, Value, LitIs}
 use Rattle.normal_steps.specs.laws.Leaves.{no-entry, entry-told}
 use Rattle.normal_steps.specs.States.{moved-to}
-use Rattle.normal_steps.specs.Holds.{Work, out-to, Holds, Room, Puts, notes-node, at-literal, Passed}
+use Rattle.normal_steps.specs.Carries.{Work, out-to, Carries, Room, Puts, notes-node, at-literal, Passed}
 use Rattle.normal_steps.specs.laws.Slices.{out-size}
 use Rattle.normal_steps.specs.laws.Moves.{put-moved}
 use Rattle.normal_steps.specs.laws.Limits.{passed-none, passed-more, room-for}
@@ -57,7 +57,7 @@ module _ {s : Text} {at from to : ℕ} (x : NameAt s at from to) where
       let m = x .inside in
       (omega arith, omega arith)
 
-  module _ {ws : Work} {p : Writer} {σ : Notes} (h : Holds s ws p σ) (b : at ≡ p .at) where
+  module _ {ws : Work} {p : Writer} {σ : Notes} (h : Carries s ws p σ) (b : at ≡ p .at) where
     pub name-fits : {q : Writer} → q ≡ moved-to p to → q .out + length (name-of s from to) ≤ length (ws .out)
     name-fits e = let z = name-size in let i = x .inside in omega (arith, out-size h, ap (λ (y : Writer). y .out) e)
 
@@ -68,7 +68,7 @@ module _ {s : Text} {at from to : ℕ} (x : NameAt s at from to) where
           let l : 0 + length (name-of s from to) ≡ to - at = omega arith in
           subst (λ (k : ℕ). Passed to k p r) l (passed-more (length (name-of s from to)) (passed-none p e) (y .0))
 
-      pub name-held : Holds s (out-to ws o') r (put (name-of s from to) (go-to (drop to s) σ))
+      pub name-held : Carries s (out-to ws o') r (put (name-of s from to) (go-to (drop to s) σ))
       name-held = let z = name-size in put-moved h (name-of s from to) e y (omega arith) (x .inside) (omega arith)
 
       pub name-room : Room 1 1 5 r
@@ -82,7 +82,7 @@ no-reference-at s at x e = subst (RefIs s at) e x
 pub reference-at : (s : Text) (at : ℕ) {r : Referred} {i end : ℕ} → RefIs s at r → r ≡ to-entry i end → RefAt s at i end
 reference-at s at x e = subst (RefIs s at) e x
 
-module _ {s : Text} {ws : Work} {p : Writer} {σ : Notes} (h : Holds s ws p σ) {i end : ℕ} (x : RefAt s (p .at) i end) where
+module _ {s : Text} {ws : Work} {p : Writer} {σ : Notes} (h : Carries s ws p σ) {i end : ℕ} (x : RefAt s (p .at) i end) where
   same-entry : getElem? (σ .table) (x .index) ≡ getElem? (σ .table) i
   same-entry = sym (entry-told (σ .table) (x .index) (omega arith)) ∙ ap (getElem? (σ .table)) (sym (x .told))
 
@@ -127,7 +127,7 @@ lit-part s at to t e l m =
     omega (arith, ap length y, length-append (lit-bytes t) (drop to s), length-drop at s, length-drop to s) in
     sym (take-at (lit-bytes t) (drop to s) (suc (to - at)) z) ∙ ap (take (suc (to - at))) y
 
-module _ {s : Text} {ws : Work} {p : Writer} {σ : Notes} (h : Holds s ws p σ) {to kind : ℕ} {g : Bool} {from : ℕ}
+module _ {s : Text} {ws : Work} {p : Writer} {σ : Notes} (h : Carries s ws p σ) {to kind : ℕ} {g : Bool} {from : ℕ}
     (x : Value (literal (drop (p .at) s)) s to kind g from) (b : p .at < from) where
   abbrev marked : Notes
   marked = put (code "L" ∷ []) (go-to (drop to s) σ)
@@ -152,7 +152,7 @@ module _ {s : Text} {ws : Work} {p : Writer} {σ : Notes} (h : Holds s ws p σ) 
   literal-kind = omega (arith, kind-below (x .of), x .byte)
 
   module _ {o' : Text} {q r : Writer} (e : q ≡ moved-to p to) (y : Puts (code "L" ∷ []) (ws .out) o' q r) where
-    pub literal-marked : Holds s (out-to ws o') r marked
+    pub literal-marked : Carries s (out-to ws o') r marked
     literal-marked = put-moved h (code "L" ∷ []) e y (omega (arith, x .some)) (x .inside) (omega (arith, x .some))
 
     module _ {o'' : Text} {u : Writer} (z : Puts (part s (p .at) to) o' o'' r u) where
@@ -161,7 +161,7 @@ module _ {s : Text} {ws : Work} {p : Writer} {σ : Notes} (h : Holds s ws p σ) 
           let l : 0 + 1 + length (part s (p .at) to) ≡ to - p .at + 1 = omega (arith, part-length s (p .at) to (x .inside)) in
           subst (λ (k : ℕ). Passed to k p u) l (passed-more (length (part s (p .at) to)) (passed-more 1 (passed-none p e) (y .0)) (z .0))
 
-      pub literal-held : Holds s (out-to ws o'') u (put (part s (p .at) to) marked)
+      pub literal-held : Carries s (out-to ws o'') u (put (part s (p .at) to) marked)
       literal-held =
           let w = passed-more 1 (passed-none p e) (y .0) in
           z .1 s ws marked literal-marked (omega (arith, part-length s (p .at) to (x .inside), x .some))

@@ -5,7 +5,7 @@ use native.Mathlib.Omega.{arith}
 use Rattle.grammar.specs.Text.{Text}
 use Rattle.normal_nodes.specs.Nodes.{Notes}
 use Rattle.normal_steps.specs.States.{moved-to, written-to, counted-to}
-use Rattle.normal_steps.specs.Holds.{Work, Holds, Room, Took, Spent, Passed}
+use Rattle.normal_steps.specs.Carries.{Work, Carries, Room, Took, Spent, Passed}
 use Rattle.normal_steps.specs.declared.state.Writer.{Writer}
 
 -- ---------------------------------------------------------------- steps
@@ -67,7 +67,7 @@ took-put k e = record {
 }
 
 -- two bytes that were read have room for a node, an entry and a reference
-pub room-for : {s : Text} {ws : Work} {p q : Writer} {σ : Notes} {to k : ℕ} → Holds s ws p σ → Passed to k p q
+pub room-for : {s : Text} {ws : Work} {p q : Writer} {σ : Notes} {to k : ℕ} → Carries s ws p σ → Passed to k p q
     → p .at + 2 ≤ to → p .out + k + 5 ≤ 16 * to → Room 1 1 5 q
 room-for h w l m = record { nodes = omega arith; table = omega arith; out = omega arith; args = omega arith }
 
@@ -136,7 +136,7 @@ spent-nothing l =
     record { at = omega arith; nodes = omega arith; table = omega arith; out = omega arith; args = omega arith; stands = l }
 
 -- there is room for what each byte that made none may take
-pub spent-room : {s : Text} {ws : Work} {σ : Notes} {k b x y z : ℕ} {p q : Writer} → Holds s ws p σ → Spent (suc k) b p q → x ≤ 1 → y ≤ 1 → z ≤ 8 → Room x y z q
+pub spent-room : {s : Text} {ws : Work} {σ : Notes} {k b x y z : ℕ} {p q : Writer} → Carries s ws p σ → Spent (suc k) b p q → x ≤ 1 → y ≤ 1 → z ≤ 8 → Room x y z q
 spent-room h v i j l =
     record {
       nodes = omega (arith, h .few-nodes);

@@ -17,9 +17,9 @@ use Rattle.normal_nodes.specs.Nodes.{firsts, pushed, replaced, settled}
 use Rattle.normal_steps.specs.declared.state.Writer.{Writer}
 use Rattle.normal_steps.specs.declared.state.Told.the-variants.{Number}
 use Rattle.normal_steps.specs.States.{written-to, noted-to, entered-to}
-use Rattle.normal_steps.specs.Written.{Wrote}
-use Rattle.normal_steps.specs.laws.Written.{wrote-four}
-use Rattle.normal_steps.specs.Holds.{Row, node-in, nodes-in, flat, Inside, Noting, Work, out-to, notes-to, most-number, Holds, Room, Took, Went, Refines, tells, notes-node}
+use Rattle.normal_steps.specs.WrittenAt.{WrittenAt}
+use Rattle.normal_steps.specs.laws.WrittenAt.{wrote-four}
+use Rattle.normal_steps.specs.Carries.{Row, node-in, nodes-in, flat, Inside, Noting, Work, out-to, notes-to, most-number, Carries, Room, Took, Went, Refines, tells, notes-node}
 use Rattle.normal_steps.specs.Seeks.{Sought}
 use Rattle.normal_steps.specs.Rows.{rows-of}
 use Rattle.normal_steps.specs.laws.Rows.{rows-flat, flat-more, length-nodes}
@@ -28,7 +28,7 @@ use Rattle.normal_steps.specs.laws.Regions.{front-wrote, first-front, fi
 use Rattle.normal_steps.specs.laws.Entries.{firsts-known, firsts-new, firsts-length}
 use Rattle.normal_steps.specs.laws.Slices.{flat-size, firsts-most, notes-size, firsts-here, with-out, with-entry, with-row}
 
-module _ {s : Text} {ws : Work} {p : Writer} {σ : Notes} (h : Holds s ws p σ) where
+module _ {s : Text} {ws : Work} {p : Writer} {σ : Notes} (h : Carries s ws p σ) where
   -- ---------------------------------------------------------------- the searches
 
   -- in the last region, which is lent
@@ -67,7 +67,7 @@ module _ {s : Text} {ws : Work} {p : Writer} {σ : Notes} (h : Holds s ws p σ) 
       pub reference-room : from + length (ref-bytes i) ≤ 65536
       reference-room = omega (arith, ref-length i index-most, r .out, h .place, h .source)
 
-      pub settle-here : (d k : ℕ) (o' : Text) (q : Writer) → seek-by (eqb d) (firsts (σ .table)) ≡ some i → Wrote (ws .out) o' from k (ref-bytes i)
+      pub settle-here : (d k : ℕ) (o' : Text) (q : Writer) → seek-by (eqb d) (firsts (σ .table)) ≡ some i → WrittenAt (ws .out) o' from k (ref-bytes i)
           → q ≡ written-to p k → Went s (out-to ws o') (Took 0 0 5 from p) q (settled d from σ)
       settle-here d k o' q f w g =
           let e : length (take from (σ .out)) ≡ from = length-take-le from (σ .out) (omega (arith, h .out-count)) in

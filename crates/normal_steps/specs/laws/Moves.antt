@@ -13,15 +13,15 @@ use Rattle.catalogue.specs.Recogniser.{if-next}
 use Rattle.normal_nodes.specs.Nodes.{Notes, put, go-to, counted}
 use Rattle.normal_steps.specs.laws.Tests.{next-not}
 use Rattle.normal_steps.specs.States.{moved-to, counted-to}
-use Rattle.normal_steps.specs.Holds.{Work, out-to, Holds, Ready, ReadyOut, ReadyNotes, Copies, Puts}
+use Rattle.normal_steps.specs.Carries.{Work, out-to, Carries, Ready, ReadyOut, ReadyNotes, Copies, Puts}
 use Rattle.normal_steps.specs.declared.state.Writer.{Writer}
 
 -- what a method hands back holds what its equation says
-pub by-state : {s : Text} {ws : Work} {p q : Writer} {σ : Notes} → q ≡ p → Holds s ws p σ → Holds s ws q σ
-by-state {s} {ws} {p} {q} {σ} e h = subst (λ (x : Writer). Holds s ws x σ) (sym e) h
+pub by-state : {s : Text} {ws : Work} {p q : Writer} {σ : Notes} → q ≡ p → Carries s ws p σ → Carries s ws q σ
+by-state {s} {ws} {p} {q} {σ} e h = subst (λ (x : Writer). Carries s ws x σ) (sym e) h
 
-module _ {s : Text} {ws : Work} {p : Writer} {σ : Notes} (h : Holds s ws p σ) where
-  pub holds-moved : (to : ℕ) → p .at ≤ to → to ≤ length s → Holds s ws (moved-to p to) (go-to (drop to s) σ)
+module _ {s : Text} {ws : Work} {p : Writer} {σ : Notes} (h : Carries s ws p σ) where
+  pub holds-moved : (to : ℕ) → p .at ≤ to → to ≤ length s → Carries s ws (moved-to p to) (go-to (drop to s) σ)
   holds-moved to l k = record {
     source = h .source;
     place = k;
@@ -43,7 +43,7 @@ module _ {s : Text} {ws : Work} {p : Writer} {σ : Notes} (h : Holds s ws p σ) 
     short = omega arith;
   }
 
-  pub holds-counted : p .args + 1 ≤ p .at → Holds s ws (counted-to p (p .args + 1)) (counted σ)
+  pub holds-counted : p .args + 1 ≤ p .at → Carries s ws (counted-to p (p .args + 1)) (counted σ)
   holds-counted l = record {
     source = h .source;
     place = h .place;
@@ -88,14 +88,14 @@ module _ {s : Text} {ws : Work} {p : Writer} {σ : Notes} (h : Holds s ws p σ) 
         (cc, cc)
 
     -- the state one byte on
-    pub holds-next : {q : Writer} → q ≡ moved-to p (p .at + 1) → Holds s ws q (go-to t σ)
+    pub holds-next : {q : Writer} → q ≡ moved-to p (p .at + 1) → Carries s ws q (go-to t σ)
     holds-next {q} g =
         by-state g
-        (subst (λ (r : Text). Holds s ws (moved-to p (p .at + 1)) (go-to r σ)) (sym (next-byte .1)) (holds-moved (p .at + 1) (omega arith) (omega (arith, some-left))))
+        (subst (λ (r : Text). Carries s ws (moved-to p (p .at + 1)) (go-to r σ)) (sym (next-byte .1)) (holds-moved (p .at + 1) (omega arith) (omega (arith, some-left))))
 
   -- a text is written at another place
   pub put-moved : (w : Text) {o' : Text} {q r : Writer} {to : ℕ} → q ≡ moved-to p to → Puts w (ws .out) o' q r
-      → p .at ≤ to → to ≤ length s → p .out + length w ≤ 16 * to → Holds s (out-to ws o') r (put w (go-to (drop to s) σ))
+      → p .at ≤ to → to ≤ length s → p .out + length w ≤ 16 * to → Carries s (out-to ws o') r (put w (go-to (drop to s) σ))
   put-moved w {o'} {q} {r} {to} e x l k b =
       x .1 s ws (go-to (drop to s) σ) (by-state e (holds-moved to l k)) (omega (arith, ap (λ (x : Writer). x .at) e, ap (λ (x : Writer). x .out) e))
 
@@ -113,5 +113,5 @@ module _ {s : Text} {ws : Work} {p : Writer} where
   pub ready-notes : Ready s ws p → ReadyNotes s (ws .notes) p
   ready-notes w = (ws, w)
 
-abbrev pub work-of : {s : Text} {ws : Work} {p : Writer} {σ : Notes} → Holds s ws p σ → Work
+abbrev pub work-of : {s : Text} {ws : Work} {p : Writer} {σ : Notes} → Carries s ws p σ → Work
 work-of {ws = ws} h = ws

@@ -19,11 +19,11 @@ use lib.Seq.{
 }
 use Rattle.store.specs.Table.{Front}
 use Rattle.store.specs.laws.Fronts.{front-none, front-as, front-most, front-at, front-paste, front-set}
-use Rattle.normal_steps.specs.Written.{Wrote}
+use Rattle.normal_steps.specs.WrittenAt.{WrittenAt}
 use Rattle.normal_steps.specs.Regions.{Regions}
 
 -- a text is written behind what is used
-pub front-wrote : {n : ℕ} {w t o o' : List ℕ} {at r : ℕ} → Front n w o → at ≡ length w → length w + length t ≤ n → Wrote o o' at r t → Front n (w ++ t) o'
+pub front-wrote : {n : ℕ} {w t o o' : List ℕ} {at r : ℕ} → Front n w o → at ≡ length w → length w + length t ≤ n → WrittenAt o o' at r t → Front n (w ++ t) o'
 front-wrote {t = t} {o = o} h f l q =
     front-paste h t l (q .is ∙ ap₂ (λ (k : ℕ) (u : List ℕ). take k o ++ u ++ drop (k + length t) o) f (sym (take-length t)))
 
@@ -92,7 +92,7 @@ first-sets (a ∷ t) {x} {y} {z} {l} h m =
     subst (λ (u : List ℕ). Regions u y z (sets (set l (length x) a) (suc (length x)) t)) (append-snoc x a t)
     (subst (λ (k : ℕ). Regions (x ++ (a ∷ []) ++ t) y z (sets (set l (length x) a) k t)) e r)
 
-pub first-wrote : {x y z t l l' : List ℕ} {at r : ℕ} → Regions x y z l → at ≡ length x → length x + length t ≤ 16384 → Wrote l l' at r t
+pub first-wrote : {x y z t l l' : List ℕ} {at r : ℕ} → Regions x y z l → at ≡ length x → length x + length t ≤ 16384 → WrittenAt l l' at r t
     → Regions (x ++ t) y z l'
 first-wrote {x} {y} {z} {t} {l} {l'} h f m q =
     let e : l' ≡ sets l (length x) t =

@@ -9,8 +9,8 @@ use lib.ListN.{length, drop, getD, getElem?}
 use lib.Seq.{drop-drop, getD-drop}
 use Rattle.grammar.specs.Text.{Text, choose}
 use Rattle.normal_nodes.specs.Nodes.{Node, seek-by}
-use Rattle.normal_steps.specs.Holds.{Row, node-in, nodes-in, flat, Inside}
-use Rattle.normal_steps.specs.laws.Holds.{row}
+use Rattle.normal_steps.specs.Carries.{Row, node-in, nodes-in, flat, Inside}
+use Rattle.normal_steps.specs.laws.Carries.{row}
 use Rattle.normal_steps.specs.Seeks.{Sought}
 use Rattle.normal_steps.specs.laws.Seeks.{sought-here, seek-past}
 use Rattle.normal_steps.specs.Rows.{row-at, rows-of}

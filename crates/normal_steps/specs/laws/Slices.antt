@@ -15,13 +15,13 @@ use Rattle.store.specs.laws.Fronts.{front-most, front-take}
 use Rattle.normal_nodes.specs.Nodes.{Node, Notes, notes, put, pushed, firsts, tag-of, note-last-is}
 use Rattle.normal_steps.specs.declared.state.Writer.{Writer}
 use Rattle.normal_steps.specs.States.{written-to, noted-to, entered-to}
-use Rattle.normal_steps.specs.Written.{Wrote}
-use Rattle.normal_steps.specs.Holds.{Row, node-in, nodes-in, flat, Noting, Work, out-to, notes-to, most-number, Holds, Puts}
+use Rattle.normal_steps.specs.WrittenAt.{WrittenAt}
+use Rattle.normal_steps.specs.Carries.{Row, node-in, nodes-in, flat, Noting, Work, out-to, notes-to, most-number, Carries, Puts}
 use Rattle.normal_steps.specs.laws.Rows.{length-flat, nodes-more, inside-more, tag-at, no-tag}
 use Rattle.normal_steps.specs.laws.Regions.{front-wrote, first-front, second-at, regions-size}
 use Rattle.normal_steps.specs.laws.Entries.{some-at, small-at, small-more, last-none, last-at}
 
-module _ {s : Text} {ws : Work} {p : Writer} {σ : Notes} (h : Holds s ws p σ) where
+module _ {s : Text} {ws : Work} {p : Writer} {σ : Notes} (h : Carries s ws p σ) where
   -- ---------------------------------------------------------------- sizes
 
   pub flat-size : length (flat (h .rows)) ≡ 4 * p .nodes
@@ -78,7 +78,7 @@ module _ {s : Text} {ws : Work} {p : Writer} {σ : Notes} (h : Holds s ws p σ) 
   -- ---------------------------------------------------------------- what is kept when something changes
 
   pub with-out : (w o' : Text) (k : ℕ) → Front 65536 w o' → k ≡ length w → k ≤ 16 * p .at
-      → Holds s (out-to ws o') (written-to p k) (notes w (σ .nodes) (σ .table) (σ .args) (σ .rest))
+      → Carries s (out-to ws o') (written-to p k) (notes w (σ .nodes) (σ .table) (σ .args) (σ .rest))
   with-out w o' k e f l = record {
     source = h .source;
     place = h .place;
@@ -101,7 +101,7 @@ module _ {s : Text} {ws : Work} {p : Writer} {σ : Notes} (h : Holds s ws p σ) 
   }
 
   pub with-entry : (d k m : ℕ) (n' : Text) → d < most-number → k ≡ p .table + 1 → k ≤ p .at → m ≡ length (firsts (σ .table ++ (d ∷ [])))
-      → Noting (h .rows) (σ .table ++ (d ∷ [])) n' → Holds s (notes-to ws n') (entered-to p k m) (pushed d σ)
+      → Noting (h .rows) (σ .table ++ (d ∷ [])) n' → Carries s (notes-to ws n') (entered-to p k m) (pushed d σ)
   with-entry d k m n' b c l f e = record {
     source = h .source;
     place = h .place;
@@ -125,7 +125,7 @@ module _ {s : Text} {ws : Work} {p : Writer} {σ : Notes} (h : Holds s ws p σ) 
 
   pub with-row : (x : Row) (k : ℕ) (n' : Text) → (x .from ≤ x .to) × (x .to ≤ length s) → k ≡ p .nodes + 1 → k ≤ p .at
       → Noting (h .rows ++ (x ∷ [])) (σ .table) n'
-      → Holds s (notes-to ws n') (noted-to p k) (notes (σ .out) (σ .nodes ++ (node-in s x ∷ [])) (σ .table) (σ .args) (σ .rest))
+      → Carries s (notes-to ws n') (noted-to p k) (notes (σ .out) (σ .nodes ++ (node-in s x ∷ [])) (σ .table) (σ .args) (σ .rest))
   with-row x k n' b c l e = record {
     source = h .source;
     place = h .place;
@@ -149,13 +149,13 @@ module _ {s : Text} {ws : Work} {p : Writer} {σ : Notes} (h : Holds s ws p σ) 
 
 -- ---------------------------------------------------------------- what is written
 
-pub wrote-paste : (o w : Text) (at : ℕ) → Wrote o (paste o at w (length w)) at (at + length w) w
+pub wrote-paste : (o w : Text) (at : ℕ) → WrittenAt o (paste o at w (length w)) at (at + length w) w
 wrote-paste o w at = record { is = ap (λ (t : Text). take at o ++ t ++ drop (at + length w) o) (take-length w); end = refl }
 
-pub puts-by : {w o o' : Text} {p r : Writer} {k : ℕ} → r ≡ written-to p k → Wrote o o' (p .out) k w → Puts w o o' p r
+pub puts-by : {w o o' : Text} {p r : Writer} {k : ℕ} → r ≡ written-to p k → WrittenAt o o' (p .out) k w → Puts w o o' p r
 puts-by {w} {o} {o'} {p} {r} {k} e q = (
   e ∙ ap (written-to p) (q .end),
-  λ s ws σ h l. subst (λ (x : Writer). Holds s (out-to ws o') x (put w σ)) (sym e)
+  λ s ws σ h l. subst (λ (x : Writer). Carries s (out-to ws o') x (put w σ)) (sym e)
       (with-out h (σ .out ++ w) o' k (front-wrote (h .out-is) (h .out-count) (omega (arith, h .out-count, h .place, h .source)) q)
       (omega (arith, q .end, h .out-count, length-append (σ .out) w)) (omega (arith, q .end))),
 )

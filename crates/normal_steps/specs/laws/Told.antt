@@ -4,7 +4,7 @@ use Prim.Native.Nat.{ℕ, _<_}
 use native.Mathlib.Omega.{arith}
 use Rattle.grammar.specs.Text.{Text}
 use Rattle.normal_nodes.specs.Nodes.{Notes, Got, got, bad}
-use Rattle.normal_steps.specs.Holds.{Work, Holds, Refines, tells, refuses, Went, most-number}
+use Rattle.normal_steps.specs.Carries.{Work, Carries, Refines, tells, refuses, Went, most-number}
 use Rattle.normal_steps.specs.declared.state.Writer.{Writer}
 use Rattle.normal_steps.specs.declared.state.Told.{Told}
 use Rattle.normal_steps.specs.declared.state.Told.the-variants.{Number, Bad}
@@ -12,7 +12,7 @@ use Rattle.normal_steps.specs.declared.state.Told.the-variants.{Number, 
 -- a number was told
 pub record Answered (s : Text) (L : Writer → Type 0) (ws : Work) (p : Writer) (d : ℕ) (g : Got ℕ) : Type 0 where
   pub state : Notes
-  pub holds : Holds s ws p state
+  pub holds : Carries s ws p state
   pub limits : L p
   pub small : d < most-number
   pub is : g ≡ got d state
@@ -41,17 +41,17 @@ within k refuses = refuses
 module _ {s : Text} {ws : Work} {L : Writer → Type 0} where
   -- where the definition has a number, it is the one that was told
   pub told : {r : Told} {p : Writer} {d e : ℕ} {τ : Notes} → Refines s L ws r (got e τ) → r ≡ Number p d
-      → Holds s ws p τ × (L p × ((d ≡ e) × (d < most-number)))
+      → Carries s ws p τ × (L p × ((d ≡ e) × (d < most-number)))
   told {r} {p} {d} {e} {τ} x q =
       let w = answered q x in
       let i = w .is in
       let a : d ≡ e = cc in
       let b : w .state ≡ τ = cc in
-      (subst (λ (ρ : Notes). Holds s ws p ρ) b (w .holds), (w .limits, (a, w .small)))
+      (subst (λ (ρ : Notes). Carries s ws p ρ) b (w .holds), (w .limits, (a, w .small)))
 
   -- and it is not refused
   pub never : {r : Told} {e : ℕ} {τ : Notes} → Refines s L ws r (got e τ) → r ≡ Bad → ⊥
   never x q = let i = refused q x in let z : _≡_ {A = ℕ} 0 1 = cc in omega arith
 
-  pub went-as : {p : Writer} {τ τ' : Notes} → τ' ≡ τ → Holds s ws p τ → L p → Went s ws L p τ'
-  went-as {p} e h l = record { holds = subst (λ (y : Notes). Holds s ws p y) (sym e) h; limits = l }
+  pub went-as : {p : Writer} {τ τ' : Notes} → τ' ≡ τ → Carries s ws p τ → L p → Went s ws L p τ'
+  went-as {p} e h l = record { holds = subst (λ (y : Notes). Carries s ws p y) (sym e) h; limits = l }

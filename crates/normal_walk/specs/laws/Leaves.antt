@@ -23,7 +23,7 @@ use Rattle.catalogue.specs.laws.ReadsBack.{name-read, name-some, kind-at, no-n,
 use Rattle.catalogue.specs.laws.SymbolReadsBack.{lit-digits}
 use Rattle.normal_walk.specs.Walk.{canonical, name, reference, value, literal}
 use Rattle.normal_walk.specs.laws.Digits.{is-zero, run-past, run-all, decimal-of, decimal-first, ref-of, ref-canonical}
-use Rattle.normal_walk.specs.laws.Holds.{OfRd, rd-rd, rd-stop, rd-keep, rd-then, rd-next}
+use Rattle.normal_walk.specs.laws.Joins.{OfRd, rd-rd, rd-stop, rd-keep, rd-then, rd-next}
 
 -- ---------------------------------------------------------------- source names
 

@@ -12,7 +12,7 @@ use Rattle.catalogue.specs.Spelling.{digit-of, base36, ref-digits, ref-bytes, n
 use Rattle.catalogue.specs.laws.ReadsBack.{name-two}
 use Rattle.normal_walk.specs.Walk.{name}
 use Rattle.normal_walk.specs.laws.Digits.{base36-one}
-use Rattle.normal_walk.specs.laws.Holds.{OfRd, rd-map}
+use Rattle.normal_walk.specs.laws.Joins.{OfRd, rd-map}
 use Rattle.normal_walk.specs.laws.Leaves.{name-sound}
 
 base36-two : (k n : ℕ) → n < 1296 → length (base36 k n) ≤ 2

@@ -4,7 +4,7 @@ use Prim.Native.Nat.{ℕ, _≤_, _<_}
 use native.Mathlib.Omega.{arith}
 use lib.ListN.{length}
 use Rattle.grammar.specs.Text.{Text}
-use Rattle.normal_steps.specs.Holds.{Work, Ready, most-number}
+use Rattle.normal_steps.specs.Carries.{Work, Ready, most-number}
 use Rattle.normal_steps.specs.declared.state.Writer.{Writer}
 use Rattle.normal_steps.specs.declared.state.Told.{Told}
 

@@ -15,7 +15,7 @@ use Rattle.normal_nodes.specs.Nodes.{note-at-parts, note-at-more, note-end-or, 
 use Rattle.grammar.specs.laws.Places.{starts-byte}
 use Rattle.normal_steps.specs.States.{moved-to}
 use Rattle.normal_steps.specs.Leads.{class}
-use Rattle.normal_steps.specs.Holds.{Work, out-to, Holds, Ready, Spent, Refines, tells, refuses, Reads, Fueled, Does, Copies, Closes, Tag, most-number, at-part, closed}
+use Rattle.normal_steps.specs.Carries.{Work, out-to, Carries, Ready, Spent, Refines, tells, refuses, Reads, Fueled, Does, Copies, Closes, Tag, most-number, at-part, closed}
 use Rattle.normal_writer.specs.Cycle.{Leads}
 use Rattle.normal_steps.specs.laws.Told.{Answered, answered, refused, by, within}
 use Rattle.normal_steps.specs.laws.Steps.{on-got, on-bad}
@@ -35,7 +35,7 @@ use Rattle.normal_steps.specs.declared.state.Told.the-variants.{Number, Bad}
 
 module _ {s : Text} {ws ws₂ : Work} {o₁ : Text} {p p₁ : Writer} {r₁ : Told}
     (k : Copies s (ws .out) o₁ p p₁) (u : Fueled 1 (p₁ .out) 0 (λ m. note-parts m (p₁ .out)) s (out-to ws o₁) ws₂ p₁ r₁) where
-  nested-at : {σ : Notes} → Holds s ws p σ → (m : ℕ) → length s ≤ suc m + p .at → (c : ℕ) (t : Text) → σ .rest ≡ c ∷ t
+  nested-at : {σ : Notes} → Carries s ws p σ → (m : ℕ) → length s ≤ suc m + p .at → (c : ℕ) (t : Text) → σ .rest ≡ c ∷ t
       → Refines s (Spent 2 (p .out) p) ws₂ r₁ (note-parts m (suc (length (σ .out))) (put (c ∷ []) (go-to t σ)))
   nested-at {σ} h m l c t e =
       let x : suc (length (σ .out)) ≡ p₁ .out = omega (arith, h .out-count, k .0) in
@@ -63,7 +63,7 @@ module _ {s : Text} {ws ws₂ : Work} {o₁ : Text} {p p₁ : Writer} {r₁ : To
 
 abbrev pub PartsBy : Lead → Text → Work → Work → Writer → Told → Type 0
 PartsBy l s ws ws' p r =
-    (σ : Notes) → Holds s ws p σ → (m : ℕ) → length s ≤ suc m + p .at → (c : ℕ) (t : Text) → σ .rest ≡ c ∷ t
+    (σ : Notes) → Carries s ws p σ → (m : ℕ) → length s ≤ suc m + p .at → (c : ℕ) (t : Text) → σ .rest ≡ c ∷ t
     → Refines s (Spent 1 (p .out) p) ws' r (note-at-parts l (p .out) t σ (λ u lone τ. note-more m u lone (p .out) τ))
 
 module _ {s : Text} {ws : Work} {p : Writer} where
@@ -103,7 +103,7 @@ module _ {s : Text} {ws : Work} {p : Writer} where
     parts-unreferred e σ h m l c t i = by (on-bad _ (refused e (u σ h c t i))) refuses
 
     module _ {q : Writer} {d : ℕ} (e : r₁ ≡ Number q d) {tag : ℕ} (g : Tag (ws₁ .notes) q d tag) where
-      referred-at : {σ : Notes} → Holds s ws p σ → (m c : ℕ) (t : Text) → σ .rest ≡ c ∷ t
+      referred-at : {σ : Notes} → Carries s ws p σ → (m c : ℕ) (t : Text) → σ .rest ≡ c ∷ t
           → (w : Answered s (Behind p) ws₁ q d (at-reference (p .out) (go-to t σ)))
           × (note-at-parts lead-S (p .out) t σ (λ u lone τ. note-more m u lone (p .out) τ) ≡ when (a-class tag) (note-more m d (eqb tag 48) (p .out) (w .state)))
       referred-at {σ} h m c t i =
@@ -176,7 +176,7 @@ module _ {s : Text} {ws : Work} {p : Writer} (t : ℕ) (lone : Bool) (from : ℕ
         (within (λ x y. spent-spent (w .limits .1) y) (v (w .state) (w .holds) m (omega (arith, w .limits .0))))
 
   module _ (i : starts (drop (p .at) s) (73 ∷ []) ≡ true) {tag : ℕ} (g : Tag (ws .notes) p t tag) where
-    angled-by : {σ : Notes} (m : ℕ) → Holds s ws p σ → {b : Bool} → a-bare tag ≡ b
+    angled-by : {σ : Notes} (m : ℕ) → Carries s ws p σ → {b : Bool} → a-bare tag ≡ b
         → note-more (suc m) t lone from σ ≡ when b (next (note-args m t (put (73 ∷ []) (go-to (drop (p .at + 1) s) σ))) (λ u τ. ending m from lone u (closed τ)))
     angled-by {σ} m h e =
         let found = next (note-args m t (put (73 ∷ []) (go-to (drop (p .at + 1) s) σ))) (λ u τ. ending m from lone u (closed τ)) in
@@ -206,7 +206,7 @@ module _ {s : Text} {ws : Work} {p : Writer} (t : ℕ) (lone : Bool) (from : ℕ
 
 module _ {s : Text} {ws : Work} {p : Writer} (d : ℕ) (lone : Bool) (from : ℕ) where
   module _ (i : starts (drop (p .at) s) (69 ∷ []) ≡ true) where
-    end-by : {σ : Notes} (m : ℕ) → Holds s ws p σ → {b : Bool} → lone ≡ b → ending m from lone d σ ≡ when (not b) (got d (go-to (drop (p .at + 1) s) σ))
+    end-by : {σ : Notes} (m : ℕ) → Carries s ws p σ → {b : Bool} → lone ≡ b → ending m from lone d σ ≡ when (not b) (got d (go-to (drop (p .at + 1) s) σ))
     end-by {σ} m h e = byte-next _ _ (byte-is h 69 i) ∙ ap (λ (b : Bool). when (not b) (got d (go-to (drop (p .at + 1) s) σ))) e
 
     pub end-lone : lone ≡ true → Ends d lone from s ws ws p Bad

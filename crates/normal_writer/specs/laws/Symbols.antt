@@ -25,23 +25,23 @@ use Rattle.normal_steps.specs.laws.Limits.{spent-room}
 use Rattle.normal_steps.specs.laws.LeafSteps.{name-size}
 use Rattle.normal_steps.specs.Answers.{NameAt}
 use Rattle.normal_steps.specs.laws.Regions.{regions-none}
-use Rattle.normal_steps.specs.Holds.{nodes-in, flat, Inside, Work, out-to, Holds, Ready, Spent, Room, Refines, Fueled, Puts, Tag, Closes, closed}
+use Rattle.normal_steps.specs.Carries.{nodes-in, flat, Inside, Work, out-to, Carries, Ready, Spent, Room, Refines, Fueled, Puts, Tag, Closes, closed}
 use Rattle.normal_writer.specs.Writes.{Writes, writes, outside, Heads, heads, nameless, Scoped, Plain, Functions, at-plain, Ended, ended, broken, Types}
 use Rattle.normal_steps.specs.declared.state.Writer.{Writer}
 use Rattle.normal_steps.specs.declared.state.Told.{Told}
 use Rattle.normal_steps.specs.declared.state.Told.the-variants.{Number, Bad}
 use Rattle.normal_writer.specs.declared.symbol.Headed.{Headed}
 use Rattle.normal_writer.specs.declared.symbol.Headed.the-variants.{Name, Bad as no-name}
-use Rattle.normal_writer.specs.declared.symbol.Written.{Written}
-use Rattle.normal_writer.specs.declared.symbol.Written.the-variants.{Symbol, Bad as no-symbol}
+use Rattle.normal_writer.specs.declared.symbol.Finished.{Finished}
+use Rattle.normal_writer.specs.declared.symbol.Finished.the-variants.{Symbol, Bad as no-symbol}
 
 -- ---------------------------------------------------------------- the start
 
 -- nothing is noted, and w is written
 pub begun-holds : (s w : Text) (at : ℕ) {ws : Work} {p : Writer} → p ≡ begun-at at (length w) → length s ≤ 4096 → at ≤ length s → length w ≤ 16 * at
-    → Front 65536 w (ws .out) → length (ws .notes) ≡ 24576 → Holds s ws p (notes w [] [] 0 (drop at s))
+    → Front 65536 w (ws .out) → length (ws .notes) ≡ 24576 → Carries s ws p (notes w [] [] 0 (drop at s))
 unfolding nodes-in flat Inside note-add-all
-begun-holds s w at {ws} {p} e l h k o z = subst (λ (q : Writer). Holds s ws q (notes w [] [] 0 (drop at s))) (sym e) (record {
+begun-holds s w at {ws} {p} e l h k o z = subst (λ (q : Writer). Carries s ws q (notes w [] [] 0 (drop at s))) (sym e) (record {
   source = l;
   place = h;
   rest = refl;
@@ -95,7 +95,7 @@ module _ {s : Text} {from to : ℕ} (h : NameAt s 2 from to) where
 -- ---------------------------------------------------------------- a nested name
 
 -- w is written and taken, and nothing is noted
-pub record Begun (s w : Text) (ws : Work) (p : Writer) : Type 0 where
+pub record Started (s w : Text) (ws : Work) (p : Writer) : Type 0 where
   pub is : p ≡ begun-at (length w) (length w)
   pub source : length s ≤ 4096
   pub two : 2 ≤ length w
@@ -105,14 +105,14 @@ pub record Begun (s w : Text) (ws : Work) (p : Writer) : Type 0 where
 
 pub begun-by : (s w : Text) (ws : Work) {o : Text} {p : Writer}
     → (length s ≤ 4096) × ((2 ≤ length w) × ((length w ≤ 4) × (length w ≤ length s))) → length (ws .notes) ≡ 24576
-    → (p ≡ begun-at (length w) (length w)) × Front 65536 w o → Begun s w (out-to ws o) p
+    → (p ≡ begun-at (length w) (length w)) × Front 65536 w o → Started s w (out-to ws o) p
 begun-by s w ws h z k = record { is = k .0; source = h .0; two = h .1 .0; fits = h .1 .1 .1; out-is = k .1; notes-size = z }
 
 abbrev pub first : Text → Text → Notes
 first s w = notes w [] [] 0 (drop (length w) s)
 
-module _ {s w : Text} {ws : Work} {p : Writer} (b : Begun s w ws p) where
-  pub scoped-holds : Holds s ws p (first s w)
+module _ {s w : Text} {ws : Work} {p : Writer} (b : Started s w ws p) where
+  pub scoped-holds : Carries s ws p (first s w)
   scoped-holds = begun-holds s w (length w) (b .is) (b .source) (b .fits) (omega arith) (b .out-is) (b .notes-size)
 
   at-is : p .at ≡ length w
@@ -188,7 +188,7 @@ module _ (s : Text) {ws : Work} {r : Headed} where
 pub record Goes (s : Text) (ws : Work) (p : Writer) (g : Got (Unit {0})) : Type 0 where
   pub state : Notes
   pub fuel : ℕ
-  pub holds : Holds s ws p state
+  pub holds : Carries s ws p state
   pub enough : length s + 1 ≤ fuel + p .at
   pub is : g ≡ note-at-end state (state .rest) (λ ρ. note-types fuel ρ)
 
@@ -249,7 +249,7 @@ module _ {s : Text} {ws : Work} {p : Writer} {g : Got (Unit {0})} (a : Goes s ws
 pub record Turned (s : Text) (ws ws' : Work) (p q : Writer) : Type 0 where
   pub out-kept : length (ws' .out) ≡ length (ws .out)
   pub notes-kept : length (ws' .notes) ≡ length (ws .notes)
-  pub goes : (σ : Notes) → Holds s ws p σ → (m : ℕ) → length s + 1 ≤ m + p .at → Goes s ws' q (note-at-end σ (σ .rest) (λ ρ. note-types m ρ))
+  pub goes : (σ : Notes) → Carries s ws p σ → (m : ℕ) → length s + 1 ≤ m + p .at → Goes s ws' q (note-at-end σ (σ .rest) (λ ρ. note-types m ρ))
 
 pub turned-none : {s : Text} {ws : Work} {p : Writer} → Turned s ws ws p p
 turned-none = record { out-kept = refl; notes-kept = refl; goes = λ σ h m l. record { state = σ; fuel = m; holds = h; enough = l; is = refl } }
@@ -300,14 +300,14 @@ long (c ∷ d ∷ t) h = omega arith
 -- what an answer with a name says
 pub record Headed-by (s : Text) (ws : Work) (p : Writer) (k : Bool) (g : Got Bool) : Type 0 where
   pub state : Notes
-  pub holds : Holds s ws p state
+  pub holds : Carries s ws p state
   pub far : 2 ≤ p .at
   pub is : g ≡ got k state
 
 -- what an answer with types says
 pub record Ended-by (s : Text) (ws : Work) (p : Writer) (g : Got (Unit {0})) : Type 0 where
   pub state : Notes
-  pub holds : Holds s ws p state
+  pub holds : Carries s ws p state
   pub is : g ≡ got tt state
 
 module _ {s : Text} {ws : Work} where
@@ -368,7 +368,7 @@ module _ {s : Text} (y : starts s (95 ∷ 90 ∷ []) ≡ true) {ws : Work} {r : 
         ∙ ap (λ (c : Bool). symbol-of (read-types c first-types)) z
         ∙ ap (λ (t : Text). symbol-of (note-at-params true first-types t (λ τ. note-types size τ))) (rest-is ∙ rest-none s (p .at) l)
 
-    module _ (h : k ≡ true → p .at < length s) {ws' : Work} {w : Written} (t : Types s ws ws' p w) where
+    module _ (h : k ≡ true → p .at < length s) {ws' : Work} {w : Finished} (t : Types s ws ws' p w) where
       typed-symbol : Ended s ws' w (note-at-end first-types (first-types .rest) (λ τ. note-types size τ))
       typed-symbol = t first-types (symbol-headed .holds) size (omega (arith, symbol-headed .far, long s y, length-drop 2 s))
 
@@ -380,11 +380,11 @@ module _ {s : Text} (y : starts s (95 ∷ 90 ∷ []) ≡ true) {ws : Work} {r : 
           ∙ ap symbol-of z
 
       pub symbol-broken : w ≡ no-symbol → note-symbol s ≡ none
-      symbol-broken z = by-end bad (unended (subst (λ (v : Written). Ended s ws' v (note-at-end first-types (first-types .rest) (λ τ. note-types size τ))) z typed-symbol))
+      symbol-broken z = by-end bad (unended (subst (λ (v : Finished). Ended s ws' v (note-at-end first-types (first-types .rest) (λ τ. note-types size τ))) z typed-symbol))
 
       module _ {q : Writer} (z : w ≡ Symbol q) where
         symbol-ended : Ended-by s ws' q (note-at-end first-types (first-types .rest) (λ τ. note-types size τ))
-        symbol-ended = ends (subst (λ (v : Written). Ended s ws' v (note-at-end first-types (first-types .rest) (λ τ. note-types size τ))) z typed-symbol)
+        symbol-ended = ends (subst (λ (v : Finished). Ended s ws' v (note-at-end first-types (first-types .rest) (λ τ. note-types size τ))) z typed-symbol)
 
         args-are : q .args ≡ symbol-ended .state .args
         args-are = symbol-ended .holds .args-count

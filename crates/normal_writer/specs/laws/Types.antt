@@ -12,8 +12,8 @@ use Rattle.catalogue.specs.Recogniser.{if-next, Lead, lead-letter, lead-wrap, l
 use Rattle.normal_nodes.specs.Nodes.{Notes, Noter, Got, got, next, when, put, go-to, entered, note-at-lead, note-at-name, at-reference, note-with-args}
 use Rattle.normal_nodes.specs.Nodes.{note-type, note-args, note-parts}
 use Rattle.normal_steps.specs.States.{moved-to}
-use Rattle.normal_steps.specs.Holds.{Work, out-to, notes-to, Holds, Ready, ReadyOut, ReadyNotes, Room, Spent, Tag}
-use Rattle.normal_steps.specs.Holds.{Refines, tells, refuses, Reads, Fueled, Steps, Does, Copies, Closes, most-number, at-literal, counts-arg, wraps, closed}
+use Rattle.normal_steps.specs.Carries.{Work, out-to, notes-to, Carries, Ready, ReadyOut, ReadyNotes, Room, Spent, Tag}
+use Rattle.normal_steps.specs.Carries.{Refines, tells, refuses, Reads, Fueled, Steps, Does, Copies, Closes, most-number, at-literal, counts-arg, wraps, closed}
 use Rattle.normal_writer.specs.Cycle.{Leads, WithArgs}
 use Rattle.normal_steps.specs.laws.Told.{Answered, answered, refused, by, within}
 use Rattle.normal_steps.specs.laws.Steps.{on-got, on-bad}
@@ -69,12 +69,12 @@ Behind p q = (p .at + 2 ≤ q .at) × Spent 1 (p .out) p q
 
 abbrev pub FirstPart : (ℕ → Text → Noter ℕ) → Text → Work → Work → Writer → Told → Type 0
 FirstPart f s ws ws' p r =
-    (σ : Notes) → Holds s ws p σ → (c : ℕ) (t : Text) → σ .rest ≡ c ∷ t → Refines s (Behind p) ws' r (f (p .out) t σ)
+    (σ : Notes) → Carries s ws p σ → (c : ℕ) (t : Text) → σ .rest ≡ c ∷ t → Refines s (Behind p) ws' r (f (p .out) t σ)
 
 -- a class of one part, with its arguments
 abbrev pub Classed : (ℕ → Text → Noter ℕ) → Text → Work → Work → Writer → Told → Type 0
 Classed f s ws ws' p r =
-    (c : ℕ) (σ : Notes) → Holds s ws p σ → (m : ℕ) → length s ≤ suc m + p .at → (t : Text) → σ .rest ≡ c ∷ t
+    (c : ℕ) (σ : Notes) → Carries s ws p σ → (m : ℕ) → length s ≤ suc m + p .at → (t : Text) → σ .rest ≡ c ∷ t
     → Refines s (Spent 1 (p .out) p) ws' r (next (f (length (σ .out)) t σ) (λ d τ. note-with-args d (length (σ .out)) (λ v ρ. note-args m v ρ) τ))
 
 module _ {s : Text} {ws ws₁ : Work} {p : Writer} {r₁ : Told} where
@@ -90,7 +90,7 @@ module _ {s : Text} {ws ws₁ : Work} {p : Writer} {r₁ : Told} where
       go v = within (λ x (y, z). (omega arith, spent-less (omega arith) (passed-spent (passed-none p refl) (omega arith) z))) (v (go-to t σ) (holds-next h e refl))
 
   module _ (f : ℕ → Text → Noter ℕ) (u : FirstPart f s ws ws₁ p r₁) where
-    class-at : (m : ℕ) (σ : Notes) (t : Text) → Holds s ws p σ
+    class-at : (m : ℕ) (σ : Notes) (t : Text) → Carries s ws p σ
         → next (f (length (σ .out)) t σ) (λ d τ. note-with-args d (length (σ .out)) (λ v ρ. note-args m v ρ) τ)
         ≡ next (f (p .out) t σ) (λ d τ. note-with-args d (p .out) (λ v ρ. note-args m v ρ) τ)
     class-at m σ t h = ap (λ (from : ℕ). next (f from t σ) (λ d τ. note-with-args d from (λ v ρ. note-args m v ρ) τ)) (sym (h .out-count))
@@ -113,11 +113,11 @@ module _ {s : Text} {ws ws₁ : Work} {p : Writer} {r₁ : Told} where
 -- I and arguments, behind what has the number t
 module _ {s : Text} {ws ws₂ : Work} {o₁ : Text} {p p₁ : Writer} (t : ℕ) {r₁ : Told} (i : starts (drop (p .at) s) (73 ∷ []) ≡ true)
     (k : Copies s (ws .out) o₁ p p₁) (u : Fueled 0 (p₁ .out) 1 (λ m. note-args m t) s (out-to ws o₁) ws₂ p₁ r₁) where
-  pub args-from : {σ : Notes} → Holds s ws p σ → (m : ℕ) → length s ≤ m + p .at
+  pub args-from : {σ : Notes} → Carries s ws p σ → (m : ℕ) → length s ≤ m + p .at
       → Refines s (Spent 0 (p₁ .out) p₁) ws₂ r₁ (note-args m t (put (73 ∷ []) (go-to (drop (p .at + 1) s) σ)))
   args-from {σ} h m l = u _ (k .1 ws σ h _ _ (byte-is h 73 i)) m (omega (arith, k .0))
 
-  pub args-at : {σ : Notes} → Holds s ws p σ → (m : ℕ) → length s ≤ m + p .at
+  pub args-at : {σ : Notes} → Carries s ws p σ → (m : ℕ) → length s ≤ m + p .at
       → Refines s (Spent 1 (p .out) p) ws₂ r₁ (note-args m t (put (73 ∷ []) (go-to (drop (p .at + 1) s) σ)))
   args-at h m l = within (λ x y. spent-stands (omega (arith, k .0)) (passed-spent (k .0) (omega arith) y)) (args-from h m l)
 
@@ -133,7 +133,7 @@ pub record Enclosed (s : Text) (ws : Work) (from : ℕ) (p q : Writer) (d : ℕ)
   pub room : Room 0 1 5 q
   pub ready : Ready s ws q
 
-module _ {s : Text} {ws ws₂ : Work} {p p₂ : Writer} {d b : ℕ} {g : Got ℕ} {σ : Notes} (h : Holds s ws p σ) (w : Answered s (Spent 1 b p) ws₂ p₂ d g) where
+module _ {s : Text} {ws ws₂ : Work} {p p₂ : Writer} {d b : ℕ} {g : Got ℕ} {σ : Notes} (h : Carries s ws p σ) (w : Answered s (Spent 1 b p) ws₂ p₂ d g) where
   pub close-next : (Room 0 0 1 p₂) × ((s : Text) × ReadyOut s (ws₂ .out) p₂)
   close-next = (spent-room h (w .limits) (omega arith) (omega arith) (omega arith), (_, ready-out (w .state, w .holds)))
 
@@ -165,7 +165,7 @@ module _ {s : Text} {ws : Work} {p : Writer} (t from : ℕ) where
   without-args e l b σ h m f = by (byte-not h 73 _ _ e) (tells h (spent-nothing b) l)
 
   module _ (i : starts (drop (p .at) s) (73 ∷ []) ≡ true) {tag : ℕ} (g : Tag (ws .notes) p t tag) where
-    with-args-at : {σ : Notes} (m : ℕ) → Holds s ws p σ → {b : Bool} → eqb tag 48 ≡ b → note-with-args t from (λ v ρ. note-args m v ρ) σ ≡ when b (enclosed m t from (drop (p .at + 1) s) σ)
+    with-args-at : {σ : Notes} (m : ℕ) → Carries s ws p σ → {b : Bool} → eqb tag 48 ≡ b → note-with-args t from (λ v ρ. note-args m v ρ) σ ≡ when b (enclosed m t from (drop (p .at + 1) s) σ)
     with-args-at {σ} m h {b} e =
         byte-next _ _ (byte-is h 73 i)
         ∙ ap (λ (x : ℕ). when (eqb x 48) (enclosed m t from (drop (p .at + 1) s) σ)) (sym (g s ws σ h))
@@ -223,9 +223,9 @@ module _ {s : Text} {ws ws₁ : Work} {p : Writer} {r₁ : Told} (t : ℕ) (u : 
 
       module _ {q₂ : Writer} {d : ℕ} (i : r₂ ≡ Number q₂ d) where
         abbrev Counted : Notes → Type 0
-        Counted σ = (τ : Notes) × ((Holds s (notes-to ws₁ n₂) q₂ τ) × ((Spent 0 (p .out) p q₂) × ((p .at + 1 ≤ q₂ .at) × (d < most-number))))
+        Counted σ = (τ : Notes) × ((Carries s (notes-to ws₁ n₂) q₂ τ) × ((Spent 0 (p .out) p q₂) × ((p .at + 1 ≤ q₂ .at) × (d < most-number))))
 
-        counted-at : {σ : Notes} → Holds s ws p σ → (m : ℕ) → length s ≤ m + p .at
+        counted-at : {σ : Notes} → Carries s ws p σ → (m : ℕ) → length s ≤ m + p .at
             → (c : Counted σ) × (note-args (suc m) t σ ≡ behind-arg m d (c .0))
         counted-at {σ} h m l =
             let w = answered e (u σ h m (omega arith)) in

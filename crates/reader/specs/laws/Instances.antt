@@ -12,7 +12,7 @@ use Rattle.parser.specs.declared.state.Parser.{Parser}
 use Rattle.parser.specs.States.{args-to, templated-to}
 use Rattle.parser.specs.Holds.{Memory, Holds, Stands}
 use Rattle.parser.specs.laws.Holds.{by-state, holds-templated}
-use Rattle.reader.specs.Instances.{instance-of, at-S-of, bare, marked, Carries}
+use Rattle.reader.specs.Instances.{instance-of, at-S-of, bare, marked, Passes}
 use Rattle.reader.specs.laws.Opens.{at-S, s-name-is, s-type-is}
 use Rattle.reader.specs.laws.Standing.{stands-kept}
 
@@ -26,31 +26,31 @@ at-S-is true σ = s-name-is σ
 at-S-is false σ = s-type-is σ
 
 -- a text that stands goes on standing
-pub carried :
+pub passed :
     {k d : ℕ} {s base : Text} {from : ℕ} {m : Memory} {p r : Parser} {n : ℕ} {t : Text} {σ : State} {f : State → State} →
-    Carries f p r → Stands k d s base from m p n t σ → Stands k d s base from m r n t (f σ)
-carried {m = m} c h = stands-kept h (c .holds _ _ _ (h .holds)) (ap (λ (n : ℕ). take n (m .text)) (c .top)) (c .depth) (omega (arith, h .more, c .at))
+    Passes f p r → Stands k d s base from m p n t σ → Stands k d s base from m r n t (f σ)
+passed {m = m} c h = stands-kept h (c .holds _ _ _ (h .holds)) (ap (λ (n : ℕ). take n (m .text)) (c .top)) (c .depth) (omega (arith, h .more, c .at))
 
 -- ---------------------------------------------------------------- the functions
 
-pub carries-none : (p : Parser) {f : State → State} → ((σ : State) → f σ ≡ σ) → Carries f p p
-carries-none p {f} e = record {
+pub passes-none : (p : Parser) {f : State → State} → ((σ : State) → f σ ≡ σ) → Passes f p p
+passes-none p {f} e = record {
   at = refl;
   depth = refl;
   top = refl;
   holds = λ s m σ h. subst (Holds s m p) (sym (e σ)) h;
 }
 
-pub carries-bare : {p r : Parser} → (r ≡ args-to p 0 0) × ((s : Text) (m : Memory) (σ : State) → Holds s m p σ → Holds s m r (bare true σ)) → Carries (bare true) p r
-carries-bare (e, h) = record {
+pub passes-bare : {p r : Parser} → (r ≡ args-to p 0 0) × ((s : Text) (m : Memory) (σ : State) → Holds s m p σ → Holds s m r (bare true σ)) → Passes (bare true) p r
+passes-bare (e, h) = record {
   at = ap (λ (x : Parser). x .at) e;
   depth = ap (λ (x : Parser). x .depth) e;
   top = ap (λ (x : Parser). x .top) e;
   holds = h;
 }
 
-pub carries-marked : {p r : Parser} → r ≡ templated-to p true → Carries (marked true) p r
-carries-marked e = record {
+pub passes-marked : {p r : Parser} → r ≡ templated-to p true → Passes (marked true) p r
+passes-marked e = record {
   at = ap (λ (x : Parser). x .at) e;
   depth = ap (λ (x : Parser). x .depth) e;
   top = ap (λ (x : Parser). x .top) e;

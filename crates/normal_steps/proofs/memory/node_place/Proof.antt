@@ -4,7 +4,7 @@ use mathlib.Core.Path.{_≡_, sym, ap, _∙_}
 use Prim.Native.Nat.{ℕ, _-_, _≤_}
 use Rattle.normal_nodes.specs.Nodes.{node, same-node, seek-by}
 use Rattle.normal_steps.specs.Parts.{part}
-use Rattle.normal_steps.specs.Holds.{nodes-in}
+use Rattle.normal_steps.specs.Carries.{nodes-in}
 use Rattle.normal_steps.specs.laws.Seeks.{seek-empty, sought-nowhere}
 use Rattle.normal_steps.specs.Rows.{rows-of}
 use Rattle.normal_steps.specs.laws.Rows.{node-here, node-past}

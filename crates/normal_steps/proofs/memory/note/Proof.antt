@@ -2,7 +2,7 @@
 use lib.ListN.{length-set}
 use Rattle.normal_nodes.specs.Nodes.{node}
 use Rattle.normal_steps.specs.Parts.{part}
-use Rattle.normal_steps.specs.laws.Holds.{row}
+use Rattle.normal_steps.specs.laws.Carries.{row}
 use Rattle.normal_steps.specs.laws.Slices.{notes-size}
 use Rattle.normal_steps.specs.laws.Memory.{sought-nodes, inside-here, note-known, note-new}
 use borrow.Author.Needs.{needs}

@@ -1,5 +1,5 @@
 -- `normal_steps::memory::put_byte` writes a byte behind the others. Assumes nothing.
-use Rattle.normal_steps.specs.laws.Written.{wrote-one}
+use Rattle.normal_steps.specs.laws.WrittenAt.{wrote-one}
 use Rattle.normal_steps.specs.laws.Slices.{puts-by}
 use borrow.Author.Needs.{needs}
 use native.Mathlib.Omega.{arith}

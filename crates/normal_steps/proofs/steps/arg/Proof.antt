@@ -1,7 +1,7 @@
 -- `normal_steps::steps::arg` notes an argument behind what has the number t, and counts it. Assumes nothing.
 use native.Mathlib.Omega.{arith}
 use borrow.Author.Needs.{needs}
-use Rattle.normal_steps.specs.Holds.{tells}
+use Rattle.normal_steps.specs.Carries.{tells}
 use Rattle.normal_steps.specs.laws.Told.{told, never, by}
 use Rattle.normal_steps.specs.laws.Steps.{counted-is}
 use Rattle.normal_steps.specs.laws.Moves.{by-state, holds-counted}

@@ -2,7 +2,7 @@
 use mathlib.Core.Path.{refl, ap, _∙_}
 use lib.ListN.{drop}
 use Rattle.catalogue.specs.Spelling.{name-bytes}
-use Rattle.normal_steps.specs.Holds.{tells, refuses}
+use Rattle.normal_steps.specs.Carries.{tells, refuses}
 use Rattle.normal_steps.specs.Parts.{part}
 use native.Mathlib.Omega.{arith}
 use borrow.Author.Needs.{needs}

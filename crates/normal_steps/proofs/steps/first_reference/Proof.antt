@@ -3,7 +3,7 @@ use mathlib.Core.Path.{ap, _∙_}
 use native.Mathlib.Omega.{arith}
 use borrow.Author.Needs.{needs}
 use Rattle.normal_walk.specs.Walk.{reference}
-use Rattle.normal_steps.specs.Holds.{tells, refuses}
+use Rattle.normal_steps.specs.Carries.{tells, refuses}
 use Rattle.normal_steps.specs.laws.Moves.{by-state, holds-moved, ready-notes, work-of}
 use Rattle.normal_steps.specs.laws.Limits.{passed-none, spent}
 use Rattle.normal_steps.specs.laws.Told.{by}

@@ -3,7 +3,7 @@ use mathlib.Core.Path.{ap, _∙_}
 use native.Mathlib.Omega.{arith}
 use borrow.Author.Needs.{needs}
 use Rattle.normal_walk.specs.Walk.{literal}
-use Rattle.normal_steps.specs.Holds.{refuses}
+use Rattle.normal_steps.specs.Carries.{refuses}
 use Rattle.normal_steps.specs.laws.Slices.{out-size}
 use Rattle.normal_steps.specs.laws.Limits.{passed-none, passed-more, room-less, spent}
 use Rattle.normal_steps.specs.laws.Told.{by, within}

@@ -3,7 +3,7 @@ use mathlib.Core.Path.{refl, _∙_, ap}
 use native.Mathlib.Omega.{arith}
 use Rattle.normal_walk.specs.Walk.{name}
 use borrow.Author.Needs.{needs}
-use Rattle.normal_steps.specs.Holds.{refuses}
+use Rattle.normal_steps.specs.Carries.{refuses}
 use Rattle.normal_steps.specs.laws.Limits.{room-less, spent}
 use Rattle.normal_steps.specs.laws.Told.{by, within}
 use Rattle.normal_steps.specs.laws.Steps.{with-none, with-some}

@@ -4,7 +4,7 @@ use native.Mathlib.Omega.{arith}
 use borrow.Author.Needs.{needs}
 use borrow.Author.Tests.{not-true, not-false}
 use Rattle.normal_nodes.specs.Nodes.{wrap-node, may-stand}
-use Rattle.normal_steps.specs.Holds.{tells, refuses}
+use Rattle.normal_steps.specs.Carries.{tells, refuses}
 use Rattle.normal_steps.specs.laws.Limits.{room-less, room-after, took-more}
 use Rattle.normal_steps.specs.laws.Told.{told, never, by}
 use Rattle.normal_steps.specs.laws.Steps.{entered-is, when-true, when-false}

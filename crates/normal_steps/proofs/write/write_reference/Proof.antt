@@ -3,8 +3,8 @@ use mathlib.Core.List.{[], _∷_}
 use mathlib.Core.Path.{sym, ap, ap₂, _∙_}
 use Prim.Native.Nat.{ℕ}
 use lib.ListN.{length, length-set}
-use Rattle.normal_steps.specs.laws.Written.{wrote-three, wrote-four, wrote-five}
-use Rattle.normal_steps.specs.laws.Written.{wrote-as, wrote-two, ref-none, ref-one, ref-two, ref-three, three-as}
+use Rattle.normal_steps.specs.laws.WrittenAt.{wrote-three, wrote-four, wrote-five}
+use Rattle.normal_steps.specs.laws.WrittenAt.{wrote-as, wrote-two, ref-none, ref-one, ref-two, ref-three, three-as}
 use borrow.Author.Needs.{needs}
 use native.Mathlib.Omega.{arith}
 use Rattle.normal_steps.proofs.write.write_reference.Statement.{statement}

@@ -1,6 +1,6 @@
 -- `normal_writer::symbol::scoped` writes a nested name behind _ZN or _ZNK. Assumes nothing.
 use borrow.Author.Tests.{not-true, not-false}
-use Rattle.normal_steps.specs.Holds.{work}
+use Rattle.normal_steps.specs.Carries.{work}
 use Rattle.normal_steps.specs.laws.Moves.{ready-out, ready-notes}
 use Rattle.normal_writer.specs.laws.Symbols.{begun-by, scoped-holds, scoped-none, scoped-ready, scoped-room, scoped-full, scoped-heads}
 use borrow.Author.Needs.{needs}

@@ -2,7 +2,7 @@
 -- is the bytes left. Assumes nothing.
 use Prim.Native.Nat.{_-_}
 use lib.ListN.{length}
-use Rattle.normal_steps.specs.Holds.{work}
+use Rattle.normal_steps.specs.Carries.{work}
 use Rattle.normal_steps.specs.laws.Moves.{ready-notes}
 use Rattle.normal_writer.specs.laws.Symbols.{Turned, turned-none, turned-from, turn-none, turn-told, turn-lit, turn-more, goes-ended, ends-broken}
 use borrow.Author.Needs.{needs}

@@ -1,5 +1,5 @@
 -- `normalize::entry::write` meets its contract: outside the class, or written and printed. Assumes nothing.
-use Rattle.normalize.specs.laws.Written.{not-written, was-written, written-fits, written-is}
+use Rattle.normalize.specs.laws.FromWriter.{not-written, was-written, written-fits, written-is}
 use Rattle.normalize.specs.laws.Answers.{told-6, told-normal}
 use borrow.Author.Needs.{needs}
 use Rattle.normalize.proofs.entry.write.Statement.{statement}

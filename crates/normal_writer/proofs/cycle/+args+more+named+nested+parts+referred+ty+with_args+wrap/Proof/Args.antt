@@ -3,7 +3,7 @@ use mathlib.Core.Path.{sym, _∙_}
 use Prim.Native.Nat.{ℕ, _-_}
 use lib.ListN.{length}
 use native.Mathlib.Omega.{arith}
-use Rattle.normal_steps.specs.Holds.{work}
+use Rattle.normal_steps.specs.Carries.{work}
 use Rattle.normal_writer.specs.laws.Loops.{nothing-yet}
 use Rattle.normal_writer.specs.laws.Types.{ArgsSoFar, arg-refused, arg-next, count-refused, counted-next, args-end, args-again}
 use Rattle.normal_writer.proofs.cycle.args.Reads as args

@@ -7,7 +7,7 @@ use borrow.Author.Tests.{not-true, not-false}
 use native.Mathlib.Omega.{arith}
 use Rattle.grammar.specs.laws.Places.{starts-inside}
 use Rattle.normal_steps.specs.laws.Moves.{copied-ready, ready-out, ready-notes}
-use Rattle.normal_steps.specs.Holds.{work}
+use Rattle.normal_steps.specs.Carries.{work}
 use Rattle.normal_writer.specs.laws.Types.{args-told, close-next, closed-next}
 use Rattle.normal_writer.specs.laws.Parts.{MoreSoFar, part-refused, part-next, part-answer, angled-barred, angled-refused, angled-answer, end-lone}
 use Rattle.normal_writer.specs.laws.Parts.{end-answer, more-start, more-behind, more-again}

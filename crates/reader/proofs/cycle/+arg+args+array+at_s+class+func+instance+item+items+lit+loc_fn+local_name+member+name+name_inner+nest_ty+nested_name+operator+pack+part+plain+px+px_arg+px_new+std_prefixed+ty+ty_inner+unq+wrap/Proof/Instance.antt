@@ -8,7 +8,7 @@ use native.Mathlib.Omega.{arith}
 use Rattle.grammar.specs.Reader.{onto, recorded}
 use Rattle.parser.specs.laws.Holds.{by, got, refused-on, sooner}
 use Rattle.reader.specs.Instances.{marked}
-use Rattle.reader.specs.laws.Instances.{instance-is, carried}
+use Rattle.reader.specs.laws.Instances.{instance-is, passed}
 use Rattle.reader.specs.laws.Standing.{joined, wrote-least}
 use Rattle.reader.proofs.cycle.instance.Reads as instance
 use Rattle.reader.proofs.cycle.+arg+args+array+at_s+class+func+instance+item+items+lit+loc_fn+local_name+member+name+name_inner+nest_ty+nested_name+operator+pack+part+plain+px+px_arg+px_new+std_prefixed+ty+ty_inner+unq+wrap.Lts-instance as lts
@@ -107,8 +107,8 @@ returns-2 t c =
     let at-bare = before-args2 t at-args2 in
     let at-start = before-bare t at-bare in
     λ base from x σ h l.
-    let u = carried (at-bare .bare .ensures) h in
+    let u = passed (at-bare .bare .ensures) h in
     let g = got (at-got .got .given .1) (at-args2 .args2 .ensures _ (u .holds)) in
     by (instance-is (at-start .args .named) x σ ∙ ap (onto (λ a v. recorded (x ++ a) (marked (at-start .args .named) v))) (g .is))
     (sooner (omega (arith, at-bare .bare .ensures .at))
-    (c .before .before .before .before .recorded .ensures _ _ _ _ _ _ _ (carried (c .before .before .before .before .before .before .before .before .marked .ensures) (joined u (g .wrote) (omega (arith, at-bare .bare .ensures .depth)) l))))
+    (c .before .before .before .before .recorded .ensures _ _ _ _ _ _ _ (passed (c .before .before .before .before .before .before .before .before .marked .ensures) (joined u (g .wrote) (omega (arith, at-bare .bare .ensures .depth)) l))))

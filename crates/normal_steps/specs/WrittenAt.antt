@@ -5,6 +5,6 @@ use Prim.Native.Nat.{ℕ, _+_}
 use lib.ListN.{length, take, drop}
 use Rattle.grammar.specs.Text.{Text}
 
-pub record Wrote (out out' : Text) (at r : ℕ) (w : Text) : Type 0 where
+pub record WrittenAt (out out' : Text) (at r : ℕ) (w : Text) : Type 0 where
   pub is : out' ≡ take at out ++ w ++ drop (at + length w) out
   pub end : r ≡ at + length w

@@ -76,7 +76,7 @@ unfoldable pub small : ℕ → Bool
 small d = ltb d most-number
 
 -- the state and the slices hold what is kept
-pub record Holds (s : Text) (ws : Work) (p : Writer) (σ : Notes) : Type 0 where
+pub record Carries (s : Text) (ws : Work) (p : Writer) (σ : Notes) : Type 0 where
   pub source : length s ≤ 4096
   pub place : p .at ≤ length s
   pub rest : σ .rest ≡ drop (p .at) s
@@ -97,7 +97,7 @@ pub record Holds (s : Text) (ws : Work) (p : Writer) (σ : Notes) : Type 0 where
   pub short : p .out ≤ 16 * p .at
 
 abbrev pub Ready : Text → Work → Writer → Type 0
-Ready s ws p = (σ : Notes) × Holds s ws p σ
+Ready s ws p = (σ : Notes) × Carries s ws p σ
 
 abbrev pub ReadyOut : Text → Text → Writer → Type 0
 ReadyOut s out p = (ws : Work) × Ready s (out-to ws out) p
@@ -107,7 +107,7 @@ ReadyNotes s notes p = (ws : Work) × Ready s (notes-to ws notes) p
 
 -- the number d has the tag c, whatever else is held
 abbrev pub Tag : Text → Writer → ℕ → ℕ → Type 0
-Tag notes p d c = (s : Text) (ws : Work) (σ : Notes) → Holds s (notes-to ws notes) p σ → c ≡ tag-of (σ .nodes) d
+Tag notes p d c = (s : Text) (ws : Work) (σ : Notes) → Carries s (notes-to ws notes) p σ → c ≡ tag-of (σ .nodes) d
 
 -- there is room for so many nodes, entries and bytes more
 pub record Room (n t o : ℕ) (p : Writer) : Type 0 where
@@ -138,29 +138,29 @@ pub record Spent (k b : ℕ) (p p' : Writer) : Type 0 where
 
 -- the answer is that of the walk with numbers, and L holds of the next state
 pub data Refines (s : Text) (L : Writer → Type 0) (ws : Work) : Told → Got ℕ → Type 0 where
-  tells : {p : Writer} {d : ℕ} {σ : Notes} → Holds s ws p σ → L p → d < most-number → Refines s L ws (Number p d) (got d σ)
+  tells : {p : Writer} {d : ℕ} {σ : Notes} → Carries s ws p σ → L p → d < most-number → Refines s L ws (Number p d) (got d σ)
   refuses : Refines s L ws Bad bad
 
 -- a reading of j bytes at least
 abbrev pub Reads : ℕ → ℕ → Noter ℕ → Text → Work → Work → Writer → Told → Type 0
-Reads j b f s ws ws' p r = (σ : Notes) → Holds s ws p σ → Refines s (λ p'. (p .at + j ≤ p' .at) × Spent 1 b p p') ws' r (f σ)
+Reads j b f s ws ws' p r = (σ : Notes) → Carries s ws p σ → Refines s (λ p'. (p .at + j ≤ p' .at) × Spent 1 b p p') ws' r (f σ)
 
 -- a reading with fuel, which is never below the number of bytes left and e
 abbrev pub Fueled : ℕ → ℕ → ℕ → (ℕ → Noter ℕ) → Text → Work → Work → Writer → Told → Type 0
 Fueled k b e f s ws ws' p r =
-    (σ : Notes) → Holds s ws p σ → (m : ℕ) → length s + e ≤ m + p .at → Refines s (Spent k b p) ws' r (f m σ)
+    (σ : Notes) → Carries s ws p σ → (m : ℕ) → length s + e ≤ m + p .at → Refines s (Spent k b p) ws' r (f m σ)
 
 -- a step that reads nothing
 abbrev pub Steps : ℕ → ℕ → ℕ → ℕ → Noter ℕ → Text → Work → Work → Writer → Told → Type 0
-Steps x y z b f s ws ws' p r = (σ : Notes) → Holds s ws p σ → Refines s (Took x y z b p) ws' r (f σ)
+Steps x y z b f s ws ws' p r = (σ : Notes) → Carries s ws p σ → Refines s (Took x y z b p) ws' r (f σ)
 
 -- a step that is never refused
 pub record Went (s : Text) (ws : Work) (L : Writer → Type 0) (p : Writer) (σ : Notes) : Type 0 where
-  pub holds : Holds s ws p σ
+  pub holds : Carries s ws p σ
   pub limits : L p
 
 abbrev pub Does : ℕ → ℕ → ℕ → ℕ → (Notes → Notes) → Text → Work → Work → Writer → Writer → Type 0
-Does x y z b f s ws ws' p p' = (σ : Notes) → Holds s ws p σ → Went s ws' (Took x y z b p) p' (f σ)
+Does x y z b f s ws ws' p p' = (σ : Notes) → Carries s ws p σ → Went s ws' (Took x y z b p) p' (f σ)
 
 -- what is before the place `to` was read, k bytes were written, and nothing was noted
 pub record Passed (to k : ℕ) (p p' : Writer) : Type 0 where
@@ -174,13 +174,13 @@ pub record Passed (to k : ℕ) (p p' : Writer) : Type 0 where
 abbrev pub Copies : Text → Text → Text → Writer → Writer → Type 0
 Copies s o o' p p' =
     Passed (p .at + 1) 1 p p'
-    × ((ws : Work) (σ : Notes) → Holds s (out-to ws o) p σ → (c : ℕ) (t : Text) → σ .rest ≡ c ∷ t → Holds s (out-to ws o') p' (put (c ∷ []) (go-to t σ)))
+    × ((ws : Work) (σ : Notes) → Carries s (out-to ws o) p σ → (c : ℕ) (t : Text) → σ .rest ≡ c ∷ t → Carries s (out-to ws o') p' (put (c ∷ []) (go-to t σ)))
 
 -- a text was written
 abbrev pub Puts : Text → Text → Text → Writer → Writer → Type 0
 Puts w o o' p p' =
     (p' ≡ written-to p (p .out + length w))
-    × ((s : Text) (ws : Work) (σ : Notes) → Holds s (out-to ws o) p σ → p .out + length w ≤ 16 * p .at → Holds s (out-to ws o') p' (put w σ))
+    × ((s : Text) (ws : Work) (σ : Notes) → Carries s (out-to ws o) p σ → p .out + length w ≤ 16 * p .at → Carries s (out-to ws o') p' (put w σ))
 
 -- ---------------------------------------------------------------- readings and steps
 

@@ -1,34 +1,36 @@
--- Laws of Written.antt. Assumes nothing.
-use mathlib.Core.Path.{_≡_, refl, sym, ap, subst, _∙_}
+-- Laws of WrittenAt.antt. Assumes nothing.
+use mathlib.Core.Path.{_≡_, refl, sym, ap, ap₂, subst, _∙_}
 use mathlib.Core.List.{[], _∷_, _++_, append-assoc}
-use Prim.Native.Nat.{ℕ, zero, suc, _+_, _-_, _/_, _%_, _≤_, _<_}
+use Prim.Native.Nat.{ℕ, zero, suc, _+_, _-_, _/_, _%_, _^_, _≤_, _<_}
 use native.Mathlib.Omega.{arith}
 use borrow.Author.Tests.{le-ltb}
 use lib.ListN.{length, take, drop, set, length-append}
 use lib.Seq.{sets-eq, take-at, drop-at, drop-drop, length-take-le}
 use Rattle.grammar.specs.Text.{Text, if_then_else_, decimal}
 use Rattle.grammar.specs.laws.Text.{decimal-last, decimal-more}
+use Rattle.grammar.specs.Numbers.{Decimal}
+use Rattle.grammar.specs.laws.Decimals.{decimal-enough}
 use Rattle.catalogue.specs.Spelling.{digit-of, base36, ref-digits, ref-bytes}
 use Rattle.normal_walk.specs.laws.Digits.{base36-one}
-use Rattle.normal_steps.specs.Written.{Wrote}
+use Rattle.normal_steps.specs.WrittenAt.{WrittenAt}
 
-pub wrote-as : {out out' v w : Text} {at r : ℕ} → v ≡ w → Wrote out out' at r v → Wrote out out' at r w
-wrote-as {out} {out'} {v} {w} {at} {r} e h = subst (λ (t : Text). Wrote out out' at r t) e h
+pub wrote-as : {out out' v w : Text} {at r : ℕ} → v ≡ w → WrittenAt out out' at r v → WrittenAt out out' at r w
+wrote-as {out} {out'} {v} {w} {at} {r} e h = subst (λ (t : Text). WrittenAt out out' at r t) e h
 
 -- ---------------------------------------------------------------- byte by byte
 
 module _ (out : Text) (at a : ℕ) where
-  pub wrote-one : at + 1 ≤ length out → Wrote out (set out at a) at (at + 1) (a ∷ [])
+  pub wrote-one : at + 1 ≤ length out → WrittenAt out (set out at a) at (at + 1) (a ∷ [])
   wrote-one h = record { is = sets-eq (a ∷ []) out at h; end = refl }
 
   module _ (b : ℕ) where
-    pub wrote-two : at + 2 ≤ length out → Wrote out (set (set out at a) (at + 1) b) at (at + 2) (a ∷ b ∷ [])
+    pub wrote-two : at + 2 ≤ length out → WrittenAt out (set (set out at a) (at + 1) b) at (at + 2) (a ∷ b ∷ [])
     wrote-two h =
         let e : at + 1 ≡ suc at = omega arith in
         record { is = ap (λ (j : ℕ). set (set out at a) j b) e ∙ sets-eq (a ∷ b ∷ []) out at h; end = refl }
 
     module _ (c : ℕ) where
-      pub wrote-three : at + 3 ≤ length out → Wrote out (set (set (set out at a) (at + 1) b) (at + 2) c) at (at + 3) (a ∷ b ∷ c ∷ [])
+      pub wrote-three : at + 3 ≤ length out → WrittenAt out (set (set (set out at a) (at + 1) b) (at + 2) c) at (at + 3) (a ∷ b ∷ c ∷ [])
       wrote-three h =
           let e : at + 1 ≡ suc at = omega arith in
           let f : at + 2 ≡ suc (suc at) = omega arith in
@@ -38,7 +40,7 @@ module _ (out : Text) (at a : ℕ) where
           }
 
       pub wrote-four : (d : ℕ) → at + 4 ≤ length out
-          → Wrote out (set (set (set (set out at a) (at + 1) b) (at + 2) c) (at + 3) d) at (at + 4) (a ∷ b ∷ c ∷ d ∷ [])
+          → WrittenAt out (set (set (set (set out at a) (at + 1) b) (at + 2) c) (at + 3) d) at (at + 4) (a ∷ b ∷ c ∷ d ∷ [])
       wrote-four d h =
           let e : at + 1 ≡ suc at = omega arith in
           let f : at + 2 ≡ suc (suc at) = omega arith in
@@ -53,7 +55,7 @@ module _ (out : Text) (at a : ℕ) where
           }
 
       pub wrote-five : (d f : ℕ) → at + 5 ≤ length out
-          → Wrote out (set (set (set (set (set out at a) (at + 1) b) (at + 2) c) (at + 3) d) (at + 4) f) at (at + 5) (a ∷ b ∷ c ∷ d ∷ f ∷ [])
+          → WrittenAt out (set (set (set (set (set out at a) (at + 1) b) (at + 2) c) (at + 3) d) (at + 4) f) at (at + 5) (a ∷ b ∷ c ∷ d ∷ f ∷ [])
       wrote-five d f h =
           let e : at + 1 ≡ suc at = omega arith in
           let g : at + 2 ≡ suc (suc at) = omega arith in
@@ -62,7 +64,7 @@ module _ (out : Text) (at a : ℕ) where
           record { is = rw (e, g, i, j) (sets-eq (a ∷ b ∷ c ∷ d ∷ f ∷ []) out at h); end = refl }
 
 -- one text behind another
-pub wrote-both : {o o' o'' v w : Text} {at m r : ℕ} → at + length v ≤ length o → Wrote o o' at m v → Wrote o' o'' m r w → Wrote o o'' at r (v ++ w)
+pub wrote-both : {o o' o'' v w : Text} {at m r : ℕ} → at + length v ≤ length o → WrittenAt o o' at m v → WrittenAt o' o'' m r w → WrittenAt o o'' at r (v ++ w)
 wrote-both {o} {o'} {o''} {v} {w} {at} {m} {r} h p q =
     let l : length (take at o) ≡ at = length-take-le at o (omega arith) in
     let f : length (take at o ++ v) ≡ m = length-append (take at o) v ∙ omega (arith, p .end) in
@@ -107,6 +109,28 @@ module _ (n : ℕ) where
       → decimal (suc n) n ≡ (48 + n / 10 / 10 / 10) ∷ (48 + n / 10 / 10 % 10) ∷ (48 + n / 10 % 10) ∷ (48 + n % 10) ∷ []
   decimal-four l h =
       decimal-more (suc n) n (omega arith) (omega arith) ∙ ap (λ (t : Text). t ++ ((48 + n % 10) ∷ [])) (three-digits (suc n - 1) (n / 10) (omega arith) (omega arith) (omega arith))
+
+below-power : (n : ℕ) → n < 10 ^ suc n
+below-power zero = omega arith
+below-power (suc n) = let h = below-power n in omega arith
+
+pub decimal-as : (n : ℕ) → n < 10000 → decimal 20 n ≡ decimal (suc n) n
+decimal-as n h =
+    let l : n < 100000000000000000000 = omega arith in decimal-enough 20 (suc n) n (omega arith) (omega arith) l (below-power n)
+
+pub wrote-decimal : {out out' : Text} {at n end r : ℕ} → n < 10000 → end ≡ at + length (decimal (suc n) n) → Decimal n end out out' r
+    → WrittenAt out out' at end (decimal (suc n) n)
+wrote-decimal {out} {out'} {at} {n} {end} {r} h f w =
+    let e = decimal-as n h in
+    let g : r ≡ at = omega (arith, w .place, ap length e) in
+    record {
+      is =
+          w .is
+          ∙ ap₂ (λ (j : ℕ) (t : Text). take j out ++ (t ++ drop end out)) g e
+          ∙ sym (append-assoc (take at out) (decimal (suc n) n) (drop end out))
+          ∙ ap (λ (j : ℕ). take at out ++ decimal (suc n) n ++ drop j out) f;
+      end = f;
+    }
 
 -- ---------------------------------------------------------------- references
 
