@@ -15,7 +15,8 @@ ghost use Rattle.catalogue.specs.Spelling.{name-bytes};
 ghost use Rattle.normal_nodes.specs.Nodes.{Notes, node, same-node, note-last-is, settled, pushed};
 ghost use Rattle.normal_steps.specs.Parts.{part};
 ghost use Rattle.normal_steps.specs.Seeks.{Sought};
-ghost use Rattle.normal_steps.specs.Carries.{Work, work, notes-to, Carries, Ready, ReadyNotes, Tag, Room, Steps, Does, Puts, Inside, node-in, nodes-in, notes-node, most-number};
+ghost use Rattle.normal_steps.specs.Carries.{Work, work, notes-to, Carries, Ready, ReadyNotes, Tag, Room, Steps, Does, Puts, Inside, node-in, nodes-in};
+ghost use Rattle.normal_steps.specs.Carries.{notes-node, most-number};
 ghost use Rattle.normal_steps.specs.Rows.{row-at, rows-of};
 
 // A byte is written.

@@ -14,8 +14,8 @@ ghost use lib.Dec.{eqb};
 ghost use lib.ListN.{length};
 ghost use Rattle.grammar.specs.Text.{Text};
 ghost use Rattle.normal_nodes.specs.Nodes.{note-at-name, at-reference, a-bare, a-class, may-stand, signed-kind, entered, entered-nested};
-ghost use Rattle.normal_steps.specs.Holds.{Work, work, notes-to, Ready, ReadyOut, ReadyNotes, Room, Reads, Steps, Does, Copies, Closes, most-number, at-literal, at-part, counts-arg, wraps};
-ghost use Rattle.normal_steps.specs.Carries.{Work, work, notes-to, Ready, ReadyOut, ReadyNotes, Room, Reads, Steps, Does, Copies, Closes, most-number, at-literal, at-part, counts-arg, wraps};
+ghost use Rattle.normal_steps.specs.Carries.{Work, work, notes-to, Ready, ReadyOut, ReadyNotes, Room, Reads, Steps, Does, Copies, Closes, most-number};
+ghost use Rattle.normal_steps.specs.Carries.{at-literal, at-part, counts-arg, wraps};
 
 // The next byte is written, and taken.
 pub fn copy_byte(s: &[u8], out: &mut [u8], p: Writer) -> Writer

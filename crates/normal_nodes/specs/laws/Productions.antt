@@ -12,8 +12,8 @@ use Rattle.catalogue.specs.Tree.{Ty, Args, letter, wrap, root, sub, app, lit, o
 use Rattle.catalogue.specs.Spelling.{name-bytes}
 use Rattle.catalogue.specs.Class.{stands, push, last-is, push-new}
 use Rattle.catalogue.specs.Recogniser.{if-next, Lead, lead-letter, lead-wrap, lead-digit, lead-S, lead-N, lead-L, lead-none}
-use Rattle.normal_walk.specs.Walk.{Walk, Walker, got, bad, when, with, name, reference, literal, lit-bytes, wrote, in-brackets, with-args, enter, enter-nested, at-lead, at-parts, end-or, at-more, at-arg}
-use Rattle.normal_walk.specs.laws.Holds.{OfRd}
+use Rattle.normal_walk.specs.Walk.{Walk, Walker, got, bad, when, with, name, reference, literal, lit-bytes, wrote, in-brackets, with-args, enter, enter-nested}
+use Rattle.normal_walk.specs.Walk.{at-lead, at-parts, end-or, at-more, at-arg}
 use Rattle.normal_walk.specs.laws.Joins.{OfRd}
 use Rattle.normal_walk.specs.laws.Leaves.{Literal, lit-sound, Begins}
 use Rattle.normal_nodes.specs.Nodes.{Node, Notes, Noter, Got, next as next-note, when as when-note, note-at-name, at-reference, root-node, sub-node}

@@ -19,7 +19,8 @@ use Rattle.normal_steps.specs.declared.state.Told.the-variants.{Number}
 use Rattle.normal_steps.specs.States.{written-to, noted-to, entered-to}
 use Rattle.normal_steps.specs.WrittenAt.{WrittenAt}
 use Rattle.normal_steps.specs.laws.WrittenAt.{wrote-four}
-use Rattle.normal_steps.specs.Carries.{Row, node-in, nodes-in, flat, Inside, Noting, Work, out-to, notes-to, most-number, Carries, Room, Took, Went, Refines, tells, notes-node}
+use Rattle.normal_steps.specs.Carries.{Row, node-in, nodes-in, flat, Inside, Noting, Work, out-to, notes-to, most-number, Carries, Room, Took, Went}
+use Rattle.normal_steps.specs.Carries.{Refines, tells, notes-node}
 use Rattle.normal_steps.specs.Seeks.{Sought}
 use Rattle.normal_steps.specs.Rows.{rows-of}
 use Rattle.normal_steps.specs.laws.Rows.{rows-flat, flat-more, length-nodes}

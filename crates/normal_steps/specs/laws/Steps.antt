@@ -9,8 +9,8 @@ use borrow.Author.Tests.{eq-eqb, ne-eqb}
 use lib.Dec.{eqb}
 use Rattle.grammar.specs.Text.{Text, if_then_else_}
 use Rattle.catalogue.specs.Recogniser.{Rd, rd, stop}
-use Rattle.normal_nodes.specs.Nodes.{Node, node, Notes, Noter, noted, number-of, enter, Got, got, bad, next, with, when, counted, tag-of, note-last-is, settled, entered, entered-nested}
-use Rattle.normal_steps.specs.Holds.{counts-arg}
+use Rattle.normal_nodes.specs.Nodes.{Node, node, Notes, Noter, noted, number-of, enter, Got, got, bad, next, with, when, counted, tag-of, note-last-is}
+use Rattle.normal_nodes.specs.Nodes.{settled, entered, entered-nested}
 use Rattle.normal_steps.specs.Carries.{counts-arg}
 
 -- ---------------------------------------------------------------- joined readings

@@ -22,8 +22,8 @@ use Rattle.normal_walk.specs.Walk.{got, when, distinct, wrote, with-args
 use Rattle.normal_walk.specs.laws.Table.{Kept, Table, TablePre, TableArgs, table-pre-root, table-pre-entry, entry-at, table, table-pre, table-args}
 use Rattle.normal_walk.specs.laws.Fuel.{walked, walked-parts, walked-more, walked-args, args-is}
 use Rattle.normal_walk.specs.laws.Steps.{walked-letter, walked-wrap, walked-N, lead-N-is, walked-name, walked-ref, walked-lit, parts-name, parts-ref, more-I, more-name}
-use Rattle.normal_walk.specs.laws.Written.{arg-bytes, wrote-entry, wrote-entry-pre, wrote-wrap, wrote-root, wrote-root-pre, wrote-sub, wrote-sub-pre, wrote-single, wrote-app, wrote-app-pre}
-use Rattle.normal_walk.specs.laws.NormalSpelling.{arg-bytes, wrote-entry, wrote-entry-pre, wrote-wrap, wrote-root, wrote-root-pre, wrote-sub, wrote-sub-pre, wrote-single, wrote-app, wrote-app-pre}
+use Rattle.normal_walk.specs.laws.NormalSpelling.{arg-bytes, wrote-entry, wrote-entry-pre, wrote-wrap, wrote-root, wrote-root-pre, wrote-sub}
+use Rattle.normal_walk.specs.laws.NormalSpelling.{wrote-sub-pre, wrote-single, wrote-app, wrote-app-pre}
 
 abbrev is-i : ℕ → Bool
 is-i c = eqb c (code "I")

@@ -13,8 +13,8 @@ use Rattle.catalogue.specs.Spelling.{name-bytes}
 use Rattle.catalogue.specs.Class.{stands, push}
 use Rattle.catalogue.specs.Recogniser.{Lead, lead-letter, lead-wrap, lead-digit, lead-S, lead-N, lead-L, lead-none, lead}
 use Rattle.catalogue.specs.laws.ReadsBack.{name-long}
-use Rattle.normal_walk.specs.Walk.{Walk, Walker, name, reference, literal, wrote, in-brackets, with-args, enter, end-or, at-lead, at-parts, at-more, at-arg, walk-type, walk-parts, walk-more, walk-args}
-use Rattle.normal_walk.specs.laws.Holds.{OfRd, rd-map, Claim, Of, of-got, of-bad, of-when, of-with, of-then, of-next, of-choose, of-map}
+use Rattle.normal_walk.specs.Walk.{Walk, Walker, name, reference, literal, wrote, in-brackets, with-args, enter, end-or, at-lead, at-parts, at-more}
+use Rattle.normal_walk.specs.Walk.{at-arg, walk-type, walk-parts, walk-more, walk-args}
 use Rattle.normal_walk.specs.laws.Joins.{OfRd, rd-map, Claim, Of, of-got, of-bad, of-when, of-with, of-then, of-next, of-choose, of-map}
 use Rattle.normal_walk.specs.laws.Leaves.{name-sound, ref-sound, lit-sound}
 

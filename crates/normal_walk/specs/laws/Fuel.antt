@@ -14,8 +14,8 @@ use Rattle.catalogue.specs.Tree.{Ty, Args, root, sub, app, also, is-lit, is-cla
 use Rattle.catalogue.specs.Spelling.{name-bytes}
 use Rattle.catalogue.specs.Class.{push}
 use Rattle.catalogue.specs.Recogniser.{Rd, rd, stop, if-next, Lead, lead-letter, lead-wrap, lead-digit, lead-S, lead-N, lead-L, lead-none, lead}
-use Rattle.normal_walk.specs.Walk.{Walk, got, bad, Walker, next, when, with, name, reference, wrote, in-brackets, with-args, enter, end-or, at-lead, at-parts, at-more, at-arg, at-end, walk-type, walk-parts, walk-more, walk-args, walk-types}
-use Rattle.normal_walk.specs.laws.Holds.{OfRd, Claim, Of}
+use Rattle.normal_walk.specs.Walk.{Walk, got, bad, Walker, next, when, with, name, reference, wrote, in-brackets, with-args, enter, end-or, at-lead}
+use Rattle.normal_walk.specs.Walk.{at-parts, at-more, at-arg, at-end, walk-type, walk-parts, walk-more, walk-args, walk-types}
 use Rattle.normal_walk.specs.laws.Joins.{OfRd, Claim, Of}
 use Rattle.normal_walk.specs.laws.Fewer.{Fewer, name-fewer, ref-fewer, type-fewer, args-fewer}
 

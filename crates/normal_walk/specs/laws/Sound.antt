@@ -17,7 +17,6 @@ use Rattle.catalogue.specs.Class.{name-ok, stands, push, ok, resolve, resolve-p
 use Rattle.catalogue.specs.Recogniser.{Lead, lead-letter, lead-wrap, lead-digit, lead-S, lead-N, lead-L, lead-none, lead}
 use Rattle.catalogue.specs.laws.ReadsBack.{front, inner, inner′}
 use Rattle.normal_walk.specs.Walk.{Walker, name, reference, literal, enter-nested, at-lead, at-parts, at-more, at-arg, walk-type, walk-parts, walk-more, walk-args}
-use Rattle.normal_walk.specs.laws.Holds.{Of, of-got, of-bad, of-when, of-with, of-then, of-next, of-choose}
 use Rattle.normal_walk.specs.laws.Joins.{Of, of-got, of-bad, of-when, of-with, of-then, of-next, of-choose}
 use Rattle.normal_walk.specs.laws.Leaves.{name-sound, ref-sound, Literal, lit-sound, Begins, begins}
 

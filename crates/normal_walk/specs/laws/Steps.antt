@@ -17,8 +17,8 @@ use Rattle.catalogue.specs.Class.{name-ok, lit-ok, stands, push}
 use Rattle.catalogue.specs.laws.Numbers.{Some}
 use Rattle.catalogue.specs.Recogniser.{rd, if-next, lead-letter, lead-wrap, lead-digit, lead-S, lead-N, lead-L, lead}
 use Rattle.catalogue.specs.laws.ReadsBack.{lead-digit-is, digit-IE, digits-all, digits-some}
-use Rattle.normal_walk.specs.Walk.{Walk, got, bad, Walker, next, when, with, name, reference, literal, wrote, in-brackets, with-args, enter, enter-nested, lit-bytes, end-or, at-scoped, at-name, at-params, at-enc, result, walk-parts, walk-enc, walk-sym}
-use Rattle.normal_walk.specs.laws.Holds.{Of, of-got, of-when, of-with, of-then, of-next, of-map}
+use Rattle.normal_walk.specs.Walk.{Walk, got, bad, Walker, next, when, with, name, reference, literal, wrote, in-brackets, with-args, enter}
+use Rattle.normal_walk.specs.Walk.{enter-nested, lit-bytes, end-or, at-scoped, at-name, at-params, at-enc, result, walk-parts, walk-enc, walk-sym}
 use Rattle.normal_walk.specs.laws.Joins.{Of, of-got, of-when, of-with, of-then, of-next, of-map}
 use Rattle.normal_walk.specs.laws.Leaves.{name-spelled, ref-spelled, lit-spelled}
 use Rattle.normal_walk.specs.laws.Fewer.{Fewer, Shrinks, name-fewer, parts-fewer}

@@ -20,7 +20,6 @@ use Rattle.catalogue.specs.Recogniser.{if-next}
 use Rattle.catalogue.specs.laws.ReadsBack.{inner}
 use Rattle.catalogue.specs.laws.Decision.{valid-of}
 use Rattle.normal_walk.specs.Walk.{Walk, got, bad, Walker, name, at-end, at-scoped, at-name, at-params, result, walk-type, walk-parts, walk-types, walk-enc, walk-sym}
-use Rattle.normal_walk.specs.laws.Holds.{Of, of-got, of-bad, of-when, of-with, of-then, of-next}
 use Rattle.normal_walk.specs.laws.Joins.{Of, of-got, of-bad, of-when, of-with, of-then, of-next}
 use Rattle.normal_walk.specs.laws.Leaves.{name-sound}
 use Rattle.normal_walk.specs.laws.Sound.{Spelt, SpeltClass, ends-part, ends-args, SoundParts, type-sound, class-sound}

@@ -8,7 +8,6 @@ use Rattle.catalogue.specs.Spelling.{length-digits}
 use Rattle.normal_steps.specs.Parts.{part}
 use Rattle.normal_steps.specs.laws.Parts.{part-length}
 use Rattle.normal_steps.specs.laws.Slices.{wrote-paste}
-use Rattle.normal_steps.specs.laws.Written.{wrote-as, wrote-both}
 use Rattle.normal_steps.specs.laws.WrittenAt.{wrote-as, wrote-both}
 use borrow.Author.Needs.{needs}
 use native.Mathlib.Omega.{arith}

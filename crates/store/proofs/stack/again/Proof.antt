@@ -4,7 +4,6 @@ use mathlib.Core.Logic.{inr}
 use native.Mathlib.Omega.{arith}
 use borrow.Author.Needs.{needs}
 use Rattle.store.proofs.Stacks.{again-put}
-use borrow.Author.Needs.{needs}
 use Rattle.store.proofs.stack.again.Statement.{statement}
 use Rattle.store.proofs.stack.again.Tie as tie
 

@@ -4,7 +4,6 @@ use mathlib.Core.Logic.{inl}
 use native.Mathlib.Omega.{arith}
 use borrow.Author.Needs.{needs}
 use Rattle.store.proofs.Stacks.{cut-is}
-use borrow.Author.Needs.{needs}
 use Rattle.store.proofs.stack.cut.Statement.{statement}
 use Rattle.store.proofs.stack.cut.Tie as tie
 

@@ -6,7 +6,6 @@ use native.Mathlib.Omega.{arith}
 use borrow.Author.Needs.{needs}
 use lib.ListN.{length, length-set}
 use Rattle.store.proofs.Stacks.{slot-room, byte-room, slot-put, byte-put}
-use borrow.Author.Needs.{needs}
 use Rattle.store.proofs.stack.piece.Statement.{statement}
 use Rattle.store.proofs.stack.piece.Tie as tie
 

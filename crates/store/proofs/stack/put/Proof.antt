@@ -2,7 +2,6 @@
 -- Assumes nothing.
 use borrow.Author.Needs.{needs}
 use Rattle.store.proofs.Stacks.{put-put}
-use borrow.Author.Needs.{needs}
 use Rattle.store.proofs.stack.put.Statement.{statement}
 use Rattle.store.proofs.stack.put.Tie as tie
 

@@ -5,7 +5,6 @@ use native.Mathlib.Omega.{arith}
 use borrow.Author.Needs.{needs}
 use Rattle.store.specs.Stack.{kept-bytes}
 use Rattle.store.proofs.Stacks.{room-here, room-cut}
-use borrow.Author.Needs.{needs}
 use Rattle.store.proofs.stack.room.Statement.{statement}
 use Rattle.store.proofs.stack.room.Tie as tie
 

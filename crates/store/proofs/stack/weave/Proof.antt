@@ -6,7 +6,6 @@ use native.Mathlib.Omega.{arith}
 use borrow.Author.Needs.{needs}
 use lib.ListN.{length}
 use Rattle.store.proofs.Stacks.{counted, weave-fits, weave-put}
-use borrow.Author.Needs.{needs}
 use Rattle.store.proofs.stack.weave.Statement.{statement}
 use Rattle.store.proofs.stack.weave.Tie as tie
 

@@ -7,7 +7,6 @@ use borrow.Author.Needs.{needs}
 use lib.ListN.{take}
 use Rattle.grammar.specs.Reader.{bytes-of}
 use Rattle.store.specs.laws.Entries.{start-at}
-use borrow.Author.Needs.{needs}
 use Rattle.store.proofs.table.start.Statement.{statement}
 use Rattle.store.proofs.table.start.Tie as tie
 
