@@ -70,7 +70,7 @@ pub number-is : (s out text store ends : Text) {out' : Text} (r : Answer) {k : �
     → 16384 ≤ length out → Long least-normal-ends (slices [] text store ends) → k ≡ number-in r → k ≡ number-of (demangle most-symbol-bytes s)
 number-is s out text store ends r e h f g =
     let l = slices out text store ends in
-    g ∙ e .number ∙ ap number-of (answer-is l s h (long-fit (record { text = f .text; store = f .store; ends = omega (arith, f .ends) })))
+    g ∙ e .number ∙ ap number-of (answer-is l s h (long-fit {l = l} (record { text = f .text; store = f .store; ends = omega (arith, f .ends) })))
 
 after-refused : (s : Text) (a : n.Answer) {k : ℕ} → k ≡ number-of a → (k ≡ 0 → ⊥) → normal-after s a ≡ refusal k
 unfolding number-of normal-after
