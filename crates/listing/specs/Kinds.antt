@@ -7,6 +7,6 @@ use Rattle.listing.specs.Listing.{least-name, least-ends-of}
 use Rattle.listing.specs.declared.listing.Kind.{Kind}
 
 -- the work slices have their least lengths, or more
-pub record Sized (kind : Kind) (l : Slices) : Type 0 where
+pub record LongFor (kind : Kind) (l : Slices) : Type 0 where
   pub name : least-name ≤ length (l .out)
   pub work : Long (least-ends-of kind) l

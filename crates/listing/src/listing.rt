@@ -16,7 +16,7 @@ ghost use Rattle.demangle.specs.Printed.{Tells};
 ghost use Rattle.listing.specs.Listing.{line, answer-of, listing-line, fitting, lines, least-ends-of, sized, Lists};
 ghost use Rattle.listing.specs.Printed.{Heads, Printed};
 ghost use Rattle.listing.specs.Lines.{Goes};
-ghost use Rattle.listing.specs.Kinds.{Sized};
+ghost use Rattle.listing.specs.Kinds.{LongFor};
 ghost use Rattle.listing.specs.Entry.{taken-lines};
 
 // The least length of the slice for a name or a normal symbol; those of the others are the entries'.
@@ -91,7 +91,7 @@ fn answer(
     store: &mut [u8],
     ends: &mut [u16],
 ) -> Answer
-    requires { ⌜ Sized kind (slices (now name) (now text) (now store) (now ends)) ⌝ }
+    requires { ⌜ LongFor kind (slices (now name) (now text) (now store) (now ends)) ⌝ }
     ensures { λ r. ⌜ Tells (answer-of kind (now (s .entry))) (now (name .entry)) (now (name .exit)) r ⌝ }
 {
     match kind {
@@ -111,7 +111,7 @@ fn write_line(
     store: &mut [u8],
     ends: &mut [u16],
 ) -> usize
-    requires { ⌜ (at ≤ length (now out)) × Sized kind (slices (now name) (now text) (now store) (now ends)) ⌝ }
+    requires { ⌜ (at ≤ length (now out)) × LongFor kind (slices (now name) (now text) (now store) (now ends)) ⌝ }
     ensures { λ r. ⌜ Printed (listing-line kind (now (s .entry))) at (now (out .entry)) (now (out .exit)) r ⌝ }
 {
     let answer = answer(kind, s, name, text, store, ends);
@@ -130,7 +130,7 @@ fn write_lines(
     store: &mut [u8],
     ends: &mut [u16],
 ) -> Listed
-    requires { ⌜ Sized kind (slices (now name) (now text) (now store) (now ends)) ⌝ }
+    requires { ⌜ LongFor kind (slices (now name) (now text) (now store) (now ends)) ⌝ }
     ensures { λ r. ⌜ Goes kind (now (out .entry)) (now (out .exit)) (fitting kind (length (now (out .entry))) (lines (now (input .entry)))) r ⌝ }
 {
     let mut at: usize = 0;

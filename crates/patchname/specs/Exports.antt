@@ -7,18 +7,18 @@ use Rattle.demangle.specs.Outcome.{Slices, Outcome, number-in, bytes-in}
 use Rattle.listing.specs.Listing.{Outcome as Listing}
 use Rattle.listing.specs.declared.listing.Listed.{Listed}
 
-abbrev pub Tells : Outcome → Slices → ℕ → ℕ → Type 0
-Tells o l' number bytes = _≡_ {A = Outcome} (record { number = number; bytes = bytes; slices = l' }) o
+abbrev pub Returns : Outcome → Slices → ℕ → ℕ → Type 0
+Returns o l' number bytes = _≡_ {A = Outcome} (record { number = number; bytes = bytes; slices = l' }) o
 
 -- the entry's answer, taken apart
 pub told : {o : Outcome} {l' : Slices} {number bytes : ℕ} (r : Answer) → (number ≡ number-in r) × (bytes ≡ bytes-in r)
-    → Tells o l' (number-in r) (bytes-in r) → Tells o l' number bytes
+    → Returns o l' (number-in r) (bytes-in r) → Returns o l' number bytes
 told {o} {l'} r (e, f) h = ap₂ (λ (n b : ℕ). record { number = n; bytes = b; slices = l' }) e f ∙ h
 
-abbrev pub Tells-listing : Listing → Text → Slices → ℕ → ℕ → Type 0
-Tells-listing o out work taken written = _≡_ {A = Listing} (record { taken = taken; written = written; out = out; work = work }) o
+abbrev pub Returns-listing : Listing → Text → Slices → ℕ → ℕ → Type 0
+Returns-listing o out work taken written = _≡_ {A = Listing} (record { taken = taken; written = written; out = out; work = work }) o
 
 -- what was listed, taken apart
 pub told-listing : {o : Listing} {out : Text} {work : Slices} {taken written : ℕ} (r : Listed) → (taken ≡ r .taken) × (written ≡ r .written)
-    → Tells-listing o out work (r .taken) (r .written) → Tells-listing o out work taken written
+    → Returns-listing o out work (r .taken) (r .written) → Returns-listing o out work taken written
 told-listing {o} {out} {work} r (e, f) h = ap₂ (λ (t w : ℕ). record { taken = t; written = w; out = out; work = work }) e f ∙ h

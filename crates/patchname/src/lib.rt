@@ -10,7 +10,7 @@ ghost use Rattle.demangle.specs.Outcome.{slices, demangled, number-in, bytes-in
 ghost use Rattle.normalize.specs.Outcome.{normalized};
 ghost use Rattle.listing.specs.Listing.{listed};
 ghost use Rattle.listing.specs.declared.listing.Kind.the-variants.{Names, Symbols};
-ghost use Rattle.patchname.specs.Exports.{Tells, Tells-listing};
+ghost use Rattle.patchname.specs.Exports.{Returns, Returns-listing};
 
 // The number of an answer; its length goes to `bytes`.
 fn tell(answer: Answer, bytes: &mut usize) -> u8
@@ -38,7 +38,7 @@ pub extern "C" fn patchname_demangle(
     ends: &mut [u16],
     bytes: &mut usize,
 ) -> u8
-    ensures { λ r. ⌜ Tells (demangled (now (s .entry)) (slices (now (out .entry)) (now (text .entry)) (now (store .entry)) (now (ends .entry))))
+    ensures { λ r. ⌜ Returns (demangled (now (s .entry)) (slices (now (out .entry)) (now (text .entry)) (now (store .entry)) (now (ends .entry))))
         (slices (now (out .exit)) (now (text .exit)) (now (store .exit)) (now (ends .exit))) r (now (bytes .exit)) ⌝ }
 {
     let answer = entry::demangle(s, out, text, store, ends);
@@ -55,7 +55,7 @@ pub extern "C" fn patchname_normalize(
     ends: &mut [u16],
     bytes: &mut usize,
 ) -> u8
-    ensures { λ r. ⌜ Tells (normalized (now (s .entry)) (slices (now (out .entry)) (now (text .entry)) (now (store .entry)) (now (ends .entry))))
+    ensures { λ r. ⌜ Returns (normalized (now (s .entry)) (slices (now (out .entry)) (now (text .entry)) (now (store .entry)) (now (ends .entry))))
         (slices (now (out .exit)) (now (text .exit)) (now (store .exit)) (now (ends .exit))) r (now (bytes .exit)) ⌝ }
 {
     let answer = symbol::normalize(s, out, text, store, ends);
@@ -81,7 +81,7 @@ pub extern "C" fn patchname_list_names(
     ends: &mut [u16],
     written: &mut usize,
 ) -> usize
-    ensures { λ r. ⌜ Tells-listing (listed Names (now (input .entry)) (now (out .entry)) (slices (now (name .entry)) (now (text .entry)) (now (store .entry)) (now (ends .entry))))
+    ensures { λ r. ⌜ Returns-listing (listed Names (now (input .entry)) (now (out .entry)) (slices (now (name .entry)) (now (text .entry)) (now (store .entry)) (now (ends .entry))))
         (now (out .exit)) (slices (now (name .exit)) (now (text .exit)) (now (store .exit)) (now (ends .exit))) r (now (written .exit)) ⌝ }
 {
     let listed = list_lines(Kind::Names, input, out, name, text, store, ends);
@@ -99,7 +99,7 @@ pub extern "C" fn patchname_list_normal_symbols(
     ends: &mut [u16],
     written: &mut usize,
 ) -> usize
-    ensures { λ r. ⌜ Tells-listing (listed Symbols (now (input .entry)) (now (out .entry)) (slices (now (name .entry)) (now (text .entry)) (now (store .entry)) (now (ends .entry))))
+    ensures { λ r. ⌜ Returns-listing (listed Symbols (now (input .entry)) (now (out .entry)) (slices (now (name .entry)) (now (text .entry)) (now (store .entry)) (now (ends .entry))))
         (now (out .exit)) (slices (now (name .exit)) (now (text .exit)) (now (store .exit)) (now (ends .exit))) r (now (written .exit)) ⌝ }
 {
     let listed = list_lines(Kind::Symbols, input, out, name, text, store, ends);

@@ -80,10 +80,10 @@ module _ (limit : ℕ) where
       let n = names-normals-of c d in
       ((λ e. i ∙ n .0 e ∙ sym j), (λ e. n .1 (sym i ∙ e ∙ j)))
 
-  pub normal-is-normal :
+  pub normal-of-accepted :
       {s : Text} (c : Catalogue s) (x : Text) → demangle limit s ≡ named x → length (normal-of c) ≤ limit →
       Catalogue (normal-of c) × (demangle limit (normal-of c) ≡ named x) × ((d : Catalogue (normal-of c)) → normal-of d ≡ normal-of c)
-  normal-is-normal c x h l = (normal-catalogue c, normal-accepted c limit limit x h l, normal-normal c)
+  normal-of-accepted c x h l = (normal-catalogue c, normal-accepted c limit limit x h l, normal-normal c)
 
 -- ---------------------------------------------------------------- the limit of document 01
 
@@ -95,4 +95,4 @@ demand-3-first = same-normal-same-name most-symbol-bytes
 pub demand-3-second :
     {s : Text} (c : Catalogue s) (x : Text) → demangle most-symbol-bytes s ≡ named x → length (normal-of c) ≤ most-symbol-bytes →
     Catalogue (normal-of c) × (demangle most-symbol-bytes (normal-of c) ≡ named x) × ((d : Catalogue (normal-of c)) → normal-of d ≡ normal-of c)
-demand-3-second = normal-is-normal most-symbol-bytes
+demand-3-second = normal-of-accepted most-symbol-bytes

@@ -12,7 +12,7 @@ use Rattle.demangle.specs.laws.Told.{fit-long}
 use Rattle.grammar.specs.Names.{least-text, least-store}
 use Rattle.demangle.specs.laws.Fronts.{both-true}
 use Rattle.listing.specs.Listing.{lines, fitting, bytes-taken, listing, least-ends-of, sized, work-sized, lists, listed, Lists}
-use Rattle.listing.specs.Kinds.{Sized}
+use Rattle.listing.specs.Kinds.{LongFor}
 use Rattle.listing.specs.Lines.{Goes}
 use Rattle.listing.specs.declared.listing.Kind.{Kind}
 use Rattle.listing.specs.declared.listing.Listed.{Listed}
@@ -31,7 +31,7 @@ module _ (kind : Kind) (name text store ends : ℕ) where
 
 -- by a test of the lengths
 module _ (kind : Kind) (work : Slices) {q : Bool} (e : q ≡ sized kind (length (work .out)) (length (work .text)) (length (work .store)) (length (work .ends))) where
-  pub least-lengths : q ≡ true → Sized kind work
+  pub least-lengths : q ≡ true → LongFor kind work
   unfolding sized
   least-lengths f =
       let (x, i) = both-true (leb 16384 (length (work .out))) (fit (least-ends-of kind) work) (sym e ∙ f) in

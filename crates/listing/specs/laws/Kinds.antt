@@ -21,7 +21,7 @@ use Rattle.normalize.specs.laws.Runs.{normal-behind}
 use Rattle.listing.specs.Listing.{answer-of}
 use Rattle.listing.specs.declared.listing.Kind.{Kind}
 use Rattle.listing.specs.declared.listing.Kind.the-variants.{Names, Symbols}
-use Rattle.listing.specs.Kinds.{Sized}
+use Rattle.listing.specs.Kinds.{LongFor}
 
 -- ---------------------------------------------------------------- a normal symbol
 
@@ -64,15 +64,15 @@ too-long Names s h = too-long-for-name s h
 too-long Symbols s h = ap (normal-after s) (too-long-for-name s h)
 
 -- either entry tells the answer
-module _ {kind : Kind} {l : Slices} {out : Text} {r : Code} (s : Text) (h : Sized kind l) where
+module _ {kind : Kind} {l : Slices} {out : Text} {r : Code} (s : Text) (h : LongFor kind l) where
   pub name-told : kind ≡ Names → Tells (answer most-symbol-bytes (lent l) s) (l .out) out r → Tells (answer-of kind s) (l .out) out r
   unfolding answer-of work-fits
   name-told e d =
-      let i : Sized Names l = subst (λ (k : Kind). Sized k l) e h in
+      let i : LongFor Names l = subst (λ (k : Kind). LongFor k l) e h in
       tells-as (answer-is l s (i .name) (long-fit (i .work)) ∙ ap (λ (k : Kind). answer-of k s) (sym e)) d
 
   pub symbol-told : kind ≡ Symbols → Tells (normal-answer (lent l) s) (l .out) out r → Tells (answer-of kind s) (l .out) out r
   unfolding answer-of normal-work-fits
   symbol-told e d =
-      let i : Sized Symbols l = subst (λ (k : Kind). Sized k l) e h in
+      let i : LongFor Symbols l = subst (λ (k : Kind). LongFor k l) e h in
       tells-as (normal-is l s (i .name) (long-fit (i .work)) ∙ ap (λ (k : Kind). answer-of k s) (sym e)) d
