@@ -43,25 +43,25 @@ before-else2 c = c .before .before .before
 
 recorded-requires : tie.Need-recorded-requires
 recorded-requires c κs =
-    let at-slots = c .before .before .before .before .before .before .before .before in
-    let at-start = before-slots at-slots in
+    let place-slots = c .before .before .before .before .before .before .before .before in
+    let at-start = before-slots place-slots in
     let a = at-start in
     ((a .pre .0 .0, (a .pre .0 .1 .0, c .before .before .before .before .before .class-behind .ensures .1 .0 _ _ _ _ (a .pre .0 .1 .1))), omega (arith, c .before .before .before .before .before .class-behind .ensures .0))
 
 returns : tie.Need-returns
 returns c k d s base from x y σ e f h =
-    let at-slots = c .before .before .before .before .before .before .before .before .before .before .before .before .before in
-    let at-start = before-slots at-slots in
+    let place-slots = c .before .before .before .before .before .before .before .before .before .before .before .before .before in
+    let at-start = before-slots place-slots in
     let a = at-start in
     let l : length (x ++ y) ≤ 32768 = omega (arith, length-append x y, e, f, a .pre .1 .0, a .pre .1 .1 .0) in
-    by (ap (λ (t : Text). recorded t σ) (behind y (at-slots (x ++ b "::*") y) (y ++ b " " ++ x ++ b "::*") (ap slots-in (sym (member x y h l f)) ∙ sym (at-slots .slots .ensures .0) ∙ c .before .before .before .before .before .before .before .before .before .before .before .before .if1 .taken)))
+    by (ap (λ (t : Text). recorded t σ) (behind y (at-slots (x ++ b "::*") y) (y ++ b " " ++ x ++ b "::*") (ap slots-in (sym (member x y h l f)) ∙ sym (place-slots .slots .ensures .0) ∙ c .before .before .before .before .before .before .before .before .before .before .before .before .if1 .taken)))
     (c .before .before .before .before .recorded .ensures k d s base from _ σ (c .before .before .before .before .before .before .before .before .before .before .class-behind .ensures .1 .1 k d s base from _ _ x y σ e f h))
 
 returns-2 : tie.Need-returns-2
 unfolding b
 returns-2 c k d s base from x y σ e f h =
-    let at-slots = c .before .before .before .before in
-    let at-start = before-slots at-slots in
+    let place-slots = c .before .before .before .before in
+    let at-start = before-slots place-slots in
     let a = at-start in
     let l : length (x ++ y) ≤ 32768 = omega (arith, length-append x y, e, f, a .pre .1 .0, a .pre .1 .1 .0) in
     let g = ap slots-in (sym (member x y h l f)) ∙ sym (c .before .before .before .before .slots .ensures .0) in
@@ -72,32 +72,32 @@ returns-2 c k d s base from x y σ e f h =
 weave-requires : tie.Need-weave-requires
 weave-requires c κs =
     let at-else2 = c .before .before in
-    let at-slots = before-else2 at-else2 in
-    let at-start = before-slots at-slots in
+    let place-slots = before-else2 at-else2 in
+    let at-start = before-slots place-slots in
     let a = at-start in
-    let g = at-slots .slots .ensures .0 ∙ ap slots-in (sym (drop-take (a .args .p .top - a .args .m) (a .args .p .top) (a .args .text .now))) in
+    let g = place-slots .slots .ensures .0 ∙ ap slots-in (sym (drop-take (a .args .p .top - a .args .m) (a .args .p .top) (a .args .text .now))) in
     (a .pre .0 .1 .1 .text, (a .pre .1 .1 .1, (omega (arith, a .pre .1 .0, a .pre .1 .1 .0), (omega arith, omega (arith, ap (λ (j : ℕ). j * (a .args .c + 3)) g, c .before .before .before .woven .ensures, c .before .before .if2 .left)))))
 
 cut-requires : tie.Need-cut-requires
 cut-requires c κs =
     let at-else2 = c .before .before .before .before .before .before .before in
-    let at-slots = before-else2 at-else2 in
-    let at-start = before-slots at-slots in
+    let place-slots = before-else2 at-else2 in
+    let at-start = before-slots place-slots in
     let a = at-start in
     let h = a .pre .0 .1 .1 .text in
     let u = puts-by (c .before .raised .ensures) (c .before .before .before .before .weave .ensures) in
-    let z = woven (a .args .c) (a .args .m) h (a .pre .1 .1 .1) (at-slots .slots .ensures .0) in
+    let z = woven (a .args .c) (a .args .m) h (a .pre .1 .1 .1) (place-slots .slots .ensures .0) in
     (u .put .stack, omega (arith, puts-top (a .args .c + a .args .m) h u (a .pre .1 .1 .1) (omega (arith, a .pre .1 .0, a .pre .1 .1 .0)), z, at-else2 .before .woven .ensures, at-else2 .if2 .left))
 
 recorded-requires-2 : tie.Need-recorded-requires-2
 recorded-requires-2 c κs =
     let at-else2 = c .before .before .before .before .before .before .before .before .before .before .before .before .before in
-    let at-slots = before-else2 at-else2 in
-    let at-start = before-slots at-slots in
+    let place-slots = before-else2 at-else2 in
+    let at-start = before-slots place-slots in
     let a = at-start in
     let h = a .pre .0 .1 .1 in
     let u = puts-by (c .before .before .before .before .before .before .before .raised .ensures) (c .before .before .before .before .before .before .before .before .before .before .weave .ensures) in
-    let z = woven (a .args .c) (a .args .m) (h .text) (a .pre .1 .1 .1) (at-slots .slots .ensures .0) in (
+    let z = woven (a .args .c) (a .args .m) (h .text) (a .pre .1 .1 .1) (place-slots .slots .ensures .0) in (
       (a .pre .0 .0, (a .pre .0 .1 .0, holds-cuts (c .before .before .before .before .before .cut .ensures) (holds-puts u h))),
       omega (arith, puts-top (a .args .c + a .args .m) (h .text) u (a .pre .1 .1 .1) (omega (arith, a .pre .1 .0, a .pre .1 .1 .0)), z, at-else2 .before .woven .ensures, at-else2 .if2 .left, c .before .before .before .before .before .cut .ensures .cut .top-is),
     )
@@ -106,11 +106,11 @@ returns-3 : tie.Need-returns-3
 unfolding b
 returns-3 c k d s base from x y σ e f h =
     let at-else2 = c .before .before .before .before .before .before .before .before .before .before .before .before .before .before .before .before .before .before in
-    let at-slots = before-else2 at-else2 in
-    let at-start = before-slots at-slots in
+    let place-slots = before-else2 at-else2 in
+    let at-start = before-slots place-slots in
     let a = at-start in
     let l : length (x ++ y) ≤ 32768 = omega (arith, length-append x y, e, f, a .pre .1 .0, a .pre .1 .1 .0) in
-    let g = ap slots-in (sym (member x y h l f)) ∙ sym (at-slots .slots .ensures .0) in
+    let g = ap slots-in (sym (member x y h l f)) ∙ sym (place-slots .slots .ensures .0) in
     let z = woven-size (x ++ b "::*") y f g (length-append x (b "::*") ∙ ap (λ (j : ℕ). j + 3) e) in
     let v = puts-by (c .before .before .before .before .before .before .before .before .before .before .before .before .raised .ensures) (c .before .before .before .before .before .before .before .before .before .before .before .before .before .before .before .weave .ensures) in
     let u = subst (λ (t : Text). Puts (a .args .text .now)
@@ -119,7 +119,7 @@ returns-3 c k d s base from x y σ e f h =
     (ap₂ (λ (i j : Text). at-slots (i ++ b "::*") j)
     (ap₂ (λ (i j : ℕ). below-newest (a .args .text .now) (a .args .p .top) i j) (sym f) (sym e) ∙ below-text x y h l)
     (ap (λ (j : ℕ). newest (a .args .text .now) (a .args .p .top) j) (sym f) ∙ end-text x y h l)) v in
-    let r = mul-le-mul-right {m = 1} {n = at-slots .slots .result} (a .args .c + 3) (omega (arith, at-else2 .before .before .if1 .left)) in
+    let r = mul-le-mul-right {m = 1} {n = place-slots .slots .result} (a .args .c + 3) (omega (arith, at-else2 .before .before .if1 .left)) in
     by (ap (λ (t : Text). recorded t σ) (inside y (at-slots (x ++ b "::*") y) (y ++ b " " ++ x ++ b "::*") (λ i. at-else2 .before .before .if1 .left (sym g ∙ i))))
     (c .before .before .before .before .recorded2 .ensures k d s base from _ σ
     (stands-replaced h u (c .before .before .before .before .before .before .before .before .before .before .cut .ensures) (length-append x y ∙ ap₂ (λ (i j : ℕ). i + j) e f) (omega (arith, z, at-else2 .before .woven .ensures, at-else2 .if2 .left))
