@@ -20,9 +20,7 @@ returns c =
 
 qualified-requires : tie.Need-qualified-requires
 qualified-requires c κs =
-    let at-ended = c .before .before in
-    let at-name = before-ended at-ended in
-    let at-start = before-name at-name in
+    let at-ended = c .before .before in let at-name = before-ended at-ended in let at-start = before-name at-name in
     let y = name-got (at-name .name .ensures) (at-start .pre .1) (at-ended .before .before .before .before .got .given .1) .wrote .holds .cv-within in
     let f = name-fits (at-name .name .ensures) (at-start .pre .1) (at-ended .before .before .before .before .got .given .1) (c .before .before .before .with-cv .ensures) in
     let h = name-holds (at-name .name .ensures) (at-start .pre .1) (at-ended .before .before .before .before .got .given .1) (c .before .before .before .with-cv .ensures) in
@@ -30,15 +28,12 @@ qualified-requires c κs =
 
 returns-2 : tie.Need-returns-2
 returns-2 c =
-    let at-ended = c .before .before .before .before .before in
-    let at-name = before-ended at-ended in
+    let at-ended = c .before .before .before .before .before in let at-name = before-ended at-ended in
     λ σ h. name-over (at-name .name .ensures) h (at-ended .before .before .before .before .got .given .1) (at-ended .before .with-cv .ensures) (sym (at-ended .ended .ensures) ∙ c .before .before .before .before .if1 .taken) (c .before .before .qualified .ensures)
 
 template-function-requires : tie.Need-template-function-requires
 template-function-requires c κs =
-    let at-ended = c .before .before .before .before .before in
-    let at-name = before-ended at-ended in
-    let at-start = before-name at-name in
+    let at-ended = c .before .before .before .before .before in let at-name = before-ended at-ended in let at-start = before-name at-name in
     let y = name-got (at-name .name .ensures) (at-start .pre .1) (at-ended .before .before .before .before .got .given .1) .wrote .holds .cv-within in
     let f = name-fits (at-name .name .ensures) (at-start .pre .1) (at-ended .before .before .before .before .got .given .1) (at-ended .before .with-cv .ensures) in
     let h = name-holds (at-name .name .ensures) (at-start .pre .1) (at-ended .before .before .before .before .got .given .1) (at-ended .before .with-cv .ensures) in
@@ -46,23 +41,19 @@ template-function-requires c κs =
 
 same-length-7 : tie.Need-same-length-7
 same-length-7 c =
-    let at-ended = c .before .before .before .before .before .before .before .before .before .before .before .before in
-    let at-name = before-ended at-ended in
+    let at-ended = c .before .before .before .before .before .before .before .before .before .before .before .before in let at-name = before-ended at-ended in
     omega (arith, c .before .before .before .before .before .before .template-function .kept, at-name .name .kept)
 
 returns-3 : tie.Need-returns-3
 returns-3 c =
-    let at-ended = c .before .before .before .before .before .before .before .before .before .before .before .before in
-    let at-name = before-ended at-ended in
+    let at-ended = c .before .before .before .before .before .before .before .before .before .before .before .before in let at-name = before-ended at-ended in
     λ σ h. name-templated (at-name .name .ensures) h (at-ended .before .before .before .before .got .given .1) (at-ended .before .with-cv .ensures)
     (sym (at-ended .ended .ensures) ∙ c .before .before .before .before .before .before .before .before .before .before .before .if1 .left)
     (c .before .before .before .before .before .before .before .before .before .before .if2 .taken) (c .before .before .before .before .before .before .template-function .ensures)
 
 function-requires : tie.Need-function-requires
 function-requires c κs =
-    let at-ended = c .before .before .before .before .before in
-    let at-name = before-ended at-ended in
-    let at-start = before-name at-name in
+    let at-ended = c .before .before .before .before .before in let at-name = before-ended at-ended in let at-start = before-name at-name in
     let y = name-got (at-name .name .ensures) (at-start .pre .1) (at-ended .before .before .before .before .got .given .1) .wrote .holds .cv-within in
     let f = name-fits (at-name .name .ensures) (at-start .pre .1) (at-ended .before .before .before .before .got .given .1) (at-ended .before .with-cv .ensures) in
     let h = name-holds (at-name .name .ensures) (at-start .pre .1) (at-ended .before .before .before .before .got .given .1) (at-ended .before .with-cv .ensures) in
@@ -70,14 +61,12 @@ function-requires c κs =
 
 same-length-10 : tie.Need-same-length-10
 same-length-10 c =
-    let at-ended = c .before .before .before .before .before .before .before .before .before .before .before .before in
-    let at-name = before-ended at-ended in
+    let at-ended = c .before .before .before .before .before .before .before .before .before .before .before .before in let at-name = before-ended at-ended in
     omega (arith, c .before .before .before .before .before .before .function .kept, at-name .name .kept)
 
 returns-4 : tie.Need-returns-4
 returns-4 c =
-    let at-ended = c .before .before .before .before .before .before .before .before .before .before .before .before in
-    let at-name = before-ended at-ended in
+    let at-ended = c .before .before .before .before .before .before .before .before .before .before .before .before in let at-name = before-ended at-ended in
     λ σ h. name-plain (at-name .name .ensures) h (at-ended .before .before .before .before .got .given .1) (at-ended .before .with-cv .ensures)
     (sym (at-ended .ended .ensures) ∙ c .before .before .before .before .before .before .before .before .before .before .before .if1 .left)
     (c .before .before .before .before .before .before .before .before .before .before .if2 .left) (c .before .before .before .before .before .before .function .ensures)

@@ -29,62 +29,50 @@ guard-variable-requires c κs =
 
 function-or-data-requires : tie.Need-function-or-data-requires
 function-or-data-requires c κs =
-    let at-label = c .before .before .before .before .before in
-    let at-start = before-label at-label in
+    let at-label = c .before .before .before .before .before in let at-start = before-label at-label in
     (_, fresh-holds (at-start .pre .0) (at-start .pre .1 .1))
 
 returns-2 : tie.Need-returns-2
 unfolding b
 returns-2 c =
-    let at-label = c .before .before .before .before .before .before .before .before .before .before .before .before in
-    let at-start = before-label at-label in
+    let at-label = c .before .before .before .before .before .before .before .before .before .before .before .before in let at-start = before-label at-label in
     other-read (at-start .pre .0) (at-start .pre .1 .1) (at-label .label .ensures)
     (c .before .before .before .before .before .before .before .before .before .before .enum-told .given .1) (at-start .pre .1 .0)
     (sym (at-label .before .before .starts-with .ensures) ∙ at-label .before .if1 .left) (c .before .before .before .before .before .before .function-or-data .ensures)
 
 put-word-requires : tie.Need-put-word-requires
 put-word-requires c κs =
-    let at-label = c .before .before .before .before .before in
-    let at-start = before-label at-label in
+    let at-label = c .before .before .before .before .before in let at-start = before-label at-label in
     (stack-by (c .moved .ensures) (at-start .pre .1 .1 .text), subst Picked-inside (c .before .before .before .w .given .1) (at-label .label .ensures .inside))
 
 ty-requires : tie.Need-ty-requires
 ty-requires c κs =
-    let at-put-word = c .before .before .before .before .before in
-    let at-label = before-put-word at-put-word in
-    let at-start = before-label at-label in
+    let at-put-word = c .before .before .before .before .before in let at-label = before-put-word at-put-word in let at-start = before-label at-label in
     (_, label-holds (at-start .pre .0) (at-start .pre .1 .1) (at-label .label .ensures) (at-put-word .before .before .before .before .w .given .1) (at-put-word .before .moved .ensures) (at-put-word .put-word .ensures))
 
 returns-3 : tie.Need-returns-3
 returns-3 c =
-    let at-ty = c .before .before .before .before .before .before .before .before in
-    let at-put-word = before-ty at-ty in
-    let at-label = before-put-word at-put-word in
+    let at-ty = c .before .before .before .before .before .before .before .before in let at-put-word = before-ty at-ty in let at-label = before-put-word at-put-word in
     let at-start = before-label at-label in
     label-refused (at-start .pre .0) (at-start .pre .1 .1) (at-label .label .ensures) (at-put-word .before .before .before .before .w .given .1) (at-put-word .before .moved .ensures) (at-put-word .put-word .ensures) (at-ty .ty .ensures) (c .enum-told2 .given .1)
 
 sub-given : tie.Need-sub-given
 sub-given c =
-    let at-ty = c .before .before .before .before .before .before .before .before .before .before in
-    let at-put-word = before-ty at-ty in
+    let at-ty = c .before .before .before .before .before .before .before .before .before .before in let at-put-word = before-ty at-ty in
     let at-label = before-put-word at-put-word in
     omega (arith, subst Picked-inside (at-put-word .before .before .before .before .w .given .1) (at-label .label .ensures .inside))
 
 add-given : tie.Need-add-given
 add-given c =
-    let at-ty = c .before .before .before .before .before .before .before .before .before .before in
-    let at-put-word = before-ty at-ty in
-    let at-label = before-put-word at-put-word in
-    let at-start = before-label at-label in
+    let at-ty = c .before .before .before .before .before .before .before .before .before .before in let at-put-word = before-ty at-ty in
+    let at-label = before-put-word at-put-word in let at-start = before-label at-label in
     let g = label-got (at-start .pre .0) (at-start .pre .1 .1) (at-label .label .ensures) (at-put-word .before .before .before .before .w .given .1) (at-put-word .before .moved .ensures) (at-put-word .put-word .ensures) (at-ty .ty .ensures) (c .before .before .got .given .1) .wrote in
     omega (arith, g .size, g .short, subst Picked-inside (at-put-word .before .before .before .before .w .given .1) (at-label .label .ensures .inside))
 
 returns-4 : tie.Need-returns-4
 returns-4 c =
-    let at-ty = c .before .before .before .before .before .before .before .before .before .before .before in
-    let at-put-word = before-ty at-ty in
-    let at-label = before-put-word at-put-word in
-    let at-start = before-label at-label in
+    let at-ty = c .before .before .before .before .before .before .before .before .before .before .before in let at-put-word = before-ty at-ty in
+    let at-label = before-put-word at-put-word in let at-start = before-label at-label in
     let i = subst Picked-inside (at-put-word .before .before .before .before .w .given .1) (at-label .label .ensures .inside) in
     label-given (at-start .pre .0) (at-start .pre .1 .1) (at-label .label .ensures) (at-put-word .before .before .before .before .w .given .1) (at-put-word .before .moved .ensures)
     (at-put-word .put-word .ensures) (at-ty .ty .ensures) (c .before .before .before .got .given .1) (length-spelled _ i) i (c .given .ensures)

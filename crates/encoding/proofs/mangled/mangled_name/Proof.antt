@@ -42,8 +42,7 @@ sum-requires c κs =
 
 add-at : tie.Need-add-at Inv-loop μ-loop
 add-at c =
-    let at-starts-with = c .before .before .before .before .before .before .before in
-    let at-start = before-starts-with at-starts-with in
+    let at-starts-with = c .before .before .before .before .before .before .before in let at-start = before-starts-with at-starts-with in
     omega (arith, at-starts-with .before .before .loop .inv .place, at-start .pre .0)
 
 loop-less : tie.Need-loop-less Inv-loop μ-loop
@@ -66,8 +65,7 @@ part-inner-start c = omega (arith, c .before .before .before .loop .inv .place)
 encoding-requires : tie.Need-encoding-requires Inv-loop μ-loop
 unfolding b
 encoding-requires c κs =
-    let at-starts-with = c .before .before .before .before .before in
-    let at-start = before-starts-with at-starts-with in
+    let at-starts-with = c .before .before .before .before .before in let at-start = before-starts-with at-starts-with in
     let s = at-start .args .s .now in
     let e = second-lent (at-starts-with .before .before .loop .at) s in (
       omega (arith, ap length e, length-drop (at-starts-with .before .before .loop .at) s, at-start .pre .0),
@@ -76,8 +74,7 @@ encoding-requires c κs =
 
 same-length : tie.Need-same-length Inv-loop μ-loop
 same-length c =
-    let at-encoding = c .before .before .before .before .before .before .before .before in
-    let at-starts-with = before-encoding at-encoding in
+    let at-encoding = c .before .before .before .before .before .before .before .before in let at-starts-with = before-encoding at-encoding in
     let at-start = before-starts-with at-starts-with in
     omega (arith, at-encoding .encoding .kept, at-starts-with .before .before .loop .inv .adds .stack .size, least-text (at-start .pre .1) .size)
 
@@ -93,15 +90,13 @@ same-length-3 c =
 
 returns : tie.Need-returns Inv-loop μ-loop
 returns c =
-    let at-encoding = c .before .before .before .before .before .before .before .before in
-    let at-starts-with = before-encoding at-encoding in
+    let at-encoding = c .before .before .before .before .before .before .before .before in let at-starts-with = before-encoding at-encoding in
     let at-start = before-starts-with at-starts-with in
     clones-refused (at-starts-with .before .before .loop .inv) (at-starts-with .before .before .before .new .ensures) (second-lent (at-starts-with .before .before .loop .at) (at-start .args .s .now)) (at-encoding .encoding .ensures) (c .enum-told .given .1)
 
 same-length-4 : tie.Need-same-length-4 Inv-loop μ-loop
 same-length-4 c =
-    let at-encoding = c .before .before .before .before .before .before .before .before .before .before in
-    let at-starts-with = before-encoding at-encoding in
+    let at-encoding = c .before .before .before .before .before .before .before .before .before .before in let at-starts-with = before-encoding at-encoding in
     let at-start = before-starts-with at-starts-with in
     omega (arith, at-encoding .encoding .kept, at-starts-with .before .before .loop .inv .adds .stack .size, least-text (at-start .pre .1) .size)
 
@@ -117,15 +112,13 @@ same-length-6 c =
 
 returns-2 : tie.Need-returns-2 Inv-loop μ-loop
 returns-2 c =
-    let at-encoding = c .before .before .before .before .before .before .before .before .before .before in
-    let at-starts-with = before-encoding at-encoding in
+    let at-encoding = c .before .before .before .before .before .before .before .before .before .before in let at-starts-with = before-encoding at-encoding in
     let at-start = before-starts-with at-starts-with in
     clones-alone (at-starts-with .before .before .loop .inv) (at-starts-with .before .before .before .new .ensures) (second-lent (at-starts-with .before .before .loop .at) (at-start .args .s .now)) (at-encoding .encoding .ensures) (c .if2 .taken) (c .before .before .got .given .1)
 
 sum-requires-2 : tie.Need-sum-requires-2 Inv-loop μ-loop
 sum-requires-2 c κs =
-    let at-encoding = c .before .before .before .before .before .before .before .before .before .before .before in
-    let at-starts-with = before-encoding at-encoding in
+    let at-encoding = c .before .before .before .before .before .before .before .before .before .before .before in let at-starts-with = before-encoding at-encoding in
     let at-start = before-starts-with at-starts-with in
     let w = clones-got (at-starts-with .before .before .loop .inv) (at-starts-with .before .before .before .new .ensures) (second-lent (at-starts-with .before .before .loop .at) (at-start .args .s .now)) (at-encoding .encoding .ensures) (c .before .before .before .got .given .1) .prints in
     (omega (arith, at-starts-with .before .before .loop .inv .size-is), omega (arith, w .size, w .short))
@@ -133,8 +126,7 @@ sum-requires-2 c κs =
 same-length-7 : tie.Need-same-length-7 Inv-loop μ-loop
 same-length-7 c =
     let at-encoding = c .before .before .before .before .before .before .before .before .before .before .before .before .before in
-    let at-starts-with = before-encoding at-encoding in
-    let at-start = before-starts-with at-starts-with in
+    let at-starts-with = before-encoding at-encoding in let at-start = before-starts-with at-starts-with in
     omega (arith, at-encoding .encoding .kept, at-starts-with .before .before .loop .inv .adds .stack .size, least-text (at-start .pre .1) .size)
 
 same-length-8 : tie.Need-same-length-8 Inv-loop μ-loop
@@ -150,8 +142,7 @@ same-length-9 c =
 returns-3 : tie.Need-returns-3 Inv-loop μ-loop
 returns-3 c =
     let at-encoding = c .before .before .before .before .before .before .before .before .before .before .before .before .before in
-    let at-starts-with = before-encoding at-encoding in
-    let at-start = before-starts-with at-starts-with in
+    let at-starts-with = before-encoding at-encoding in let at-start = before-starts-with at-starts-with in
     clones-given (at-starts-with .before .before .loop .inv) (at-starts-with .before .before .before .new .ensures)
     (second-lent (at-starts-with .before .before .loop .at) (at-start .args .s .now)) (at-encoding .encoding .ensures) (c .before .before .before .if2 .left)
     (c .before .before .before .before .before .got .given .1) (c .before .before .moved .ensures) (c .before .sum2 .ensures) (c .given .ensures)

@@ -17,22 +17,18 @@ before-else1 c = c .before
 
 returns : tie.Need-returns
 returns c =
-    let at-starts-with = c .before .before .before .before .before in
-    let at-start = before-starts-with at-starts-with in
+    let at-starts-with = c .before .before .before .before .before in let at-start = before-starts-with at-starts-with in
     function-plain (at-start .args .s .now) (sym (at-starts-with .starts-with .ensures) ∙ not-true _ (c .before .before .before .before .if1 .taken)) (at-start .pre .1 .1) (c .before .before .plain .ensures)
 
 scoped-requires : tie.Need-scoped-requires
 scoped-requires c κs =
-    let at-else1 = c .before .before .before .before .before .before in
-    let at-starts-with = before-else1 at-else1 in
-    let at-start = before-starts-with at-starts-with in
+    let at-else1 = c .before .before .before .before .before .before in let at-starts-with = before-else1 at-else1 in let at-start = before-starts-with at-starts-with in
     let i = starts-inside (at-start .args .s .now) 3 75 (sym (c .before .before .before .before .starts-with2 .ensures) ∙ c .before .before .before .if2 .taken) in
     ((at-start .pre .0, (omega arith, (omega arith, omega arith))), at-start .pre .1)
 
 returns-2 : tie.Need-returns-2
 returns-2 c =
-    let at-else1 = c .before .before .before .before .before .before .before .before .before .before .before in
-    let at-starts-with = before-else1 at-else1 in
+    let at-else1 = c .before .before .before .before .before .before .before .before .before .before .before in let at-starts-with = before-else1 at-else1 in
     let at-start = before-starts-with at-starts-with in
     function-constant (at-start .args .s .now) (sym (at-starts-with .starts-with .ensures) ∙ not-false _ (at-else1 .if1 .left))
     (sym (c .before .before .before .before .before .before .before .before .before .starts-with2 .ensures) ∙ c .before .before .before .before .before .before .before .before .if2 .taken)
@@ -40,16 +36,13 @@ returns-2 c =
 
 scoped-requires-2 : tie.Need-scoped-requires-2
 scoped-requires-2 c κs =
-    let at-else1 = c .before .before .before .before .before .before in
-    let at-starts-with = before-else1 at-else1 in
-    let at-start = before-starts-with at-starts-with in
+    let at-else1 = c .before .before .before .before .before .before in let at-starts-with = before-else1 at-else1 in let at-start = before-starts-with at-starts-with in
     let i = starts-inside (at-start .args .s .now) 2 78 (sym (at-starts-with .starts-with .ensures) ∙ not-false _ (at-else1 .if1 .left)) in
     ((at-start .pre .0, (omega arith, (omega arith, omega arith))), at-start .pre .1)
 
 returns-3 : tie.Need-returns-3
 returns-3 c =
-    let at-else1 = c .before .before .before .before .before .before .before .before .before .before .before in
-    let at-starts-with = before-else1 at-else1 in
+    let at-else1 = c .before .before .before .before .before .before .before .before .before .before .before in let at-starts-with = before-else1 at-else1 in
     let at-start = before-starts-with at-starts-with in
     function-scoped (at-start .args .s .now) (sym (at-starts-with .starts-with .ensures) ∙ not-false _ (at-else1 .if1 .left))
     (sym (c .before .before .before .before .before .before .before .before .before .starts-with2 .ensures) ∙ c .before .before .before .before .before .before .before .before .if2 .left)

@@ -19,27 +19,21 @@ before-next c = c .before .before .before .before .before .before
 
 parts-requires : tie.Need-parts-requires
 parts-requires c κs =
-    let at-begin = c .before .before .before .before in
-    let at-start = before-begin at-begin in
+    let at-begin = c .before .before .before .before in let at-start = before-begin at-begin in
     let q = at-start in
     let b = begun-by (q .args .s .now) (q .args .word .now) (work (q .args .out .now) (q .args .notes .now)) (q .pre .0) (q .pre .1 .1) (c .before .before .before .before .begin .ensures) in
     (_, scoped-holds b)
 
 returns : tie.Need-returns
 returns c =
-    let at-parts = c .before .before .before .before .before .before in
-    let at-begin = before-parts at-parts in
-    let at-start = before-begin at-begin in
+    let at-parts = c .before .before .before .before .before .before in let at-begin = before-parts at-parts in let at-start = before-begin at-begin in
     let q = at-start in
     let b = begun-by (q .args .s .now) (q .args .word .now) (work (q .args .out .now) (q .args .notes .now)) (q .pre .0) (q .pre .1 .1) (at-begin .begin .ensures) in
     scoped-none b (at-parts .parts .ensures) (q .args .constant) (c .enum-told .given .1)
 
 tag-of-requires : tie.Need-tag-of-requires
 tag-of-requires c κs =
-    let at-next = c .before .before in
-    let at-parts = before-next at-next in
-    let at-begin = before-parts at-parts in
-    let at-start = before-begin at-begin in
+    let at-next = c .before .before in let at-parts = before-next at-next in let at-begin = before-parts at-parts in let at-start = before-begin at-begin in
     let q = at-start in
     let b = begun-by (q .args .s .now) (q .args .word .now) (work (q .args .out .now) (q .args .notes .now)) (q .pre .0) (q .pre .1 .1) (at-begin .begin .ensures) in
     let t = scoped-ready b (at-parts .parts .ensures) (c .before .before .next .given .1) in
@@ -47,19 +41,14 @@ tag-of-requires c κs =
 
 returns-2 : tie.Need-returns-2
 returns-2 c =
-    let at-next = c .before .before .before .before .before in
-    let at-parts = before-next at-next in
-    let at-begin = before-parts at-parts in
-    let at-start = before-begin at-begin in
+    let at-next = c .before .before .before .before .before in let at-parts = before-next at-next in let at-begin = before-parts at-parts in let at-start = before-begin at-begin in
     let q = at-start in
     let b = begun-by (q .args .s .now) (q .args .word .now) (work (q .args .out .now) (q .args .notes .now)) (q .pre .0) (q .pre .1 .1) (at-begin .begin .ensures) in
     scoped-full b (at-parts .parts .ensures) (at-next .next .given .1) (q .args .constant) (c .before .before .tag-of .ensures) (c .before .bare .ensures) (not-true _ (c .if1 .taken))
 
 close-requires : tie.Need-close-requires
 close-requires c κs =
-    let at-next = c .before .before .before .before .before .before in
-    let at-parts = before-next at-next in
-    let at-begin = before-parts at-parts in
+    let at-next = c .before .before .before .before .before .before in let at-parts = before-next at-next in let at-begin = before-parts at-parts in
     let at-start = before-begin at-begin in
     let q = at-start in
     let b = begun-by (q .args .s .now) (q .args .word .now) (work (q .args .out .now) (q .args .notes .now)) (q .pre .0) (q .pre .1 .1) (at-begin .begin .ensures) in
@@ -68,9 +57,7 @@ close-requires c κs =
 
 returns-3 : tie.Need-returns-3
 returns-3 c =
-    let at-next = c .before .before .before .before .before .before .before .before .before in
-    let at-parts = before-next at-next in
-    let at-begin = before-parts at-parts in
+    let at-next = c .before .before .before .before .before .before .before .before .before in let at-parts = before-next at-next in let at-begin = before-parts at-parts in
     let at-start = before-begin at-begin in
     let q = at-start in
     let b = begun-by (q .args .s .now) (q .args .word .now) (work (q .args .out .now) (q .args .notes .now)) (q .pre .0) (q .pre .1 .1) (at-begin .begin .ensures) in

@@ -45,8 +45,7 @@ returns c σ h m k =
 
 tag-of-requires : tie.Need-tag-of-requires Inv-loop μ-loop
 tag-of-requires c κs =
-    let at-ty = c .before .before .before .before .before .before .before .before in
-    let at-start = before-ty at-ty in
+    let at-ty = c .before .before .before .before .before .before .before .before in let at-start = before-ty at-ty in
     let t = turn-told (turned-from (at-ty .before .before .before .before .before .loop .inv) (at-start .pre)) (at-ty .before .before .before .if1 .taken) (at-ty .ty .ensures) (c .before .before .q .given .1) in
     (_, ready-notes (t .state, t .holds))
 
@@ -67,8 +66,7 @@ returns-2 c σ h m k =
 
 loop-less : tie.Need-loop-less Inv-loop μ-loop
 loop-less c =
-    let at-ty = c .before .before .before .before .before .before .before .before .before .before in
-    let at-start = before-ty at-ty in
+    let at-ty = c .before .before .before .before .before .before .before .before .before .before in let at-start = before-ty at-ty in
     let t = turn-told (turned-from (at-ty .before .before .before .before .before .loop .inv) (at-start .pre)) (at-ty .before .before .before .if1 .taken) (at-ty .ty .ensures) (c .before .before .before .before .q .given .1) in
     omega (arith, t .limits .at, at-ty .before .before .before .if1 .taken)
 

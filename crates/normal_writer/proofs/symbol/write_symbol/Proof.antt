@@ -43,9 +43,7 @@ types-requires c κs =
 
 returns-4 : tie.Need-returns-4
 returns-4 c =
-    let at-types = c .before .before .before .before .before .before in
-    let at-function = before-types at-types in
-    let at-start = before-function at-function in
+    let at-types = c .before .before .before .before .before .before in let at-function = before-types at-types in let at-start = before-function at-function in
     let y = sym (at-function .before .before .before .before .starts-with .ensures) ∙ not-false _ (at-function .before .before .before .if1 .left) in
     let h : at-types .before .before .before .before .before .p .given .0 .1 .0 ≡ true → at-types .before .before .before .before .before .p .given .0 .0 .at < length (at-start .args .s .now) =
     λ x. ⊎-elim (λ w. w .2 .left) (λ w. absurd (false≢true (sym (w .left) ∙ x))) (at-types .before .before .before .if2 .came) in
@@ -53,8 +51,7 @@ returns-4 c =
 
 returns-5 : tie.Need-returns-5
 returns-5 c =
-    let at-types = c .before .before .before .before .before .before .before .before .before in
-    let at-function = before-types at-types in
+    let at-types = c .before .before .before .before .before .before .before .before .before in let at-function = before-types at-types in
     let at-start = before-function at-function in
     let y = sym (at-function .before .before .before .before .starts-with .ensures) ∙ not-false _ (at-function .before .before .before .if1 .left) in
     let h : at-types .before .before .before .before .before .p .given .0 .1 .0 ≡ true → at-types .before .before .before .before .before .p .given .0 .0 .at < length (at-start .args .s .now) =
@@ -63,8 +60,7 @@ returns-5 c =
 
 returns-6 : tie.Need-returns-6
 returns-6 c =
-    let at-types = c .before .before .before .before .before .before .before .before .before in
-    let at-function = before-types at-types in
+    let at-types = c .before .before .before .before .before .before .before .before .before in let at-function = before-types at-types in
     let at-start = before-function at-function in
     let y = sym (at-function .before .before .before .before .starts-with .ensures) ∙ not-false _ (at-function .before .before .before .if1 .left) in
     let h : at-types .before .before .before .before .before .p .given .0 .1 .0 ≡ true → at-types .before .before .before .before .before .p .given .0 .0 .at < length (at-start .args .s .now) =

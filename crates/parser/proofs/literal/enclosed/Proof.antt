@@ -16,14 +16,12 @@ before-put c = c .before .before .before .before
 
 again-requires : tie.Need-again-requires
 again-requires c κs =
-    let at-put = c .before .before .before in
-    let at-start = before-put at-put in
+    let at-put = c .before .before .before in let at-start = before-put at-put in
     (c .before .before .before .put .ensures .put .stack, (omega arith, (omega (arith, puts-least (at-start .pre .0) (c .before .before .before .put .ensures)), (omega arith, omega arith))))
 
 cut-requires : tie.Need-cut-requires
 cut-requires c κs =
-    let at-put = c .before .before .before .before .before .before .before in
-    let at-start = before-put at-put in
+    let at-put = c .before .before .before .before .before .before .before in let at-start = before-put at-put in
     let u = at-put .put .ensures in
     let x = puts-least (at-start .pre .0) u in
     let y = puts-least (u .put .stack) (c .before .before .before .again .ensures) in
@@ -37,8 +35,7 @@ same-length c =
 returns : tie.Need-returns
 unfolding b
 returns c =
-    let at-put = c .before .before .before .before .before .before .before .before .before .before .before .before .before .before .before in
-    let at-start = before-put at-put in
+    let at-put = c .before .before .before .before .before .before .before .before .before .before .before .before .before .before .before in let at-start = before-put at-put in
     record {
       stack = c .before .before .put2 .ensures .put .stack;
       stands = λ {t = t} l h.

@@ -25,8 +25,7 @@ again-room {text₁ = text₁} {p₁ = p₁} {c = c} {m = m} h i j l u v =
 
 again-requires : tie.Need-again-requires
 again-requires c κs =
-    let at-start = c .before .before .before .before .before .before .before in
-    let at-start = at-start in
+    let at-start = c .before .before .before .before .before .before .before in let at-start = at-start in
     let a = at-start in (
       c .before .before .before .put .ensures .put .stack,
       (
@@ -44,8 +43,7 @@ again-requires c κs =
 
 cut-requires : tie.Need-cut-requires
 cut-requires c κs =
-    let at-start = c .before .before .before .before .before .before .before .before .before .before .before in
-    let at-start = at-start in
+    let at-start = c .before .before .before .before .before .before .before .before .before .before .before in let at-start = at-start in
     let a = at-start in
     let u = c .before .before .before .before .before .before .before .put .ensures in
     (c .before .before .before .again .ensures .put .stack, omega (arith, again-room (a .pre .0) (a .pre .1 .0) (a .pre .1 .1 .0) (a .pre .1 .1 .1) u (c .before .before .before .again .ensures)))
@@ -53,8 +51,7 @@ cut-requires c κs =
 returns : tie.Need-returns
 unfolding b
 returns c =
-    let at-start = c .before .before .before .before .before .before .before .before .before .before .before .before .before .before in
-    let at-start = at-start in
+    let at-start = c .before .before .before .before .before .before .before .before .before .before .before .before .before .before in let at-start = at-start in
     let a = at-start in
     let u = c .before .before .before .before .before .before .before .before .before .before .put .ensures in
     let v = c .before .before .before .before .before .before .again .ensures in

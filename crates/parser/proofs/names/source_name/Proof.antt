@@ -44,15 +44,13 @@ sub-size c = let l = located (c .before .before .before .before .loop .inv) (sym
 
 put-part-requires : tie.Need-put-part-requires Inv-loop μ-loop
 put-part-requires c κs =
-    let at-from = c .before .before .before in
-    let at-start = before-from at-from in
+    let at-from = c .before .before .before in let at-start = before-from at-from in
     let l = located (at-from .before .before .before .loop .inv) (sym (at-from .before .before .identifier .ensures) ∙ c .before .before .before .from .given .1) in
     (stack-by (c .moved .ensures) (at-from .before .before .before .loop .inv .adds .stack), (omega (arith, l .some), (l .inside, omega (arith, l .inside, at-start .pre .1 .0))))
 
 sum-requires : tie.Need-sum-requires Inv-loop μ-loop
 sum-requires c κs =
-    let at-from = c .before .before .before .before .before .before in
-    let at-start = before-from at-from in
+    let at-from = c .before .before .before .before .before .before in let at-start = before-from at-from in
     let l = located (at-from .before .before .before .loop .inv) (sym (at-from .before .before .identifier .ensures) ∙ at-from .from .given .1) in
     (omega (arith, at-from .before .before .before .loop .inv .size), omega (arith, l .inside, at-start .pre .1 .0))
 
@@ -63,23 +61,18 @@ close-tags-requires c κs =
 
 sum-requires-2 : tie.Need-sum-requires-2 Inv-loop μ-loop
 sum-requires-2 c κs =
-    let at-sum = c .before .before .before .before .before .before in
-    let at-from = before-sum at-sum in
-    let at-start = before-from at-from in
+    let at-sum = c .before .before .before .before .before .before in let at-from = before-sum at-sum in let at-start = before-from at-from in
     let g = at-from .before .before .before .loop .inv in
     (omega (arith, at-sum .sum .ensures), omega (arith, g .more, g .place, at-start .pre .1 .0))
 
 same-length-2 : tie.Need-same-length-2 Inv-loop μ-loop
 same-length-2 c =
-    let at-sum = c .before .before .before .before .before .before .before .before in
-    let at-from = before-sum at-sum in
-    let at-start = before-from at-from in
+    let at-sum = c .before .before .before .before .before .before .before .before in let at-from = before-sum at-sum in let at-start = before-from at-from in
     omega (arith, c .before .before .before .before .close-tags .ensures .stack .size, at-start .pre .1 .1 .size)
 
 returns-2 : tie.Need-returns-2 Inv-loop μ-loop
 returns-2 c =
-    let at-sum = c .before .before .before .before .before .before .before .before in
-    let at-from = before-sum at-sum in
+    let at-sum = c .before .before .before .before .before .before .before .before in let at-from = before-sum at-sum in
     λ store ends.
     tagging-ends (at-from .before .before .before .loop .inv) (sym (at-from .before .before .identifier .ensures) ∙ at-from .from .given .1)
     (sym (c .before .before .before .before .before .before .before .here .ensures) ∙ not-true _ (c .before .before .before .before .before .before .if1 .taken))
@@ -92,9 +85,7 @@ returns-2 c =
 
 add-moved : tie.Need-add-moved Inv-loop μ-loop
 add-moved c =
-    let at-sum = c .before .before .before in
-    let at-from = before-sum at-sum in
-    let at-start = before-from at-from in
+    let at-sum = c .before .before .before in let at-from = before-sum at-sum in let at-start = before-from at-from in
     let l = located (at-from .before .before .before .loop .inv) (sym (at-from .before .before .identifier .ensures) ∙ at-from .from .given .1) in
     omega (arith, l .inside, at-start .pre .1 .0)
 
@@ -110,23 +101,19 @@ sum-requires-3 c κs =
 
 add-tags : tie.Need-add-tags Inv-loop μ-loop
 add-tags c =
-    let at-sum = c .before .before .before .before .before .before .before .before .before in
-    let at-from = before-sum at-sum in
-    let at-start = before-from at-from in
+    let at-sum = c .before .before .before .before .before .before .before .before .before in let at-from = before-sum at-sum in let at-start = before-from at-from in
     let g = at-from .before .before .before .loop .inv in
     omega (arith, g .more, g .place, at-start .pre .1 .0)
 
 loop-less : tie.Need-loop-less Inv-loop μ-loop
 loop-less c =
-    let at-sum = c .before .before .before .before .before .before .before .before .before in
-    let at-from = before-sum at-sum in
+    let at-sum = c .before .before .before .before .before .before .before .before .before in let at-from = before-sum at-sum in
     let l = located (at-from .before .before .before .loop .inv) (sym (at-from .before .before .identifier .ensures) ∙ at-from .from .given .1) in
     omega (arith, l .behind, l .some, l .inside, puts-at (c .before .before .before .before .before .moved2 .ensures) (c .before .before .before .put .ensures))
 
 loop-again : tie.Need-loop-again Inv-loop μ-loop
 loop-again c =
-    let at-sum = c .before .before .before .before .before .before .before .before .before in
-    let at-from = before-sum at-sum in
+    let at-sum = c .before .before .before .before .before .before .before .before .before in let at-from = before-sum at-sum in
     let t = sym (c .before .before .before .before .before .before .before .before .here .ensures) ∙ not-false _ (c .before .before .before .before .before .before .before .if1 .left) in
     tagging-more (at-from .before .before .before .loop .inv) (sym (at-from .before .before .identifier .ensures) ∙ at-from .from .given .1) t
     (starts-inside _ _ _ t)

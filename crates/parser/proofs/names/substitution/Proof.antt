@@ -25,8 +25,7 @@ returns-2 c = λ σ h. by (sub-end _ _ σ (h .rest) (sym (c .before .before .her
 
 old-entry-requires : tie.Need-old-entry-requires
 old-entry-requires c κs =
-    let at-abbreviation = c .before .before .before .before in
-    let at-start = before-abbreviation at-abbreviation in
+    let at-abbreviation = c .before .before .before .before in let at-start = before-abbreviation at-abbreviation in
     ready-moved _ (c .moved .ensures) (at-start .pre .1) (omega (arith, at-abbreviation .before .before .if2 .left))
 
 returns-3 : tie.Need-returns-3
@@ -41,8 +40,7 @@ returns-3 c =
 
 word-requires : tie.Need-word-requires
 word-requires c κs =
-    let at-abbreviation = c .before .before .before .before .before in
-    let at-start = before-abbreviation at-abbreviation in
+    let at-abbreviation = c .before .before .before .before .before in let at-start = before-abbreviation at-abbreviation in
     (stack-by (c .moved2 .ensures) (at-start .pre .1 .text), subst Picked-inside (c .before .before .before .picked .given .1) (at-abbreviation .abbreviation .ensures .inside))
 
 returns-4 : tie.Need-returns-4

@@ -31,16 +31,14 @@ returns-2 c =
 
 argument-requires : tie.Need-argument-requires
 argument-requires c κs =
-    let at-moved = c .before .before in
-    let at-start = before-moved at-moved in
+    let at-moved = c .before .before in let at-start = before-moved at-moved in
     let s = at-start .args .s .now in
     let l = starts-inside s (at-moved .before .before .before .decimal .result .next) 95 (sym (c .before .before .before .before .here2 .ensures) ∙ not-false _ (c .before .before .before .if2 .left)) in
     (s, ready-moved _ (c .before .before .moved .ensures) (at-start .pre .1) (omega (arith, l)))
 
 returns-3 : tie.Need-returns-3
 returns-3 c =
-    let at-moved = c .before .before .before .before .before in
-    let at-start = before-moved at-moved in
+    let at-moved = c .before .before .before .before .before in let at-start = before-moved at-moved in
     λ σ h.
     let s = at-start .args .s .now in
     let n = at-moved .before .before .before .decimal .ensures .behind in
@@ -53,8 +51,7 @@ returns-3 c =
 
 returns-4 : tie.Need-returns-4
 returns-4 c =
-    let at-moved = c .before .before .before in
-    let at-start = before-moved at-moved in
+    let at-moved = c .before .before .before in let at-start = before-moved at-moved in
     λ σ h.
     let d = at-moved .before .before .before .decimal .ensures in
     by
@@ -66,16 +63,14 @@ returns-4 c =
 
 argument-requires-2 : tie.Need-argument-requires-2
 argument-requires-2 c κs =
-    let at-moved = c .before .before .before .before .before in
-    let at-start = before-moved at-moved in
+    let at-moved = c .before .before .before .before .before in let at-start = before-moved at-moved in
     let s = at-start .args .s .now in
     let l = starts-inside s (at-moved .before .before .before .decimal .result .next) 95 (sym (at-moved .before .before .here2 .ensures) ∙ not-false _ (at-moved .before .if2 .left)) in
     (s, ready-moved _ (at-moved .moved .ensures) (at-start .pre .1) (omega (arith, l)))
 
 returns-5 : tie.Need-returns-5
 returns-5 c =
-    let at-moved = c .before .before .before .before .before .before .before .before in
-    let at-start = before-moved at-moved in
+    let at-moved = c .before .before .before .before .before .before .before .before in let at-start = before-moved at-moved in
     λ σ h.
     let s = at-start .args .s .now in
     let d = at-moved .before .before .before .decimal .ensures in

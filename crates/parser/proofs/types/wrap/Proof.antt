@@ -52,20 +52,17 @@ sub-more c = picked-at (c .before .before .before .before .wrapper .ensures) (c 
 
 add-size : tie.Need-add-size
 add-size c =
-    let at-wrapper = c .before .before .before .before in
-    let at-start = before-wrapper at-wrapper in
+    let at-wrapper = c .before .before .before .before in let at-start = before-wrapper at-wrapper in
     omega (arith, picked-at (c .before .before .before .before .wrapper .ensures) (c .before .before .picked .given .1) .1 .1, at-start .pre .1 .1)
 
 put-word-requires : tie.Need-put-word-requires
 put-word-requires c κs =
-    let at-wrapper = c .before .before .before .before .before in
-    let at-start = before-wrapper at-wrapper in
+    let at-wrapper = c .before .before .before .before .before in let at-start = before-wrapper at-wrapper in
     (at-start .pre .0 .1 .1 .text, picked-at (at-wrapper .wrapper .ensures) (c .before .before .before .picked .given .1) .1)
 
 recorded-requires : tie.Need-recorded-requires
 recorded-requires c κs =
-    let at-wrapper = c .before .before .before .before .before .before .before .before .before .before .before in
-    let at-start = before-wrapper at-wrapper in
+    let at-wrapper = c .before .before .before .before .before .before .before .before .before .before .before in let at-start = before-wrapper at-wrapper in
     let a = at-start in
     let h = a .pre .0 .1 .1 in
     let x = picked-at (at-wrapper .wrapper .ensures) (c .before .before .before .before .before .before .before .before .before .picked .given .1) in (

@@ -43,15 +43,13 @@ before-else2 c = c .before .before .before
 
 recorded-requires : tie.Need-recorded-requires
 recorded-requires c κs =
-    let place-slots = c .before .before .before .before .before .before .before .before in
-    let at-start = before-slots place-slots in
+    let place-slots = c .before .before .before .before .before .before .before .before in let at-start = before-slots place-slots in
     let a = at-start in
     ((a .pre .0 .0, (a .pre .0 .1 .0, c .before .before .before .before .before .class-behind .ensures .1 .0 _ _ _ _ (a .pre .0 .1 .1))), omega (arith, c .before .before .before .before .before .class-behind .ensures .0))
 
 returns : tie.Need-returns
 returns c k d s base from x y σ e f h =
-    let place-slots = c .before .before .before .before .before .before .before .before .before .before .before .before .before in
-    let at-start = before-slots place-slots in
+    let place-slots = c .before .before .before .before .before .before .before .before .before .before .before .before .before in let at-start = before-slots place-slots in
     let a = at-start in
     let l : length (x ++ y) ≤ 32768 = omega (arith, length-append x y, e, f, a .pre .1 .0, a .pre .1 .1 .0) in
     by (ap (λ (t : Text). recorded t σ) (behind y (at-slots (x ++ b "::*") y) (y ++ b " " ++ x ++ b "::*") (ap slots-in (sym (member x y h l f)) ∙ sym (place-slots .slots .ensures .0) ∙ c .before .before .before .before .before .before .before .before .before .before .before .before .if1 .taken)))
@@ -60,8 +58,7 @@ returns c k d s base from x y σ e f h =
 returns-2 : tie.Need-returns-2
 unfolding b
 returns-2 c k d s base from x y σ e f h =
-    let place-slots = c .before .before .before .before in
-    let at-start = before-slots place-slots in
+    let place-slots = c .before .before .before .before in let at-start = before-slots place-slots in
     let a = at-start in
     let l : length (x ++ y) ≤ 32768 = omega (arith, length-append x y, e, f, a .pre .1 .0, a .pre .1 .1 .0) in
     let g = ap slots-in (sym (member x y h l f)) ∙ sym (c .before .before .before .before .slots .ensures .0) in
@@ -71,18 +68,14 @@ returns-2 c k d s base from x y σ e f h =
 
 weave-requires : tie.Need-weave-requires
 weave-requires c κs =
-    let at-else2 = c .before .before in
-    let place-slots = before-else2 at-else2 in
-    let at-start = before-slots place-slots in
+    let at-else2 = c .before .before in let place-slots = before-else2 at-else2 in let at-start = before-slots place-slots in
     let a = at-start in
     let g = place-slots .slots .ensures .0 ∙ ap slots-in (sym (drop-take (a .args .p .top - a .args .m) (a .args .p .top) (a .args .text .now))) in
     (a .pre .0 .1 .1 .text, (a .pre .1 .1 .1, (omega (arith, a .pre .1 .0, a .pre .1 .1 .0), (omega arith, omega (arith, ap (λ (j : ℕ). j * (a .args .c + 3)) g, c .before .before .before .woven .ensures, c .before .before .if2 .left)))))
 
 cut-requires : tie.Need-cut-requires
 cut-requires c κs =
-    let at-else2 = c .before .before .before .before .before .before .before in
-    let place-slots = before-else2 at-else2 in
-    let at-start = before-slots place-slots in
+    let at-else2 = c .before .before .before .before .before .before .before in let place-slots = before-else2 at-else2 in let at-start = before-slots place-slots in
     let a = at-start in
     let h = a .pre .0 .1 .1 .text in
     let u = puts-by (c .before .raised .ensures) (c .before .before .before .before .weave .ensures) in
@@ -91,8 +84,7 @@ cut-requires c κs =
 
 recorded-requires-2 : tie.Need-recorded-requires-2
 recorded-requires-2 c κs =
-    let at-else2 = c .before .before .before .before .before .before .before .before .before .before .before .before .before in
-    let place-slots = before-else2 at-else2 in
+    let at-else2 = c .before .before .before .before .before .before .before .before .before .before .before .before .before in let place-slots = before-else2 at-else2 in
     let at-start = before-slots place-slots in
     let a = at-start in
     let h = a .pre .0 .1 .1 in
@@ -106,8 +98,7 @@ returns-3 : tie.Need-returns-3
 unfolding b
 returns-3 c k d s base from x y σ e f h =
     let at-else2 = c .before .before .before .before .before .before .before .before .before .before .before .before .before .before .before .before .before .before in
-    let place-slots = before-else2 at-else2 in
-    let at-start = before-slots place-slots in
+    let place-slots = before-else2 at-else2 in let at-start = before-slots place-slots in
     let a = at-start in
     let l : length (x ++ y) ≤ 32768 = omega (arith, length-append x y, e, f, a .pre .1 .0, a .pre .1 .1 .0) in
     let g = ap slots-in (sym (member x y h l f)) ∙ sym (place-slots .slots .ensures .0) in

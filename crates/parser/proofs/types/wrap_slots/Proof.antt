@@ -56,8 +56,7 @@ returns-2 c k d s base from t σ w e h =
 
 weave-word-requires : tie.Need-weave-word-requires
 weave-word-requires c κs =
-    let at-else1 = c .before in
-    let at-start = before-else1 at-else1 in
+    let at-else1 = c .before in let at-start = before-else1 at-else1 in
     let a = at-start in
     let w = at-else1 .before .before .before .before .picked .given .0 .0 in
     let x = short-word (at-else1 .before .before .before .before .before .before .slot-wrapper .ensures) (at-else1 .before .before .before .before .picked .given .1) in
@@ -65,8 +64,7 @@ weave-word-requires c κs =
 
 cut-requires : tie.Need-cut-requires
 cut-requires c κs =
-    let at-else1 = c .before .before .before .before .before in
-    let at-start = before-else1 at-else1 in
+    let at-else1 = c .before .before .before .before .before in let at-start = before-else1 at-else1 in
     let a = at-start in
     let h = a .pre .0 .1 .1 in
     let x = picked-at (at-else1 .before .before .before .before .before .before .slot-wrapper .ensures) (at-else1 .before .before .before .before .picked .given .1) in
@@ -75,8 +73,7 @@ cut-requires c κs =
 
 recorded-requires : tie.Need-recorded-requires
 recorded-requires c κs =
-    let at-else1 = c .before .before .before .before .before .before .before .before .before .before .before in
-    let at-start = before-else1 at-else1 in
+    let at-else1 = c .before .before .before .before .before .before .before .before .before .before .before in let at-start = before-else1 at-else1 in
     let a = at-start in
     let h = a .pre .0 .1 .1 in
     let x = picked-at (at-else1 .before .before .before .before .before .before .slot-wrapper .ensures) (at-else1 .before .before .before .before .picked .given .1) in

@@ -32,14 +32,12 @@ longer-requires c κs =
 
 sub-again : tie.Need-sub-again
 sub-again c =
-    let at-longer = c .before .before .before .before .before .before .before .before .before in
-    let at-start = before-longer at-longer in
+    let at-longer = c .before .before .before .before .before .before .before .before .before in let at-start = before-longer at-longer in
     omega (arith, ap (λ (q : Parts). q .n) (at-longer .longer .ensures), at-start .pre .1 .0)
 
 sub-again-2 : tie.Need-sub-again-2
 sub-again-2 c =
-    let at-longer = c .before .before .before .before .before .before .before .before .before in
-    let at-start = before-longer at-longer in
+    let at-longer = c .before .before .before .before .before .before .before .before .before in let at-start = before-longer at-longer in
     omega (arith, ap (λ (q : Parts). q .n) (at-longer .longer .ensures), at-longer .before .tilde-size .ensures, tilde-size (at-start .args .c), at-longer .before .before .shorter .ensures, at-longer .before .before .before .before .before .if1 .left)
 
 gap : (c : tie.After-struct-known) →
@@ -112,14 +110,12 @@ again-requires c κs =
 
 add-moved-2 : tie.Need-add-moved-2
 add-moved-2 c =
-    let at-longer = c .before .before .before .before .before .before .before .before .before .before .before .before .before in
-    let at-start = before-longer at-longer in
+    let at-longer = c .before .before .before .before .before .before .before .before .before .before .before .before .before in let at-start = before-longer at-longer in
     search (needs, at-start .pre .0 .3 .1 .place, at-start .pre .0 .3 .1 .source)
 
 returns-2 : tie.Need-returns-2
 returns-2 c s store ends base from ps σ x t e h =
-    let at-longer = c .before .before .before .before .before .before .before .before .before .before .before .before .before .before in
-    let at-start = before-longer at-longer in
+    let at-longer = c .before .before .before .before .before .before .before .before .before .before .before .before .before .before in let at-start = before-longer at-longer in
     let m : at-longer .before .before .shorter .result ≤ 16384 = omega (arith, at-longer .before .before .shorter .ensures) in
     let y : at-longer .before .tilde-size .result ≤ 1 = omega (arith, at-longer .before .tilde-size .ensures, tilde-size (at-start .args .c)) in
     let o = between (at-start .args .parts .count) (ap (λ (q : Parts). q .n) (at-longer .longer .ensures)) (at-longer .before .before .before .before .before .if1 .left) m y in

@@ -51,60 +51,51 @@ arg-requires t c κs =
 
 pub same-length-3 : (t : ℕ) → lts.Need-same-length-3 (args-calls t) (args-at t) args.Post Inv-loop μ-loop
 same-length-3 t c =
-    let at-arg = c .before .before .before .before in
-    let at-ty = before-arg t at-arg in
+    let at-arg = c .before .before .before .before in let at-ty = before-arg t at-arg in
     omega (arith, at-ty .ty .kept, at-ty .before .before .before .loop .inv .out-same)
 
 pub same-length-4 : (t : ℕ) → lts.Need-same-length-4 (args-calls t) (args-at t) args.Post Inv-loop μ-loop
 same-length-4 t c =
-    let at-arg = c .before .before .before .before in
-    let at-ty = before-arg t at-arg in
+    let at-arg = c .before .before .before .before in let at-ty = before-arg t at-arg in
     omega (arith, c .before .before .before .before .arg .kept, at-ty .ty .kept, at-ty .before .before .before .loop .inv .notes-same)
 
 pub returns-2 : (t : ℕ) → lts.Need-returns-2 (args-calls t) (args-at t) args.Post Inv-loop μ-loop
 returns-2 t c =
-    let at-arg = c .before .before .before .before in
-    let at-ty = before-arg t at-arg in
+    let at-arg = c .before .before .before .before in let at-ty = before-arg t at-arg in
     at-ty .before .before .before .loop .inv .whole _ _ (count-refused _ (at-ty .ty .ensures) (at-arg .before .before .before .behind .given .1) (c .before .before .before .before .arg .ensures) (c .enum-told2 .given .1))
 
 pub add-moved : (t : ℕ) → lts.Need-add-moved (args-calls t) (args-at t) args.Post Inv-loop μ-loop
 add-moved t c =
-    let at-arg = c .before .before .before .before .before .before .before .before in
-    let at-ty = before-arg t at-arg in
+    let at-arg = c .before .before .before .before .before .before .before .before in let at-ty = before-arg t at-arg in
     let (τ, (h, k)) = counted-next _ (at-ty .ty .ensures) (at-arg .before .before .before .behind .given .1) (at-arg .arg .ensures) (c .before .before .before .before .counted .given .1) (at-ty .before .before .before .loop .inv .ready) in
     omega (arith, h .place, h .source)
 
 pub same-length-5 : (t : ℕ) → lts.Need-same-length-5 (args-calls t) (args-at t) args.Post Inv-loop μ-loop
 same-length-5 t c =
-    let at-arg = c .before .before .before .before .before .before .before .before .before in
-    let at-ty = before-arg t at-arg in
+    let at-arg = c .before .before .before .before .before .before .before .before .before in let at-ty = before-arg t at-arg in
     omega (arith, at-ty .ty .kept, at-ty .before .before .before .loop .inv .out-same)
 
 pub same-length-6 : (t : ℕ) → lts.Need-same-length-6 (args-calls t) (args-at t) args.Post Inv-loop μ-loop
 same-length-6 t c =
-    let at-arg = c .before .before .before .before .before .before .before .before .before in
-    let at-ty = before-arg t at-arg in
+    let at-arg = c .before .before .before .before .before .before .before .before .before in let at-ty = before-arg t at-arg in
     omega (arith, at-arg .arg .kept, at-ty .ty .kept, at-ty .before .before .before .loop .inv .notes-same)
 
 pub returns-3 : (t : ℕ) → lts.Need-returns-3 (args-calls t) (args-at t) args.Post Inv-loop μ-loop
 returns-3 t c =
-    let at-arg = c .before .before .before .before .before .before .before .before .before in
-    let at-ty = before-arg t at-arg in
+    let at-arg = c .before .before .before .before .before .before .before .before .before in let at-ty = before-arg t at-arg in
     at-ty .before .before .before .loop .inv .whole _ _
     (args-end _ (at-ty .ty .ensures) (at-arg .before .before .before .behind .given .1) (at-arg .arg .ensures) (c .before .before .before .before .before .counted .given .1)
     (sym (c .before .before .starts-with .ensures) ∙ c .before .if1 .taken) (c .moved .ensures))
 
 pub loop-less : (t : ℕ) → lts.Need-loop-less (args-calls t) (args-at t) args.Post Inv-loop μ-loop
 loop-less t c =
-    let at-arg = c .before .before .before .before .before .before .before .before in
-    let at-ty = before-arg t at-arg in
+    let at-arg = c .before .before .before .before .before .before .before .before in let at-ty = before-arg t at-arg in
     let (τ, (h, (v, (l, m)))) = counted-next _ (at-ty .ty .ensures) (at-arg .before .before .before .behind .given .1) (at-arg .arg .ensures) (c .before .before .before .before .counted .given .1) (at-ty .before .before .before .loop .inv .ready) in
     omega (arith, l, h .place)
 
 pub loop-again : (t : ℕ) → lts.Need-loop-again (args-calls t) (args-at t) args.Post Inv-loop μ-loop
 loop-again t c =
-    let at-arg = c .before .before .before .before .before .before .before .before in
-    let at-ty = before-arg t at-arg in
+    let at-arg = c .before .before .before .before .before .before .before .before in let at-ty = before-arg t at-arg in
     args-again _ (at-ty .ty .ensures) (at-arg .before .before .before .behind .given .1) (at-arg .arg .ensures) (c .before .before .before .before .counted .given .1)
     (sym (c .before .starts-with .ensures) ∙ c .if1 .left) (omega (arith, at-ty .ty .kept)) (omega (arith, at-arg .arg .kept, at-ty .ty .kept))
     (at-ty .before .before .before .loop .inv)

@@ -52,27 +52,22 @@ part-requires t c κs =
 
 pub same-length : (t : ℕ) → lts.Need-same-length (more-calls t) (more-at t) more.Post Inv-loop μ-loop
 same-length t c =
-    let at-part = c .before .before .before .before .before .before in
-    let at-starts-with = before-part t at-part in
+    let at-part = c .before .before .before .before .before .before in let at-starts-with = before-part t at-part in
     omega (arith, at-part .part .kept, at-starts-with .before .before .loop .inv .1 .out-same)
 
 pub same-length-2 : (t : ℕ) → lts.Need-same-length-2 (more-calls t) (more-at t) more.Post Inv-loop μ-loop
 same-length-2 t c =
-    let at-part = c .before .before .before .before .before .before in
-    let at-starts-with = before-part t at-part in
+    let at-part = c .before .before .before .before .before .before in let at-starts-with = before-part t at-part in
     omega (arith, at-part .part .kept, at-starts-with .before .before .loop .inv .1 .notes-same)
 
 pub returns : (t : ℕ) → lts.Need-returns (more-calls t) (more-at t) more.Post Inv-loop μ-loop
 returns t c =
-    let at-part = c .before .before .before .before .before .before in
-    let at-starts-with = before-part t at-part in
+    let at-part = c .before .before .before .before .before .before in let at-starts-with = before-part t at-part in
     at-starts-with .before .before .loop .inv .1 .whole _ _ (part-refused _ _ _ (sym (at-starts-with .starts-with .ensures) ∙ not-true _ (at-part .before .before .before .if1 .taken)) (at-part .part .ensures) (c .enum-told .given .1))
 
 pub add-moved : (t : ℕ) → lts.Need-add-moved (more-calls t) (more-at t) more.Post Inv-loop μ-loop
 add-moved t c =
-    let at-behind = c .before .before .before .before in
-    let at-part = before-behind t at-behind in
-    let at-starts-with = before-part t at-part in
+    let at-behind = c .before .before .before .before in let at-part = before-behind t at-behind in let at-starts-with = before-part t at-part in
     let a = part-next (at-starts-with .before .before .loop .of) (at-starts-with .before .before .loop .alone) _
     (sym (at-starts-with .starts-with .ensures) ∙ not-true _ (at-part .before .before .before .if1 .taken)) (at-part .part .ensures)
     (c .before .before .before .before .behind .given .1) (at-starts-with .before .before .loop .inv .0) (at-starts-with .before .before .loop .inv .1 .ready) in
@@ -80,23 +75,17 @@ add-moved t c =
 
 pub same-length-3 : (t : ℕ) → lts.Need-same-length-3 (more-calls t) (more-at t) more.Post Inv-loop μ-loop
 same-length-3 t c =
-    let at-behind = c .before .before .before .before .before in
-    let at-part = before-behind t at-behind in
-    let at-starts-with = before-part t at-part in
+    let at-behind = c .before .before .before .before .before in let at-part = before-behind t at-behind in let at-starts-with = before-part t at-part in
     omega (arith, at-part .part .kept, at-starts-with .before .before .loop .inv .1 .out-same)
 
 pub same-length-4 : (t : ℕ) → lts.Need-same-length-4 (more-calls t) (more-at t) more.Post Inv-loop μ-loop
 same-length-4 t c =
-    let at-behind = c .before .before .before .before .before in
-    let at-part = before-behind t at-behind in
-    let at-starts-with = before-part t at-part in
+    let at-behind = c .before .before .before .before .before in let at-part = before-behind t at-behind in let at-starts-with = before-part t at-part in
     omega (arith, at-part .part .kept, at-starts-with .before .before .loop .inv .1 .notes-same)
 
 pub returns-2 : (t : ℕ) → lts.Need-returns-2 (more-calls t) (more-at t) more.Post Inv-loop μ-loop
 returns-2 t c =
-    let at-behind = c .before .before .before .before .before in
-    let at-part = before-behind t at-behind in
-    let at-starts-with = before-part t at-part in
+    let at-behind = c .before .before .before .before .before in let at-part = before-behind t at-behind in let at-starts-with = before-part t at-part in
     let a = part-next (at-starts-with .before .before .loop .of) (at-starts-with .before .before .loop .alone) _
     (sym (at-starts-with .starts-with .ensures) ∙ not-true _ (at-part .before .before .before .if1 .taken)) (at-part .part .ensures) (at-behind .behind .given .1)
     (at-starts-with .before .before .loop .inv .0) (at-starts-with .before .before .loop .inv .1 .ready) in
@@ -106,9 +95,7 @@ returns-2 t c =
 
 pub enter-requires : (t : ℕ) → lts.Need-enter-requires (more-calls t) (more-at t) more.Post Inv-loop μ-loop
 enter-requires t c κs =
-    let at-behind = c .before .before .before .before .before .before in
-    let at-part = before-behind t at-behind in
-    let at-starts-with = before-part t at-part in
+    let at-behind = c .before .before .before .before .before .before in let at-part = before-behind t at-behind in let at-starts-with = before-part t at-part in
     let a = part-next (at-starts-with .before .before .loop .of) (at-starts-with .before .before .loop .alone) _
     (sym (at-starts-with .starts-with .ensures) ∙ not-true _ (at-part .before .before .before .if1 .taken)) (at-part .part .ensures) (at-behind .behind .given .1)
     (at-starts-with .before .before .loop .inv .0) (at-starts-with .before .before .loop .inv .1 .ready) in
@@ -116,8 +103,7 @@ enter-requires t c κs =
 
 pub loop-less : (t : ℕ) → lts.Need-loop-less (more-calls t) (more-at t) more.Post Inv-loop μ-loop
 loop-less t c =
-    let at-behind = c .before .before .before .before .before .before .before .before .before .before .before in
-    let at-part = before-behind t at-behind in
+    let at-behind = c .before .before .before .before .before .before .before .before .before .before .before in let at-part = before-behind t at-behind in
     let at-starts-with = before-part t at-part in
     let a = part-next (at-starts-with .before .before .loop .of) (at-starts-with .before .before .loop .alone) _
     (sym (at-starts-with .starts-with .ensures) ∙ not-true _ (at-part .before .before .before .if1 .taken)) (at-part .part .ensures) (at-behind .behind .given .1)
@@ -127,8 +113,7 @@ loop-less t c =
 
 pub loop-again : (t : ℕ) → lts.Need-loop-again (more-calls t) (more-at t) more.Post Inv-loop μ-loop
 loop-again t c =
-    let at-behind = c .before .before .before .before .before .before .before .before .before .before .before in
-    let at-part = before-behind t at-behind in
+    let at-behind = c .before .before .before .before .before .before .before .before .before .before .before in let at-part = before-behind t at-behind in
     let at-starts-with = before-part t at-part in
     let a = part-next (at-starts-with .before .before .loop .of) (at-starts-with .before .before .loop .alone) _
     (sym (at-starts-with .starts-with .ensures) ∙ not-true _ (at-part .before .before .before .if1 .taken)) (at-part .part .ensures) (at-behind .behind .given .1)
@@ -159,15 +144,12 @@ returns-3 t c =
 
 pub copy-byte-requires : (t : ℕ) → lts.Need-copy-byte-requires (more-calls t) (more-at t) more.Post Inv-loop μ-loop
 copy-byte-requires t c κs =
-    let at-starts-with = c .before .before .before .before .before .before in
-    let at-start = before-starts-with t at-starts-with in
+    let at-starts-with = c .before .before .before .before .before .before in let at-start = before-starts-with t at-starts-with in
     (starts-inside (at-start .args .s .now) (at-starts-with .before .before .loop .next .at) 73 (sym (at-starts-with .starts-with .ensures) ∙ not-false _ (c .before .before .before .before .before .if1 .left)), ready-out (at-starts-with .before .before .loop .inv .1 .ready))
 
 pub args-requires : (t : ℕ) → lts.Need-args-requires (more-calls t) (more-at t) more.Post Inv-loop μ-loop
 args-requires t c κs =
-    let at-copy-byte = c .before .before .before .before in
-    let at-starts-with = before-copy-byte t at-copy-byte in
-    let at-start = before-starts-with t at-starts-with in
+    let at-copy-byte = c .before .before .before .before in let at-starts-with = before-copy-byte t at-copy-byte in let at-start = before-starts-with t at-starts-with in
     let l = starts-inside (at-start .args .s .now) (at-starts-with .before .before .loop .next .at) 73 (sym (at-starts-with .starts-with .ensures) ∙ not-false _ (at-copy-byte .before .before .before .before .before .before .if1 .left)) in (
       omega (arith, at-start .pre .0, at-starts-with .before .before .loop .inv .1 .further, l, c .before .before .before .before .copy-byte .ensures .0),
       (
@@ -179,23 +161,17 @@ args-requires t c κs =
 
 pub same-length-7 : (t : ℕ) → lts.Need-same-length-7 (more-calls t) (more-at t) more.Post Inv-loop μ-loop
 same-length-7 t c =
-    let at-args2 = c .before .before .before .before .before .before in
-    let at-copy-byte = before-args2 t at-args2 in
-    let at-starts-with = before-copy-byte t at-copy-byte in
+    let at-args2 = c .before .before .before .before .before .before in let at-copy-byte = before-args2 t at-args2 in let at-starts-with = before-copy-byte t at-copy-byte in
     omega (arith, at-args2 .args2 .kept, at-copy-byte .copy-byte .kept, at-starts-with .before .before .loop .inv .1 .out-same)
 
 pub same-length-8 : (t : ℕ) → lts.Need-same-length-8 (more-calls t) (more-at t) more.Post Inv-loop μ-loop
 same-length-8 t c =
-    let at-args2 = c .before .before .before .before .before .before in
-    let at-copy-byte = before-args2 t at-args2 in
-    let at-starts-with = before-copy-byte t at-copy-byte in
+    let at-args2 = c .before .before .before .before .before .before in let at-copy-byte = before-args2 t at-args2 in let at-starts-with = before-copy-byte t at-copy-byte in
     omega (arith, at-args2 .args2 .kept, at-starts-with .before .before .loop .inv .1 .notes-same)
 
 pub returns-4 : (t : ℕ) → lts.Need-returns-4 (more-calls t) (more-at t) more.Post Inv-loop μ-loop
 returns-4 t c =
-    let at-args2 = c .before .before .before .before .before .before in
-    let at-copy-byte = before-args2 t at-args2 in
-    let at-starts-with = before-copy-byte t at-copy-byte in
+    let at-args2 = c .before .before .before .before .before .before in let at-copy-byte = before-args2 t at-args2 in let at-starts-with = before-copy-byte t at-copy-byte in
     at-starts-with .before .before .loop .inv .1 .whole _ _
     (angled-refused _ _ _ (sym (at-starts-with .starts-with .ensures) ∙ not-false _ (at-copy-byte .before .before .before .before .before .before .if1 .left))
     (at-copy-byte .before .before .before .before .tag-of .ensures)
@@ -204,8 +180,7 @@ returns-4 t c =
 
 pub close-requires : (t : ℕ) → lts.Need-close-requires (more-calls t) (more-at t) more.Post Inv-loop μ-loop
 close-requires t c κs =
-    let at-args2 = c .before .before .before .before .before .before .before .before in
-    let at-copy-byte = before-args2 t at-args2 in
+    let at-args2 = c .before .before .before .before .before .before .before .before in let at-copy-byte = before-args2 t at-args2 in
     let at-starts-with = before-copy-byte t at-copy-byte in
     close-next (at-starts-with .before .before .loop .inv .1 .ready .1)
     (args-told _ (sym (at-starts-with .starts-with .ensures) ∙ not-false _ (at-copy-byte .before .before .before .before .before .before .if1 .left))
@@ -213,25 +188,19 @@ close-requires t c κs =
 
 pub same-length-9 : (t : ℕ) → lts.Need-same-length-9 (more-calls t) (more-at t) more.Post Inv-loop μ-loop
 same-length-9 t c =
-    let at-close = c .before .before .before .before .before .before in
-    let at-args2 = before-close t at-close in
-    let at-copy-byte = before-args2 t at-args2 in
+    let at-close = c .before .before .before .before .before .before in let at-args2 = before-close t at-close in let at-copy-byte = before-args2 t at-args2 in
     let at-starts-with = before-copy-byte t at-copy-byte in
     omega (arith, at-close .close .kept, at-args2 .args2 .kept, at-copy-byte .copy-byte .kept, at-starts-with .before .before .loop .inv .1 .out-same)
 
 pub same-length-10 : (t : ℕ) → lts.Need-same-length-10 (more-calls t) (more-at t) more.Post Inv-loop μ-loop
 same-length-10 t c =
-    let at-close = c .before .before .before .before .before .before in
-    let at-args2 = before-close t at-close in
-    let at-copy-byte = before-args2 t at-args2 in
+    let at-close = c .before .before .before .before .before .before in let at-args2 = before-close t at-close in let at-copy-byte = before-args2 t at-args2 in
     let at-starts-with = before-copy-byte t at-copy-byte in
     omega (arith, at-args2 .args2 .kept, at-starts-with .before .before .loop .inv .1 .notes-same)
 
 pub returns-5 : (t : ℕ) → lts.Need-returns-5 (more-calls t) (more-at t) more.Post Inv-loop μ-loop
 returns-5 t c =
-    let at-close = c .before .before .before .before .before .before in
-    let at-args2 = before-close t at-close in
-    let at-copy-byte = before-args2 t at-args2 in
+    let at-close = c .before .before .before .before .before .before in let at-args2 = before-close t at-close in let at-copy-byte = before-args2 t at-args2 in
     let at-starts-with = before-copy-byte t at-copy-byte in
     at-starts-with .before .before .loop .inv .1 .whole _ _
     (angled-answer _ _ _ (sym (at-starts-with .starts-with .ensures) ∙ not-false _ (at-copy-byte .before .before .before .before .before .before .if1 .left))
@@ -242,9 +211,7 @@ returns-5 t c =
 
 pub add-moved-2 : (t : ℕ) → lts.Need-add-moved-2 (more-calls t) (more-at t) more.Post Inv-loop μ-loop
 add-moved-2 t c =
-    let at-close = c .before .before .before .before .before .before in
-    let at-args2 = before-close t at-close in
-    let at-copy-byte = before-args2 t at-args2 in
+    let at-close = c .before .before .before .before .before .before in let at-args2 = before-close t at-close in let at-copy-byte = before-args2 t at-args2 in
     let at-starts-with = before-copy-byte t at-copy-byte in
     let a = closed-next (at-starts-with .before .before .loop .inv .1 .ready .1)
     (args-told _ (sym (at-starts-with .starts-with .ensures) ∙ not-false _ (at-copy-byte .before .before .before .before .before .before .if1 .left))
@@ -254,25 +221,19 @@ add-moved-2 t c =
 
 pub same-length-11 : (t : ℕ) → lts.Need-same-length-11 (more-calls t) (more-at t) more.Post Inv-loop μ-loop
 same-length-11 t c =
-    let at-close = c .before .before .before .before .before .before .before in
-    let at-args2 = before-close t at-close in
-    let at-copy-byte = before-args2 t at-args2 in
+    let at-close = c .before .before .before .before .before .before .before in let at-args2 = before-close t at-close in let at-copy-byte = before-args2 t at-args2 in
     let at-starts-with = before-copy-byte t at-copy-byte in
     omega (arith, at-close .close .kept, at-args2 .args2 .kept, at-copy-byte .copy-byte .kept, at-starts-with .before .before .loop .inv .1 .out-same)
 
 pub same-length-12 : (t : ℕ) → lts.Need-same-length-12 (more-calls t) (more-at t) more.Post Inv-loop μ-loop
 same-length-12 t c =
-    let at-close = c .before .before .before .before .before .before .before in
-    let at-args2 = before-close t at-close in
-    let at-copy-byte = before-args2 t at-args2 in
+    let at-close = c .before .before .before .before .before .before .before in let at-args2 = before-close t at-close in let at-copy-byte = before-args2 t at-args2 in
     let at-starts-with = before-copy-byte t at-copy-byte in
     omega (arith, at-args2 .args2 .kept, at-starts-with .before .before .loop .inv .1 .notes-same)
 
 pub returns-6 : (t : ℕ) → lts.Need-returns-6 (more-calls t) (more-at t) more.Post Inv-loop μ-loop
 returns-6 t c =
-    let at-close = c .before .before .before .before .before .before .before in
-    let at-args2 = before-close t at-close in
-    let at-copy-byte = before-args2 t at-args2 in
+    let at-close = c .before .before .before .before .before .before .before in let at-args2 = before-close t at-close in let at-copy-byte = before-args2 t at-args2 in
     let at-starts-with = before-copy-byte t at-copy-byte in
     let a = closed-next (at-starts-with .before .before .loop .inv .1 .ready .1)
     (args-told _ (sym (at-starts-with .starts-with .ensures) ∙ not-false _ (at-copy-byte .before .before .before .before .before .before .if1 .left))
@@ -287,9 +248,7 @@ returns-6 t c =
 
 pub enter-requires-2 : (t : ℕ) → lts.Need-enter-requires-2 (more-calls t) (more-at t) more.Post Inv-loop μ-loop
 enter-requires-2 t c κs =
-    let at-close = c .before .before .before .before .before .before .before in
-    let at-args2 = before-close t at-close in
-    let at-copy-byte = before-args2 t at-args2 in
+    let at-close = c .before .before .before .before .before .before .before in let at-args2 = before-close t at-close in let at-copy-byte = before-args2 t at-args2 in
     let at-starts-with = before-copy-byte t at-copy-byte in
     let a = closed-next (at-starts-with .before .before .loop .inv .1 .ready .1)
     (args-told _ (sym (at-starts-with .starts-with .ensures) ∙ not-false _ (at-copy-byte .before .before .before .before .before .before .if1 .left))
@@ -299,10 +258,8 @@ enter-requires-2 t c κs =
 
 pub loop-less-2 : (t : ℕ) → lts.Need-loop-less-2 (more-calls t) (more-at t) more.Post Inv-loop μ-loop
 loop-less-2 t c =
-    let at-close = c .before .before .before .before .before .before .before .before .before .before .before .before in
-    let at-args2 = before-close t at-close in
-    let at-copy-byte = before-args2 t at-args2 in
-    let at-starts-with = before-copy-byte t at-copy-byte in
+    let at-close = c .before .before .before .before .before .before .before .before .before .before .before .before in let at-args2 = before-close t at-close in
+    let at-copy-byte = before-args2 t at-args2 in let at-starts-with = before-copy-byte t at-copy-byte in
     let a = closed-next (at-starts-with .before .before .loop .inv .1 .ready .1)
     (args-told _ (sym (at-starts-with .starts-with .ensures) ∙ not-false _ (at-copy-byte .before .before .before .before .before .before .if1 .left))
     (at-copy-byte .copy-byte .ensures) (at-args2 .args2 .ensures) (at-close .before .before .before .last .given .1) (at-starts-with .before .before .loop .inv .1 .ready))
@@ -312,10 +269,8 @@ loop-less-2 t c =
 
 pub loop-again-2 : (t : ℕ) → lts.Need-loop-again-2 (more-calls t) (more-at t) more.Post Inv-loop μ-loop
 loop-again-2 t c =
-    let at-close = c .before .before .before .before .before .before .before .before .before .before .before .before in
-    let at-args2 = before-close t at-close in
-    let at-copy-byte = before-args2 t at-args2 in
-    let at-starts-with = before-copy-byte t at-copy-byte in
+    let at-close = c .before .before .before .before .before .before .before .before .before .before .before .before in let at-args2 = before-close t at-close in
+    let at-copy-byte = before-args2 t at-args2 in let at-starts-with = before-copy-byte t at-copy-byte in
     let a = closed-next (at-starts-with .before .before .loop .inv .1 .ready .1)
     (args-told _ (sym (at-starts-with .starts-with .ensures) ∙ not-false _ (at-copy-byte .before .before .before .before .before .before .if1 .left))
     (at-copy-byte .copy-byte .ensures) (at-args2 .args2 .ensures) (at-close .before .before .before .last .given .1) (at-starts-with .before .before .loop .inv .1 .ready))

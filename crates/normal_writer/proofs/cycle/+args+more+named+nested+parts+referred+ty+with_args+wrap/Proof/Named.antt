@@ -18,8 +18,7 @@ returns t c =
 
 pub with-args-requires : (t : ℕ) → lts.Need-with-args-requires (named-calls t) (named-at t) named.Post
 with-args-requires t c κs =
-    let at-first-name = c .before .before .before .before .before .before .before .before .before in
-    let at-start = before-first-name t at-first-name in
+    let at-first-name = c .before .before .before .before .before .before .before .before .before in let at-start = before-first-name t at-first-name in
     let w = first-next by-name (first-named (at-first-name .first-name .ensures)) (c .before .before .before .next .given .1) (at-start .pre .1 .0) (at-start .pre .1 .1) in
     (omega (arith, w .limits .0, w .holds .place, at-start .pre .0), ((w .small, w .limits .1 .stands), (w .state, w .holds)))
 

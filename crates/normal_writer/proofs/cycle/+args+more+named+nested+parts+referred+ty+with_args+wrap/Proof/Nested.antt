@@ -21,27 +21,23 @@ copy-byte-requires t c κs = (c .before .before .before .before .pre .1 .0, read
 
 pub parts-requires : (t : ℕ) → lts.Need-parts-requires (nested-calls t) (nested-at t) nested.Post
 parts-requires t c κs =
-    let at-copy-byte = c .before .before .before .before in
-    let at-start = before-copy-byte t at-copy-byte in
+    let at-copy-byte = c .before .before .before .before in let at-start = before-copy-byte t at-copy-byte in
     (omega (arith, at-start .pre .0, at-start .pre .1 .0, c .before .before .before .before .copy-byte .ensures .0), copied-ready (c .before .before .before .before .copy-byte .ensures) (at-start .pre .1 .0) (at-start .pre .1 .1))
 
 pub returns : (t : ℕ) → lts.Need-returns (nested-calls t) (nested-at t) nested.Post
 returns t c =
-    let at-parts = c .before .before .before .before .before .before in
-    let at-copy-byte = before-parts t at-parts in
+    let at-parts = c .before .before .before .before .before .before in let at-copy-byte = before-parts t at-parts in
     nested-refused (at-copy-byte .copy-byte .ensures) (at-parts .parts .ensures) (c .enum-told .given .1)
 
 pub close-requires : (t : ℕ) → lts.Need-close-requires (nested-calls t) (nested-at t) nested.Post
 close-requires t c κs =
-    let at-parts = c .before .before .before .before .before .before .before .before in
-    let at-copy-byte = before-parts t at-parts in
+    let at-parts = c .before .before .before .before .before .before .before .before in let at-copy-byte = before-parts t at-parts in
     let at-start = before-copy-byte t at-copy-byte in
     close-next (at-start .pre .1 .1 .1) (nested-told (at-copy-byte .copy-byte .ensures) (at-parts .parts .ensures) (c .before .before .next .given .1) (at-start .pre .1 .0) (at-start .pre .1 .1))
 
 pub enter-nested-requires : (t : ℕ) → lts.Need-enter-nested-requires (nested-calls t) (nested-at t) nested.Post
 enter-nested-requires t c κs =
-    let at-parts = c .before .before .before .before .before .before .before .before .before .before .before .before .before in
-    let at-copy-byte = before-parts t at-parts in
+    let at-parts = c .before .before .before .before .before .before .before .before .before .before .before .before .before in let at-copy-byte = before-parts t at-parts in
     let at-start = before-copy-byte t at-copy-byte in
     let w = closed-next (at-start .pre .1 .1 .1)
     (nested-told (at-copy-byte .copy-byte .ensures) (at-parts .parts .ensures) (c .before .before .before .before .before .before .before .next .given .1) (at-start .pre .1 .0)

@@ -49,55 +49,45 @@ returns t c = parts-end (c .if1 .taken)
 
 pub returns-2 : (t : ℕ) → lts.Need-returns-2 (parts-calls t) (parts-at t) parts.Post
 returns-2 t c =
-    let at-first-name = c .before .before .before .before .before .before in
-    let at-lead-of = before-first-name t at-first-name in
+    let at-first-name = c .before .before .before .before .before .before in let at-lead-of = before-first-name t at-first-name in
     parts-by (at-lead-of .before .before .if1 .left) (lead-is _ Digit (sym (at-first-name .before .before .before .enum-told .given .1) ∙ at-lead-of .lead-of .ensures)) (parts-unnamed (first-named (at-first-name .first-name .ensures)) (c .enum-told2 .given .1))
 
 pub more-requires : (t : ℕ) → lts.Need-more-requires (parts-calls t) (parts-at t) parts.Post
 more-requires t c κs =
-    let at-first-name = c .before .before .before .before .before .before .before .before .before in
-    let at-lead-of = before-first-name t at-first-name in
+    let at-first-name = c .before .before .before .before .before .before .before .before .before in let at-lead-of = before-first-name t at-first-name in
     let at-start = before-lead-of t at-lead-of in
     let w = first-next by-name (first-named (at-first-name .first-name .ensures)) (c .before .before .before .next .given .1) (at-lead-of .before .before .if1 .left) (at-start .pre .1) in
     (omega (arith, w .limits .0, w .holds .place, at-start .pre .0), ((w .small, w .limits .1 .stands), (w .state, w .holds)))
 
 pub first-reference-requires : (t : ℕ) → lts.Need-first-reference-requires (parts-calls t) (parts-at t) parts.Post
 first-reference-requires t c κs =
-    let at-lead-of = c .before .before .before .before .before in
-    let at-start = before-lead-of t at-lead-of in
+    let at-lead-of = c .before .before .before .before .before in let at-start = before-lead-of t at-lead-of in
     moved-ready (c .moved .ensures) (at-lead-of .before .before .if1 .left) (at-start .pre .1)
 
 pub returns-3 : (t : ℕ) → lts.Need-returns-3 (parts-calls t) (parts-at t) parts.Post
 returns-3 t c =
-    let at-first-reference = c .before .before .before .before .before .before in
-    let at-lead-of = before-first-reference t at-first-reference in
+    let at-first-reference = c .before .before .before .before .before .before in let at-lead-of = before-first-reference t at-first-reference in
     parts-by (at-lead-of .before .before .if1 .left) (lead-is _ S (sym (at-first-reference .before .before .before .before .enum-told3 .given .1) ∙ at-lead-of .lead-of .ensures))
     (parts-unreferred (first-referred (at-first-reference .before .moved .ensures) (at-first-reference .first-reference .ensures)) (c .enum-told4 .given .1))
 
 pub tag-of-requires : (t : ℕ) → lts.Need-tag-of-requires (parts-calls t) (parts-at t) parts.Post
 tag-of-requires t c κs =
-    let at-next2 = c .before .before in
-    let at-first-reference = before-next2 t at-next2 in
-    let at-lead-of = before-first-reference t at-first-reference in
+    let at-next2 = c .before .before in let at-first-reference = before-next2 t at-next2 in let at-lead-of = before-first-reference t at-first-reference in
     let at-start = before-lead-of t at-lead-of in
     let w = first-next by-reference (first-referred (at-first-reference .before .moved .ensures) (at-first-reference .first-reference .ensures)) (c .before .before .next2 .given .1) (at-lead-of .before .before .if1 .left) (at-start .pre .1) in
     (_, ready-notes (w .state, w .holds))
 
 pub returns-4 : (t : ℕ) → lts.Need-returns-4 (parts-calls t) (parts-at t) parts.Post
 returns-4 t c =
-    let at-next2 = c .before .before .before .before .before in
-    let at-first-reference = before-next2 t at-next2 in
-    let at-lead-of = before-first-reference t at-first-reference in
+    let at-next2 = c .before .before .before .before .before in let at-first-reference = before-next2 t at-next2 in let at-lead-of = before-first-reference t at-first-reference in
     parts-by (at-lead-of .before .before .if1 .left) (lead-is _ S (sym (at-first-reference .before .before .before .before .enum-told3 .given .1) ∙ at-lead-of .lead-of .ensures))
     (parts-barred (first-referred (at-first-reference .before .moved .ensures) (at-first-reference .first-reference .ensures)) (at-next2 .next2 .given .1)
     (c .before .before .tag-of .ensures) (sym (c .before .class .ensures) ∙ not-true _ (c .if2 .taken)))
 
 pub more-requires-2 : (t : ℕ) → lts.Need-more-requires-2 (parts-calls t) (parts-at t) parts.Post
 more-requires-2 t c κs =
-    let at-next2 = c .before .before .before .before .before .before .before in
-    let at-first-reference = before-next2 t at-next2 in
-    let at-lead-of = before-first-reference t at-first-reference in
-    let at-start = before-lead-of t at-lead-of in
+    let at-next2 = c .before .before .before .before .before .before .before in let at-first-reference = before-next2 t at-next2 in
+    let at-lead-of = before-first-reference t at-first-reference in let at-start = before-lead-of t at-lead-of in
     let w = first-next by-reference (first-referred (at-first-reference .before .moved .ensures) (at-first-reference .first-reference .ensures)) (at-next2 .next2 .given .1) (at-lead-of .before .before .if1 .left) (at-start .pre .1) in
     (omega (arith, w .limits .0, w .holds .place, at-start .pre .0), ((w .small, w .limits .1 .stands), (w .state, w .holds)))
 
@@ -111,8 +101,7 @@ returns-5 t c =
 
 pub returns-6 : (t : ℕ) → lts.Need-returns-6 (parts-calls t) (parts-at t) parts.Post
 returns-6 t c =
-    let at-next2 = c .before .before .before .before .before .before .before .before .before .before .before .before in
-    let at-first-reference = before-next2 t at-next2 in
+    let at-next2 = c .before .before .before .before .before .before .before .before .before .before .before .before in let at-first-reference = before-next2 t at-next2 in
     let at-lead-of = before-first-reference t at-first-reference in
     parts-by (at-lead-of .before .before .if1 .left) (lead-is _ S (sym (at-first-reference .before .before .before .before .enum-told3 .given .1) ∙ at-lead-of .lead-of .ensures))
     (parts-referred (first-referred (at-first-reference .before .moved .ensures) (at-first-reference .first-reference .ensures)) (at-next2 .next2 .given .1)
@@ -122,6 +111,5 @@ returns-6 t c =
 
 pub returns-7 : (t : ℕ) → lts.Need-returns-7 (parts-calls t) (parts-at t) parts.Post
 returns-7 t c =
-    let at-lead-of = c .before in
-    let at-start = before-lead-of t at-lead-of in
+    let at-lead-of = c .before in let at-start = before-lead-of t at-lead-of in
     parts-by (c .before .before .before .if1 .left) refl (parts-other (lead (getD (at-start .args .s .now) (at-start .args .p .at) 0)) (λ e. not-digit _ (c .match .keys3) (c .before .lead-of .ensures ∙ e)) (λ e. not-s _ (c .match .keys3) (c .before .lead-of .ensures ∙ e)))

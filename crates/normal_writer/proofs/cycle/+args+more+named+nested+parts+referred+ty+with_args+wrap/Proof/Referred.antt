@@ -24,8 +24,7 @@ returns t c =
 
 pub with-args-requires : (t : ℕ) → lts.Need-with-args-requires (referred-calls t) (referred-at t) referred.Post
 with-args-requires t c κs =
-    let at-first-reference = c .before .before .before .before .before .before .before .before .before in
-    let at-start = before-first-reference t at-first-reference in
+    let at-first-reference = c .before .before .before .before .before .before .before .before .before in let at-start = before-first-reference t at-first-reference in
     let w = first-next by-reference (first-referred (at-first-reference .before .moved .ensures) (at-first-reference .first-reference .ensures)) (c .before .before .before .next .given .1) (at-start .pre .1 .0) (at-start .pre .1 .1) in
     (omega (arith, w .limits .0, w .holds .place, at-start .pre .0), ((w .small, w .limits .1 .stands), (w .state, w .holds)))
 

@@ -21,8 +21,7 @@ returns t c = type-end (c .if1 .taken)
 
 pub copy-byte-requires : (t : ℕ) → lts.Need-copy-byte-requires (ty-calls t) (ty-at t) ty.Post
 copy-byte-requires t c κs =
-    let at-lead-of = c .before .before .before in
-    let at-start = before-lead-of t at-lead-of in
+    let at-lead-of = c .before .before .before in let at-start = before-lead-of t at-lead-of in
     (at-lead-of .before .before .if1 .left, ready-out (at-start .pre .1))
 
 pub cast-t16 : (t : ℕ) → lts.Need-cast-t16 (ty-calls t) (ty-at t) ty.Post
@@ -33,32 +32,27 @@ cast-t16 t c =
 
 pub wrap-requires : (t : ℕ) → lts.Need-wrap-requires (ty-calls t) (ty-at t) ty.Post
 wrap-requires t c κs =
-    let at-lead-of = c .before .before .before .before in
-    let at-start = before-lead-of t at-lead-of in
+    let at-lead-of = c .before .before .before .before in let at-start = before-lead-of t at-lead-of in
     (omega (arith, at-start .pre .0), (at-lead-of .before .before .if1 .left, at-start .pre .1))
 
 pub named-requires : (t : ℕ) → lts.Need-named-requires (ty-calls t) (ty-at t) ty.Post
 named-requires t c κs =
-    let at-lead-of = c .before .before .before .before in
-    let at-start = before-lead-of t at-lead-of in
+    let at-lead-of = c .before .before .before .before in let at-start = before-lead-of t at-lead-of in
     (omega (arith, at-start .pre .0), (at-lead-of .before .before .if1 .left, at-start .pre .1))
 
 pub referred-requires : (t : ℕ) → lts.Need-referred-requires (ty-calls t) (ty-at t) ty.Post
 referred-requires t c κs =
-    let at-lead-of = c .before .before .before .before in
-    let at-start = before-lead-of t at-lead-of in
+    let at-lead-of = c .before .before .before .before in let at-start = before-lead-of t at-lead-of in
     (omega (arith, at-start .pre .0), (at-lead-of .before .before .if1 .left, at-start .pre .1))
 
 pub nested-requires : (t : ℕ) → lts.Need-nested-requires (ty-calls t) (ty-at t) ty.Post
 nested-requires t c κs =
-    let at-lead-of = c .before .before .before .before in
-    let at-start = before-lead-of t at-lead-of in
+    let at-lead-of = c .before .before .before .before in let at-start = before-lead-of t at-lead-of in
     (omega (arith, at-start .pre .0), (at-lead-of .before .before .if1 .left, at-start .pre .1))
 
 pub literal-requires : (t : ℕ) → lts.Need-literal-requires (ty-calls t) (ty-at t) ty.Post
 literal-requires t c κs =
-    let at-lead-of = c .before .before .before .before .before in
-    let at-start = before-lead-of t at-lead-of in
+    let at-lead-of = c .before .before .before .before .before in let at-start = before-lead-of t at-lead-of in
     moved-ready (c .moved .ensures) (at-lead-of .before .before .if1 .left) (at-start .pre .1)
 
 pub returns-2 : (t : ℕ) → lts.Need-returns-2 (ty-calls t) (ty-at t) ty.Post

@@ -28,8 +28,7 @@ returns t c =
 
 pub tag-of-requires : (t : ℕ) → lts.Need-tag-of-requires (with-args-calls t) (with-args-at t) with-args.Post
 tag-of-requires t c κs =
-    let at-else1 = c .before in
-    let at-start = before-else1 t at-else1 in
+    let at-else1 = c .before in let at-start = before-else1 t at-else1 in
     (_, ready-notes (at-start .pre .1 .1))
 
 pub returns-2 : (t : ℕ) → lts.Need-returns-2 (with-args-calls t) (with-args-at t) with-args.Post
@@ -37,40 +36,31 @@ returns-2 t c = args-barred _ _ (sym (c .before .before .before .before .starts-
 
 pub copy-byte-requires : (t : ℕ) → lts.Need-copy-byte-requires (with-args-calls t) (with-args-at t) with-args.Post
 copy-byte-requires t c κs =
-    let at-else1 = c .before .before .before .before in
-    let at-start = before-else1 t at-else1 in
+    let at-else1 = c .before .before .before .before in let at-start = before-else1 t at-else1 in
     (starts-inside _ _ 73 (sym (at-else1 .before .starts-with .ensures) ∙ not-false _ (c .before .before .before .before .if1 .left)), ready-out (at-start .pre .1 .1))
 
 pub args-requires : (t : ℕ) → lts.Need-args-requires (with-args-calls t) (with-args-at t) with-args.Post
 args-requires t c κs =
-    let at-copy-byte = c .before .before .before .before in
-    let at-else1 = before-copy-byte t at-copy-byte in
-    let at-start = before-else1 t at-else1 in
+    let at-copy-byte = c .before .before .before .before in let at-else1 = before-copy-byte t at-copy-byte in let at-start = before-else1 t at-else1 in
     let l = starts-inside (at-start .args .s .now) (at-start .args .p .at) 73 (sym (at-else1 .before .starts-with .ensures) ∙ not-false _ (at-else1 .if1 .left)) in
     (omega (arith, at-start .pre .0, l, c .before .before .before .before .copy-byte .ensures .0), (at-start .pre .1 .0 .0, copied-ready (c .before .before .before .before .copy-byte .ensures) l (at-start .pre .1 .1)))
 
 pub returns-3 : (t : ℕ) → lts.Need-returns-3 (with-args-calls t) (with-args-at t) with-args.Post
 returns-3 t c =
-    let at-args2 = c .before .before .before .before .before .before in
-    let at-copy-byte = before-args2 t at-args2 in
-    let at-else1 = before-copy-byte t at-copy-byte in
+    let at-args2 = c .before .before .before .before .before .before in let at-copy-byte = before-args2 t at-args2 in let at-else1 = before-copy-byte t at-copy-byte in
     args-refused _ _ (sym (at-else1 .before .starts-with .ensures) ∙ not-false _ (at-else1 .if1 .left)) (at-copy-byte .before .before .before .tag-of .ensures)
     (eq-eqb _ _ (at-copy-byte .before .before .if2 .left)) (at-copy-byte .copy-byte .ensures) (at-args2 .args2 .ensures) (c .enum-told .given .1)
 
 pub close-requires : (t : ℕ) → lts.Need-close-requires (with-args-calls t) (with-args-at t) with-args.Post
 close-requires t c κs =
-    let at-args2 = c .before .before .before .before .before .before .before .before in
-    let at-copy-byte = before-args2 t at-args2 in
-    let at-else1 = before-copy-byte t at-copy-byte in
-    let at-start = before-else1 t at-else1 in
+    let at-args2 = c .before .before .before .before .before .before .before .before in let at-copy-byte = before-args2 t at-args2 in
+    let at-else1 = before-copy-byte t at-copy-byte in let at-start = before-else1 t at-else1 in
     close-next (at-start .pre .1 .1 .1) (args-told _ (sym (at-else1 .before .starts-with .ensures) ∙ not-false _ (at-else1 .if1 .left)) (at-copy-byte .copy-byte .ensures) (at-args2 .args2 .ensures) (c .before .before .next .given .1) (at-start .pre .1 .1))
 
 pub enter-requires : (t : ℕ) → lts.Need-enter-requires (with-args-calls t) (with-args-at t) with-args.Post
 enter-requires t c κs =
-    let at-args2 = c .before .before .before .before .before .before .before .before .before .before .before .before .before in
-    let at-copy-byte = before-args2 t at-args2 in
-    let at-else1 = before-copy-byte t at-copy-byte in
-    let at-start = before-else1 t at-else1 in
+    let at-args2 = c .before .before .before .before .before .before .before .before .before .before .before .before .before in let at-copy-byte = before-args2 t at-args2 in
+    let at-else1 = before-copy-byte t at-copy-byte in let at-start = before-else1 t at-else1 in
     let w = closed-next (at-start .pre .1 .1 .1)
     (args-told _ (sym (at-else1 .before .starts-with .ensures) ∙ not-false _ (at-else1 .if1 .left)) (at-copy-byte .copy-byte .ensures) (at-args2 .args2 .ensures)
     (c .before .before .before .before .before .before .before .next .given .1) (at-start .pre .1 .1)) (at-start .pre .1 .0 .1)
@@ -91,8 +81,7 @@ same-length-5 t c =
 pub returns-4 : (t : ℕ) → lts.Need-returns-4 (with-args-calls t) (with-args-at t) with-args.Post
 returns-4 t c =
     let at-args2 = c .before .before .before .before .before .before .before .before .before .before .before .before .before .before .before .before .before .before in
-    let at-copy-byte = before-args2 t at-args2 in
-    let at-else1 = before-copy-byte t at-copy-byte in
+    let at-copy-byte = before-args2 t at-args2 in let at-else1 = before-copy-byte t at-copy-byte in
     args-answer _ _ (sym (at-else1 .before .starts-with .ensures) ∙ not-false _ (at-else1 .if1 .left)) (at-copy-byte .before .before .before .tag-of .ensures)
     (eq-eqb _ _ (at-copy-byte .before .before .if2 .left)) (at-copy-byte .copy-byte .ensures) (at-args2 .args2 .ensures)
     (c .before .before .before .before .before .before .before .before .before .before .before .before .next .given .1)

@@ -20,25 +20,21 @@ copy-byte-requires t c κs = (c .before .before .before .before .pre .1 .0, read
 
 pub ty-requires : (t : ℕ) → lts.Need-ty-requires (wrap-calls t) (wrap-at t) wrap.Post
 ty-requires t c κs =
-    let at-copy-byte = c .before .before .before .before in
-    let at-start = before-copy-byte t at-copy-byte in
+    let at-copy-byte = c .before .before .before .before in let at-start = before-copy-byte t at-copy-byte in
     (omega (arith, at-start .pre .0, at-start .pre .1 .0, c .before .before .before .before .copy-byte .ensures .0), copied-ready (c .before .before .before .before .copy-byte .ensures) (at-start .pre .1 .0) (at-start .pre .1 .1))
 
 pub returns : (t : ℕ) → lts.Need-returns (wrap-calls t) (wrap-at t) wrap.Post
 returns t c =
-    let at-ty = c .before .before .before .before .before .before in
-    let at-copy-byte = before-ty t at-ty in
+    let at-ty = c .before .before .before .before .before .before in let at-copy-byte = before-ty t at-ty in
     λ q. wrap-refused (at-copy-byte .copy-byte .ensures) (at-ty .ty .ensures) q _ (c .enum-told .given .1)
 
 pub wrap-requires : (t : ℕ) → lts.Need-wrap-requires (wrap-calls t) (wrap-at t) wrap.Post
 wrap-requires t c κs =
-    let at-ty = c .before .before .before .before .before .before .before .before .before in
-    let at-copy-byte = before-ty t at-ty in
+    let at-ty = c .before .before .before .before .before .before .before .before .before in let at-copy-byte = before-ty t at-ty in
     let at-start = before-copy-byte t at-copy-byte in
     wrap-next (at-copy-byte .copy-byte .ensures) (at-ty .ty .ensures) (c .before .before .before .next .given .1) (at-start .pre .1 .0) (at-start .pre .1 .1)
 
 pub returns-2 : (t : ℕ) → lts.Need-returns-2 (wrap-calls t) (wrap-at t) wrap.Post
 returns-2 t c =
-    let at-ty = c .before .before .before .before .before .before .before .before .before .before .before .before .before .before in
-    let at-copy-byte = before-ty t at-ty in
+    let at-ty = c .before .before .before .before .before .before .before .before .before .before .before .before .before .before in let at-copy-byte = before-ty t at-ty in
     λ q. wrap-answer (at-copy-byte .copy-byte .ensures) (at-ty .ty .ensures) (c .before .before .before .before .before .before .before .before .next .given .1) q _ (c .before .before .before .before .wrap .ensures)

@@ -102,8 +102,7 @@ moved-requires-2 t c κs = search needs
 
 pub pack-requires : (t : ℕ) → lts.Need-pack-requires (arg-calls t) (arg-at t) arg.Post
 pack-requires t c κs =
-    let at-here3 = c .before .before .before .before .before in
-    let at-start = before-here3 t at-here3 in
+    let at-here3 = c .before .before .before .before .before in let at-start = before-here3 t at-here3 in
     let i = starts-inside (at-start .args .s .now) (at-start .args .p .at) 74 (sym (at-here3 .here3 .ensures) ∙ c .before .before .before .before .if3 .taken) in
     (omega (arith, at-start .pre .0, i, ap (λ (z : Parser). z .at) (c .moved2 .ensures)), ready-moved _ (c .moved2 .ensures) (at-start .pre .1 .1) (omega (arith, i)))
 
@@ -118,8 +117,7 @@ same-length-7 t c = search needs
 
 pub returns-4 : (t : ℕ) → lts.Need-returns-4 (arg-calls t) (arg-at t) arg.Post
 returns-4 t c =
-    let at-here3 = c .before .before .before .before .before .before .before .before .before .before .before .before in
-    let at-start = before-here3 t at-here3 in
+    let at-here3 = c .before .before .before .before .before .before .before .before .before .before .before .before in let at-start = before-here3 t at-here3 in
     λ σ h.
     by (arg-pack (at-start .args .s .now) (at-start .args .p .at) σ (h .rest) (ahead-is _ _ _ (h .rest) (at-here3 .here3 .ensures) (c .before .before .before .before .before .before .before .before .before .before .before .if3 .taken)))
     (sooner (omega arith)
@@ -132,8 +130,7 @@ returns-4 t c =
 
 pub ty-requires : (t : ℕ) → lts.Need-ty-requires (arg-calls t) (arg-at t) arg.Post
 ty-requires t c κs =
-    let at-here3 = c .before .before .before .before in
-    let at-start = before-here3 t at-here3 in
+    let at-here3 = c .before .before .before .before in let at-start = before-here3 t at-here3 in
     (omega (arith, at-start .pre .0), at-start .pre .1)
 
 pub same-length-8 : (t : ℕ) → lts.Need-same-length-8 (arg-calls t) (arg-at t) arg.Post

@@ -45,8 +45,7 @@ moved-requires t c κs = search needs
 
 pub ty-requires : (t : ℕ) → lts.Need-ty-requires (array-calls t) (array-at t) array.Post
 ty-requires t c κs =
-    let at-else1 = c .before .before .before .before in
-    let at-start = before-else1 t at-else1 in
+    let at-else1 = c .before .before .before .before in let at-start = before-else1 t at-else1 in
     (omega (arith, at-of (c .moved .ensures), at-start .pre .0, c .before .before .before .before .if1 .left, at-else1 .before .before2 .ensures .0), ready-moved _ (c .moved .ensures) (at-start .pre .1 .1) (omega (arith, c .before .before .before .before .if1 .left)))
 
 pub enum-known-got : (t : ℕ) → lts.Need-enum-known-got (array-calls t) (array-at t) array.Post
@@ -66,8 +65,7 @@ same-length-3 t c = search needs
 
 pub returns-2 : (t : ℕ) → lts.Need-returns-2 (array-calls t) (array-at t) array.Post
 returns-2 t c =
-    let at-ty = c .before .before .before .before .before .before .before .before in
-    let at-else1 = before-ty t at-ty in
+    let at-ty = c .before .before .before .before .before .before .before .before in let at-else1 = before-ty t at-ty in
     λ σ h. by (array-in _ _ σ (h .rest) (at-else1 .before .before2 .ensures .0) (at-else1 .if1 .left)) (refused-on _ (c .enum-told .given .1) (call-moved (λ d. keep (d + 1)) (at-ty .before .moved .ensures) (at-ty .ty .ensures) h (omega (arith, at-else1 .if1 .left))))
 
 pub slice-aggregate-put : (t : ℕ) → lts.Need-slice-aggregate-put (array-calls t) (array-at t) array.Post
@@ -75,20 +73,14 @@ slice-aggregate-put t c = search needs
 
 pub put-requires : (t : ℕ) → lts.Need-put-requires (array-calls t) (array-at t) array.Post
 put-requires t c κs =
-    let at-got = c .before .before .before in
-    let at-ty = before-got t at-got in
-    let at-else1 = before-ty t at-ty in
-    let at-start = before-else1 t at-else1 in
+    let at-got = c .before .before .before in let at-ty = before-got t at-got in let at-else1 = before-ty t at-ty in let at-start = before-else1 t at-else1 in
     let h = at-start .pre .1 .1 in
     let w = got (c .before .before .before .got .given .1) (call-moved (λ d. keep (d + 1)) (at-ty .before .moved .ensures) (at-ty .ty .ensures) h (omega (arith, at-else1 .if1 .left))) in
     (w .wrote .holds .text, omega arith)
 
 pub put-part-requires : (t : ℕ) → lts.Need-put-part-requires (array-calls t) (array-at t) array.Post
 put-part-requires t c κs =
-    let at-put = c .before .before .before in
-    let at-got = before-put t at-put in
-    let at-ty = before-got t at-got in
-    let at-else1 = before-ty t at-ty in
+    let at-put = c .before .before .before in let at-got = before-put t at-put in let at-ty = before-got t at-got in let at-else1 = before-ty t at-ty in
     let at-start = before-else1 t at-else1 in
     (c .before .before .before .put .ensures .put .stack, (omega (arith, at-else1 .before .before2 .ensures .0), (omega (arith, at-else1 .if1 .left), omega (arith, at-else1 .if1 .left, at-start .pre .1 .1 .source))))
 
@@ -100,33 +92,22 @@ put-requires-2 t c κs = search needs
 
 pub add-given : (t : ℕ) → lts.Need-add-given (array-calls t) (array-at t) array.Post
 add-given t c =
-    let at-put-part = c .before .before .before .before .before .before .before in
-    let at-put = before-put-part t at-put-part in
-    let at-got = before-put t at-put in
-    let at-ty = before-got t at-got in
-    let at-else1 = before-ty t at-ty in
-    let at-start = before-else1 t at-else1 in
+    let at-put-part = c .before .before .before .before .before .before .before in let at-put = before-put-part t at-put-part in let at-got = before-put t at-put in
+    let at-ty = before-got t at-got in let at-else1 = before-ty t at-ty in let at-start = before-else1 t at-else1 in
     let h = at-start .pre .1 .1 in
     let w = got (at-got .got .given .1) (call-moved (λ d. keep (d + 1)) (at-ty .before .moved .ensures) (at-ty .ty .ensures) h (omega (arith, at-else1 .if1 .left))) in
     omega (arith, w .wrote .size, w .wrote .short)
 
 pub sub-given : (t : ℕ) → lts.Need-sub-given (array-calls t) (array-at t) array.Post
 sub-given t c =
-    let at-put-part = c .before .before .before .before .before .before .before in
-    let at-put = before-put-part t at-put-part in
-    let at-got = before-put t at-put in
-    let at-ty = before-got t at-got in
-    let at-else1 = before-ty t at-ty in
+    let at-put-part = c .before .before .before .before .before .before .before in let at-put = before-put-part t at-put-part in let at-got = before-put t at-put in
+    let at-ty = before-got t at-got in let at-else1 = before-ty t at-ty in
     omega (arith, at-else1 .before .before2 .ensures .0)
 
 pub add-given-2 : (t : ℕ) → lts.Need-add-given-2 (array-calls t) (array-at t) array.Post
 add-given-2 t c =
-    let at-put-part = c .before .before .before .before .before .before .before in
-    let at-put = before-put-part t at-put-part in
-    let at-got = before-put t at-put in
-    let at-ty = before-got t at-got in
-    let at-else1 = before-ty t at-ty in
-    let at-start = before-else1 t at-else1 in
+    let at-put-part = c .before .before .before .before .before .before .before in let at-put = before-put-part t at-put-part in let at-got = before-put t at-put in
+    let at-ty = before-got t at-got in let at-else1 = before-ty t at-ty in let at-start = before-else1 t at-else1 in
     let h = at-start .pre .1 .1 in
     let w = got (at-got .got .given .1) (call-moved (λ d. keep (d + 1)) (at-ty .before .moved .ensures) (at-ty .ty .ensures) h (omega (arith, at-else1 .if1 .left))) in
     omega (arith, w .wrote .size, w .wrote .short, at-else1 .if1 .left, h .source)
@@ -136,35 +117,26 @@ given-requires t c κs = search needs
 
 pub same-length-4 : (t : ℕ) → lts.Need-same-length-4 (array-calls t) (array-at t) array.Post
 same-length-4 t c =
-    let at-put-part = c .before .before .before .before .before .before .before .before in
-    let at-put = before-put-part t at-put-part in
-    let at-got = before-put t at-put in
+    let at-put-part = c .before .before .before .before .before .before .before .before in let at-put = before-put-part t at-put-part in let at-got = before-put t at-put in
     let at-ty = before-got t at-got in
     omega (arith, c .before .before .before .put2 .kept, at-put-part .put-part .kept, at-put .put .kept, at-ty .ty .kept)
 
 pub same-length-5 : (t : ℕ) → lts.Need-same-length-5 (array-calls t) (array-at t) array.Post
 same-length-5 t c =
-    let at-put-part = c .before .before .before .before .before .before .before .before in
-    let at-put = before-put-part t at-put-part in
-    let at-got = before-put t at-put in
+    let at-put-part = c .before .before .before .before .before .before .before .before in let at-put = before-put-part t at-put-part in let at-got = before-put t at-put in
     let at-ty = before-got t at-got in
     omega (arith, c .before .before .before .put2 .kept, at-put-part .put-part .kept, at-put .put .kept, at-ty .ty .kept)
 
 pub same-length-6 : (t : ℕ) → lts.Need-same-length-6 (array-calls t) (array-at t) array.Post
 same-length-6 t c =
-    let at-put-part = c .before .before .before .before .before .before .before .before in
-    let at-put = before-put-part t at-put-part in
-    let at-got = before-put t at-put in
+    let at-put-part = c .before .before .before .before .before .before .before .before in let at-put = before-put-part t at-put-part in let at-got = before-put t at-put in
     let at-ty = before-got t at-got in
     omega (arith, c .before .before .before .put2 .kept, at-put-part .put-part .kept, at-put .put .kept, at-ty .ty .kept)
 
 pub returns-3 : (t : ℕ) → lts.Need-returns-3 (array-calls t) (array-at t) array.Post
 returns-3 t c =
-    let at-put-part = c .before .before .before .before .before .before .before .before in
-    let at-put = before-put-part t at-put-part in
-    let at-got = before-put t at-put in
-    let at-ty = before-got t at-got in
-    let at-else1 = before-ty t at-ty in
+    let at-put-part = c .before .before .before .before .before .before .before .before in let at-put = before-put-part t at-put-part in let at-got = before-put t at-put in
+    let at-ty = before-got t at-got in let at-else1 = before-ty t at-ty in
     λ σ h.
     let w = got (at-got .got .given .1) (call-moved (λ d. keep (d + 1)) (at-ty .before .moved .ensures) (at-ty .ty .ensures) h (omega (arith, at-else1 .if1 .left))) in
     let l = part-size h _ (at-else1 .before .before2 .ensures .1) in

@@ -37,8 +37,7 @@ std-ahead-requires t c κs = search needs
 
 pub std-prefixed-requires : (t : ℕ) → lts.Need-std-prefixed-requires (at-s-calls t) (at-s-at t) at-s.Post
 std-prefixed-requires t c κs =
-    let at-std-ahead = c .before .before .before .before in
-    let at-start = before-std-ahead t at-std-ahead in
+    let at-std-ahead = c .before .before .before .before in let at-start = before-std-ahead t at-std-ahead in
     (omega (arith, at-start .pre .0), (at-start .pre .1, sym (c .before .before .before .before .std-ahead .ensures) ∙ c .before .before .before .if1 .taken))
 
 pub same-length : (t : ℕ) → lts.Need-same-length (at-s-calls t) (at-s-at t) at-s.Post
@@ -52,8 +51,7 @@ same-length-3 t c = search needs
 
 pub returns : (t : ℕ) → lts.Need-returns (at-s-calls t) (at-s-at t) at-s.Post
 returns t c =
-    let at-std-ahead = c .before .before .before .before .before .before .before .before .before .before .before in
-    let at-start = before-std-ahead t at-std-ahead in
+    let at-std-ahead = c .before .before .before .before .before .before .before .before .before .before .before in let at-start = before-std-ahead t at-std-ahead in
     λ σ h. by (s-std (at-S-of (at-start .args .named)) (instance-of (at-start .args .named)) (at-S-is (at-start .args .named)) σ
     (ap std-ahead (h .rest) ∙ sym (at-std-ahead .std-ahead .ensures) ∙ c .before .before .before .before .before .before .before .before .before .before .if1 .taken))
     (c .before .before .before .before .before .before .std-prefixed .ensures σ h)
@@ -78,9 +76,7 @@ same-length-6 t c = search needs
 
 pub returns-2 : (t : ℕ) → lts.Need-returns-2 (at-s-calls t) (at-s-at t) at-s.Post
 returns-2 t c =
-    let at-substitution = c .before .before .before .before in
-    let at-else1 = before-substitution t at-substitution in
-    let at-std-ahead = before-else1 t at-else1 in
+    let at-substitution = c .before .before .before .before in let at-else1 = before-substitution t at-substitution in let at-std-ahead = before-else1 t at-else1 in
     let at-start = before-std-ahead t at-std-ahead in
     λ σ h. by (s-sub (at-S-of (at-start .args .named)) (instance-of (at-start .args .named)) (at-S-is (at-start .args .named)) σ
     (ap std-ahead (h .rest) ∙ sym (at-std-ahead .std-ahead .ensures) ∙ at-else1 .if1 .left))
@@ -91,10 +87,8 @@ here-requires t c κs = search needs
 
 pub instance-requires : (t : ℕ) → lts.Need-instance-requires (at-s-calls t) (at-s-at t) at-s.Post
 instance-requires t c κs =
-    let at-substitution = c .before .before .before .before .before .before .before .before .before .before in
-    let at-else1 = before-substitution t at-substitution in
-    let at-std-ahead = before-else1 t at-else1 in
-    let at-start = before-std-ahead t at-std-ahead in
+    let at-substitution = c .before .before .before .before .before .before .before .before .before .before in let at-else1 = before-substitution t at-substitution in
+    let at-std-ahead = before-else1 t at-else1 in let at-start = before-std-ahead t at-std-ahead in
     let h = at-start .pre .1 .1 in
     let w = got (c .before .before .before .before .before .before .got .given .1) (narrow h (at-substitution .substitution .ensures _ h)) .wrote in
     (omega (arith, at-start .pre .0, w .more), ((_, w .holds), (omega (arith, w .size, w .short), stands-top (stood w) (omega (arith, w .short)))))
@@ -112,9 +106,7 @@ pub returns-3 : (t : ℕ) → lts.Need-returns-3 (at-s-calls t) (at-s-at t) at-s
 unfolding b
 returns-3 t c =
     let at-substitution = c .before .before .before .before .before .before .before .before .before .before .before .before .before .before .before .before .before in
-    let at-else1 = before-substitution t at-substitution in
-    let at-std-ahead = before-else1 t at-else1 in
-    let at-start = before-std-ahead t at-std-ahead in
+    let at-else1 = before-substitution t at-substitution in let at-std-ahead = before-else1 t at-else1 in let at-start = before-std-ahead t at-std-ahead in
     λ σ h. let g = got (c .before .before .before .before .before .before .before .before .before .before .before .before .before .got .given .1) (narrow h (at-substitution .substitution .ensures σ h)) in
     by (s-sub-read (at-S-of (at-start .args .named)) (instance-of (at-start .args .named)) (at-S-is (at-start .args .named)) σ
     (ap std-ahead (h .rest) ∙ sym (at-std-ahead .std-ahead .ensures) ∙ at-else1 .if1 .left) (g .is) ∙ at-code-yes "I" _ _ _
@@ -134,10 +126,8 @@ same-length-12 t c = search needs
 pub returns-4 : (t : ℕ) → lts.Need-returns-4 (at-s-calls t) (at-s-at t) at-s.Post
 unfolding b
 returns-4 t c =
-    let at-substitution = c .before .before .before .before .before .before .before in
-    let at-else1 = before-substitution t at-substitution in
-    let at-std-ahead = before-else1 t at-else1 in
-    let at-start = before-std-ahead t at-std-ahead in
+    let at-substitution = c .before .before .before .before .before .before .before in let at-else1 = before-substitution t at-substitution in
+    let at-std-ahead = before-else1 t at-else1 in let at-start = before-std-ahead t at-std-ahead in
     λ σ h. let g = got (c .before .before .before .got .given .1) (narrow h (at-substitution .substitution .ensures σ h)) in
     by (s-sub-read (at-S-of (at-start .args .named)) (instance-of (at-start .args .named)) (at-S-is (at-start .args .named)) σ
     (ap std-ahead (h .rest) ∙ sym (at-std-ahead .std-ahead .ensures) ∙ at-else1 .if1 .left) (g .is) ∙ at-code-no "I" _ _ _

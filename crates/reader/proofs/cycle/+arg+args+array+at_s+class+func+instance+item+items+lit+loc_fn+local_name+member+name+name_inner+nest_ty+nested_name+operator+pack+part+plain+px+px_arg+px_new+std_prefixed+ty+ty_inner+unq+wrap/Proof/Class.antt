@@ -58,9 +58,7 @@ returns t c = λ σ h. refused-on _ (c .enum-told .given .1) (c .before .before 
 
 pub push-sub-requires : (t : ℕ) → lts.Need-push-sub-requires (class-calls t) (class-at t) class.Post
 push-sub-requires t c κs =
-    let at-got = c .before .before .before .before in
-    let at-source-name = before-got t at-got in
-    let at-start = before-source-name t at-source-name in
+    let at-got = c .before .before .before .before in let at-source-name = before-got t at-got in let at-start = before-source-name t at-source-name in
     let h = at-start .pre .1 .1 in
     let w = got (c .before .before .before .before .got .given .1) (narrow h (at-source-name .source-name .ensures _ _ _ h)) .wrote in
     ((_, (_, w .holds)), omega (arith, stands-top (stood w) (omega (arith, w .short))))
@@ -83,9 +81,7 @@ same-length-4 t c = search needs
 pub returns-2 : (t : ℕ) → lts.Need-returns-2 (class-calls t) (class-at t) class.Post
 unfolding class-type onto
 returns-2 t c =
-    let at-push-sub = c .before .before .before .before .before .before in
-    let at-got = before-push-sub t at-push-sub in
-    let at-source-name = before-got t at-got in
+    let at-push-sub = c .before .before .before .before .before .before in let at-got = before-push-sub t at-push-sub in let at-source-name = before-got t at-got in
     λ σ h. let g = got (at-got .got .given .1) (narrow h (at-source-name .source-name .ensures _ _ σ h)) in
     by (ap (onto _) (g .is)) (push-refused _ (c .enum-told2 .given .1) (at-push-sub .push-sub .ensures _ _ _ _ _ _ _ (stood (g .wrote))))
 
@@ -94,10 +90,8 @@ here-requires t c κs = search needs
 
 pub instance-requires : (t : ℕ) → lts.Need-instance-requires (class-calls t) (class-at t) class.Post
 instance-requires t c κs =
-    let at-push-sub = c .before .before .before .before .before .before .before .before .before .before .before .before in
-    let at-got = before-push-sub t at-push-sub in
-    let at-source-name = before-got t at-got in
-    let at-start = before-source-name t at-source-name in
+    let at-push-sub = c .before .before .before .before .before .before .before .before .before .before .before .before in let at-got = before-push-sub t at-push-sub in
+    let at-source-name = before-got t at-got in let at-start = before-source-name t at-source-name in
     let h = at-start .pre .1 .1 in
     let g = got (at-got .got .given .1) (narrow h (at-source-name .source-name .ensures _ _ _ h)) in
     let v = kept (stood (g .wrote)) (c .before .before .before .before .before .before .kept .given .1) (at-push-sub .push-sub .ensures _ _ _ _ _ _ _ (stood (g .wrote))) in
@@ -106,8 +100,7 @@ instance-requires t c κs =
 pub same-length-5 : (t : ℕ) → lts.Need-same-length-5 (class-calls t) (class-at t) class.Post
 same-length-5 t c =
     let at-push-sub = c .before .before .before .before .before .before .before .before .before .before .before .before .before .before .before .before .before .before .before in
-    let at-got = before-push-sub t at-push-sub in
-    let at-source-name = before-got t at-got in
+    let at-got = before-push-sub t at-push-sub in let at-source-name = before-got t at-got in
     omega (arith, c .before .before .before .before .before .before .instance .kept, at-source-name .source-name .kept)
 
 pub same-length-6 : (t : ℕ) → lts.Need-same-length-6 (class-calls t) (class-at t) class.Post
@@ -120,8 +113,7 @@ pub returns-3 : (t : ℕ) → lts.Need-returns-3 (class-calls t) (class-at t) cl
 unfolding b
 returns-3 t c =
     let at-push-sub = c .before .before .before .before .before .before .before .before .before .before .before .before .before .before .before .before .before .before .before in
-    let at-got = before-push-sub t at-push-sub in
-    let at-source-name = before-got t at-got in
+    let at-got = before-push-sub t at-push-sub in let at-source-name = before-got t at-got in
     λ σ h. let g = got (at-got .got .given .1) (narrow h (at-source-name .source-name .ensures _ _ σ h)) in
     let v = kept (stood (g .wrote)) (c .before .before .before .before .before .before .before .before .before .before .before .before .before .kept .given .1) (at-push-sub .push-sub .ensures _ _ _ _ _ _ _ (stood (g .wrote))) in
     by (class-step σ (g .is) (v .is) ∙ at-code-yes "I" _ _ _
@@ -141,8 +133,7 @@ same-length-10 t c = search needs
 pub returns-4 : (t : ℕ) → lts.Need-returns-4 (class-calls t) (class-at t) class.Post
 unfolding b
 returns-4 t c =
-    let at-push-sub = c .before .before .before .before .before .before .before .before .before in
-    let at-got = before-push-sub t at-push-sub in
+    let at-push-sub = c .before .before .before .before .before .before .before .before .before in let at-got = before-push-sub t at-push-sub in
     let at-source-name = before-got t at-got in
     λ σ h. let g = got (at-got .got .given .1) (narrow h (at-source-name .source-name .ensures _ _ σ h)) in
     let v = kept (stood (g .wrote)) (c .before .before .before .kept .given .1) (at-push-sub .push-sub .ensures _ _ _ _ _ _ _ (stood (g .wrote))) in

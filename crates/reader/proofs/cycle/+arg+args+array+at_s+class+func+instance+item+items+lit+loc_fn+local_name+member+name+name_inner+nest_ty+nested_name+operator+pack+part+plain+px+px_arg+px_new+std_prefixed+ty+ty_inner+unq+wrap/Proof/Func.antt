@@ -65,17 +65,12 @@ slice-aggregate-put t c = search needs
 
 pub put-requires : (t : ℕ) → lts.Need-put-requires (func-calls t) (func-at t) func.Post
 put-requires t c κs =
-    let at-got = c .before .before .before in
-    let at-ty = before-got t at-got in
-    let at-start = before-ty t at-ty in
+    let at-got = c .before .before .before in let at-ty = before-got t at-got in let at-start = before-ty t at-ty in
     ((got (c .before .before .before .got .given .1) (at-ty .ty .ensures _ (at-start .pre .1 .1))) .wrote .holds .text, omega arith)
 
 pub items-requires : (t : ℕ) → lts.Need-items-requires (func-calls t) (func-at t) func.Post
 items-requires t c κs =
-    let at-put = c .before .before .before .before .before in
-    let at-got = before-put t at-put in
-    let at-ty = before-got t at-got in
-    let at-start = before-ty t at-ty in
+    let at-put = c .before .before .before .before .before in let at-got = before-put t at-put in let at-ty = before-got t at-got in let at-start = before-ty t at-ty in
     let g = got (at-got .got .given .1) (at-ty .ty .ensures _ (at-start .pre .1 .1)) in
     (omega (arith, at-start .pre .0, g .wrote .more, ap (λ (z : Parser). z .at) (at-put .put .ensures .same)), (_, holds-puts (at-put .put .ensures) (g .wrote .holds)))
 
@@ -90,33 +85,25 @@ refused-requires t c κs = search needs
 
 pub same-length-4 : (t : ℕ) → lts.Need-same-length-4 (func-calls t) (func-at t) func.Post
 same-length-4 t c =
-    let at-items = c .before .before .before .before .before .before .before .before .before in
-    let at-put = before-items t at-items in
-    let at-got = before-put t at-put in
+    let at-items = c .before .before .before .before .before .before .before .before .before in let at-put = before-items t at-items in let at-got = before-put t at-put in
     let at-ty = before-got t at-got in
     omega (arith, at-items .items .kept, at-put .put .kept, at-ty .ty .kept)
 
 pub same-length-5 : (t : ℕ) → lts.Need-same-length-5 (func-calls t) (func-at t) func.Post
 same-length-5 t c =
-    let at-items = c .before .before .before .before .before .before .before .before .before in
-    let at-put = before-items t at-items in
-    let at-got = before-put t at-put in
+    let at-items = c .before .before .before .before .before .before .before .before .before in let at-put = before-items t at-items in let at-got = before-put t at-put in
     let at-ty = before-got t at-got in
     omega (arith, at-items .items .kept, at-put .put .kept, at-ty .ty .kept)
 
 pub same-length-6 : (t : ℕ) → lts.Need-same-length-6 (func-calls t) (func-at t) func.Post
 same-length-6 t c =
-    let at-items = c .before .before .before .before .before .before .before .before .before in
-    let at-put = before-items t at-items in
-    let at-got = before-put t at-put in
+    let at-items = c .before .before .before .before .before .before .before .before .before in let at-put = before-items t at-items in let at-got = before-put t at-put in
     let at-ty = before-got t at-got in
     omega (arith, at-items .items .kept, at-put .put .kept, at-ty .ty .kept)
 
 pub returns-2 : (t : ℕ) → lts.Need-returns-2 (func-calls t) (func-at t) func.Post
 returns-2 t c =
-    let at-items = c .before .before .before .before .before .before .before .before .before in
-    let at-put = before-items t at-items in
-    let at-got = before-put t at-put in
+    let at-items = c .before .before .before .before .before .before .before .before .before in let at-put = before-items t at-items in let at-got = before-put t at-put in
     let at-ty = before-got t at-got in
     λ σ h.
     let g = got (at-got .got .given .1) (at-ty .ty .ensures _ h) in
@@ -128,34 +115,26 @@ here-requires t c κs = search needs
 
 pub same-length-7 : (t : ℕ) → lts.Need-same-length-7 (func-calls t) (func-at t) func.Post
 same-length-7 t c =
-    let at-items = c .before .before .before .before .before .before .before .before .before .before .before in
-    let at-put = before-items t at-items in
-    let at-got = before-put t at-put in
-    let at-ty = before-got t at-got in
+    let at-items = c .before .before .before .before .before .before .before .before .before .before .before in let at-put = before-items t at-items in
+    let at-got = before-put t at-put in let at-ty = before-got t at-got in
     omega (arith, at-items .items .kept, at-put .put .kept, at-ty .ty .kept)
 
 pub same-length-8 : (t : ℕ) → lts.Need-same-length-8 (func-calls t) (func-at t) func.Post
 same-length-8 t c =
-    let at-items = c .before .before .before .before .before .before .before .before .before .before .before in
-    let at-put = before-items t at-items in
-    let at-got = before-put t at-put in
-    let at-ty = before-got t at-got in
+    let at-items = c .before .before .before .before .before .before .before .before .before .before .before in let at-put = before-items t at-items in
+    let at-got = before-put t at-put in let at-ty = before-got t at-got in
     omega (arith, at-items .items .kept, at-put .put .kept, at-ty .ty .kept)
 
 pub same-length-9 : (t : ℕ) → lts.Need-same-length-9 (func-calls t) (func-at t) func.Post
 same-length-9 t c =
-    let at-items = c .before .before .before .before .before .before .before .before .before .before .before in
-    let at-put = before-items t at-items in
-    let at-got = before-put t at-put in
-    let at-ty = before-got t at-got in
+    let at-items = c .before .before .before .before .before .before .before .before .before .before .before in let at-put = before-items t at-items in
+    let at-got = before-put t at-put in let at-ty = before-got t at-got in
     omega (arith, at-items .items .kept, at-put .put .kept, at-ty .ty .kept)
 
 pub returns-3 : (t : ℕ) → lts.Need-returns-3 (func-calls t) (func-at t) func.Post
 returns-3 t c =
-    let at-items = c .before .before .before .before .before .before .before .before .before .before .before in
-    let at-put = before-items t at-items in
-    let at-got = before-put t at-put in
-    let at-ty = before-got t at-got in
+    let at-items = c .before .before .before .before .before .before .before .before .before .before .before in let at-put = before-items t at-items in
+    let at-got = before-put t at-put in let at-ty = before-got t at-got in
     λ σ h.
     let g = got (at-got .got .given .1) (at-ty .ty .ensures _ h) in
     let w = got-list (c .before .before .before .list .given .1) (at-items .items .ensures _ (holds-puts (at-put .put .ensures) (g .wrote .holds))) in
@@ -163,11 +142,8 @@ returns-3 t c =
 
 pub add-moved : (t : ℕ) → lts.Need-add-moved (func-calls t) (func-at t) func.Post
 add-moved t c =
-    let at-items = c .before .before .before .before .before .before .before .before .before .before .before in
-    let at-put = before-items t at-items in
-    let at-got = before-put t at-put in
-    let at-ty = before-got t at-got in
-    let at-start = before-ty t at-ty in
+    let at-items = c .before .before .before .before .before .before .before .before .before .before .before in let at-put = before-items t at-items in
+    let at-got = before-put t at-put in let at-ty = before-got t at-got in let at-start = before-ty t at-ty in
     let g = got (at-got .got .given .1) (at-ty .ty .ensures _ (at-start .pre .1 .1)) in
     let w = got-list (c .before .before .before .list .given .1) (at-items .items .ensures _ (holds-puts (at-put .put .ensures) (g .wrote .holds))) in
     omega (arith, starts-inside (at-start .args .s .now) (c .before .before .before .list .given .0 .0 .at) 69 (sym (c .before .here .ensures) ∙ not-false _ (c .if1 .left)), w .stands .holds .source)
@@ -178,10 +154,7 @@ moved-requires t c κs = search needs
 pub func-end-requires : (t : ℕ) → lts.Need-func-end-requires (func-calls t) (func-at t) func.Post
 func-end-requires t c κs =
     let at-items = c .before .before .before .before .before .before .before .before .before .before .before .before .before .before .before in
-    let at-put = before-items t at-items in
-    let at-got = before-put t at-put in
-    let at-ty = before-got t at-got in
-    let at-start = before-ty t at-ty in
+    let at-put = before-items t at-items in let at-got = before-put t at-put in let at-ty = before-got t at-got in let at-start = before-ty t at-ty in
     let g = got (at-got .got .given .1) (at-ty .ty .ensures _ (at-start .pre .1 .1)) in
     let w = got-list (c .before .before .before .before .before .before .before .list .given .1) (at-items .items .ensures _ (holds-puts (at-put .put .ensures) (g .wrote .holds))) in
     let i = starts-inside (at-start .args .s .now) (c .before .before .before .before .before .before .before .list .given .0 .0 .at) 69 (sym (c .before .before .before .before .before .here .ensures) ∙ not-false _ (c .before .before .before .before .if1 .left)) in
@@ -190,39 +163,26 @@ func-end-requires t c κs =
 
 pub same-length-10 : (t : ℕ) → lts.Need-same-length-10 (func-calls t) (func-at t) func.Post
 same-length-10 t c =
-    let at-func-end = c .before .before .before .before .before .before in
-    let at-items = before-func-end t at-func-end in
-    let at-put = before-items t at-items in
-    let at-got = before-put t at-put in
-    let at-ty = before-got t at-got in
+    let at-func-end = c .before .before .before .before .before .before in let at-items = before-func-end t at-func-end in let at-put = before-items t at-items in
+    let at-got = before-put t at-put in let at-ty = before-got t at-got in
     omega (arith, at-func-end .func-end .kept, at-items .items .kept, at-put .put .kept, at-ty .ty .kept)
 
 pub same-length-11 : (t : ℕ) → lts.Need-same-length-11 (func-calls t) (func-at t) func.Post
 same-length-11 t c =
-    let at-func-end = c .before .before .before .before .before .before in
-    let at-items = before-func-end t at-func-end in
-    let at-put = before-items t at-items in
-    let at-got = before-put t at-put in
-    let at-ty = before-got t at-got in
+    let at-func-end = c .before .before .before .before .before .before in let at-items = before-func-end t at-func-end in let at-put = before-items t at-items in
+    let at-got = before-put t at-put in let at-ty = before-got t at-got in
     omega (arith, at-func-end .func-end .kept, at-items .items .kept, at-put .put .kept, at-ty .ty .kept)
 
 pub same-length-12 : (t : ℕ) → lts.Need-same-length-12 (func-calls t) (func-at t) func.Post
 same-length-12 t c =
-    let at-func-end = c .before .before .before .before .before .before in
-    let at-items = before-func-end t at-func-end in
-    let at-put = before-items t at-items in
-    let at-got = before-put t at-put in
-    let at-ty = before-got t at-got in
+    let at-func-end = c .before .before .before .before .before .before in let at-items = before-func-end t at-func-end in let at-put = before-items t at-items in
+    let at-got = before-put t at-put in let at-ty = before-got t at-got in
     omega (arith, at-func-end .func-end .kept, at-items .items .kept, at-put .put .kept, at-ty .ty .kept)
 
 pub returns-4 : (t : ℕ) → lts.Need-returns-4 (func-calls t) (func-at t) func.Post
 returns-4 t c =
-    let at-func-end = c .before .before .before .before .before .before in
-    let at-items = before-func-end t at-func-end in
-    let at-put = before-items t at-items in
-    let at-got = before-put t at-put in
-    let at-ty = before-got t at-got in
-    let at-start = before-ty t at-ty in
+    let at-func-end = c .before .before .before .before .before .before in let at-items = before-func-end t at-func-end in let at-put = before-items t at-items in
+    let at-got = before-put t at-put in let at-ty = before-got t at-got in let at-start = before-ty t at-ty in
     λ σ h.
     let g = got (at-got .got .given .1) (at-ty .ty .ensures _ h) in
     let w = got-list (at-func-end .before .before .before .before .before .before .before .before .list .given .1) (at-items .items .ensures _ (holds-puts (at-put .put .ensures) (g .wrote .holds))) in

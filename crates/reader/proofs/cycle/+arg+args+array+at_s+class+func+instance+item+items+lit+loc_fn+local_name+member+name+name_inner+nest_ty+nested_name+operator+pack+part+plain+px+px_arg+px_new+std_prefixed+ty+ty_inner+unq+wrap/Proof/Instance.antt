@@ -31,8 +31,7 @@ bare-requires t c κs = search needs
 
 pub args-requires : (t : ℕ) → lts.Need-args-requires (instance-calls t) (instance-at t) instance.Post
 args-requires t c κs =
-    let at-bare = c .before .before .before in
-    let at-start = before-bare t at-bare in
+    let at-bare = c .before .before .before in let at-start = before-bare t at-bare in
     (omega (arith, at-start .pre .0, c .before .before .before .bare .ensures .at), (_, c .before .before .before .bare .ensures .holds _ _ _ (at-start .pre .1 .0 .1)))
 
 pub enum-known-got : (t : ℕ) → lts.Need-enum-known-got (instance-calls t) (instance-at t) instance.Post
@@ -52,9 +51,7 @@ same-length-3 t c = search needs
 
 pub returns : (t : ℕ) → lts.Need-returns (instance-calls t) (instance-at t) instance.Post
 returns t c =
-    let at-args2 = c .before .before .before .before .before .before .before .before in
-    let at-bare = before-args2 t at-args2 in
-    let at-start = before-bare t at-bare in
+    let at-args2 = c .before .before .before .before .before .before .before .before in let at-bare = before-args2 t at-args2 in let at-start = before-bare t at-bare in
     λ base from x σ h l. by (instance-is (at-start .args .named) x σ) (refused-on _ (c .enum-told .given .1) (at-args2 .args2 .ensures _ (at-bare .bare .ensures .holds _ _ σ (h .holds))))
 
 pub marked-requires : (t : ℕ) → lts.Need-marked-requires (instance-calls t) (instance-at t) instance.Post
@@ -62,10 +59,7 @@ marked-requires t c κs = search needs
 
 pub add-recorded : (t : ℕ) → lts.Need-add-recorded (instance-calls t) (instance-at t) instance.Post
 add-recorded t c =
-    let at-got = c .before .before .before .before .before in
-    let at-args2 = before-got t at-got in
-    let at-bare = before-args2 t at-args2 in
-    let at-start = before-bare t at-bare in
+    let at-got = c .before .before .before .before .before in let at-args2 = before-got t at-got in let at-bare = before-args2 t at-args2 in let at-start = before-bare t at-bare in
     let h = at-bare .bare .ensures .holds _ _ _ (at-start .pre .1 .0 .1) in
     let w = got (at-got .got .given .1) (at-args2 .args2 .ensures _ h) .wrote in
     let a = at-start .pre .1 .1 .0 in
@@ -75,10 +69,7 @@ add-recorded t c =
 
 pub recorded-requires : (t : ℕ) → lts.Need-recorded-requires (instance-calls t) (instance-at t) instance.Post
 recorded-requires t c κs =
-    let at-got = c .before .before .before .before .before in
-    let at-args2 = before-got t at-got in
-    let at-bare = before-args2 t at-args2 in
-    let at-start = before-bare t at-bare in
+    let at-got = c .before .before .before .before .before in let at-args2 = before-got t at-got in let at-bare = before-args2 t at-args2 in let at-start = before-bare t at-bare in
     let h = at-bare .bare .ensures .holds _ _ _ (at-start .pre .1 .0 .1) in
     let w = got (at-got .got .given .1) (at-args2 .args2 .ensures _ h) .wrote in
     let i = wrote-least (h .text) w (omega arith) (at-start .args .x) (omega (arith, at-start .pre .1 .1 .1, at-bare .bare .ensures .top)) in
@@ -89,22 +80,18 @@ same-length-4 t c = search needs
 
 pub same-length-5 : (t : ℕ) → lts.Need-same-length-5 (instance-calls t) (instance-at t) instance.Post
 same-length-5 t c =
-    let at-got = c .before .before .before .before .before .before .before .before .before .before in
-    let at-args2 = before-got t at-got in
+    let at-got = c .before .before .before .before .before .before .before .before .before .before in let at-args2 = before-got t at-got in
     omega (arith, c .before .before .before .before .recorded .kept, at-args2 .args2 .kept)
 
 pub same-length-6 : (t : ℕ) → lts.Need-same-length-6 (instance-calls t) (instance-at t) instance.Post
 same-length-6 t c =
-    let at-got = c .before .before .before .before .before .before .before .before .before .before in
-    let at-args2 = before-got t at-got in
+    let at-got = c .before .before .before .before .before .before .before .before .before .before in let at-args2 = before-got t at-got in
     omega (arith, c .before .before .before .before .recorded .kept, at-args2 .args2 .kept)
 
 pub returns-2 : (t : ℕ) → lts.Need-returns-2 (instance-calls t) (instance-at t) instance.Post
 unfolding onto
 returns-2 t c =
-    let at-got = c .before .before .before .before .before .before .before .before .before .before in
-    let at-args2 = before-got t at-got in
-    let at-bare = before-args2 t at-args2 in
+    let at-got = c .before .before .before .before .before .before .before .before .before .before in let at-args2 = before-got t at-got in let at-bare = before-args2 t at-args2 in
     let at-start = before-bare t at-bare in
     λ base from x σ h l.
     let u = passed (at-bare .bare .ensures) h in

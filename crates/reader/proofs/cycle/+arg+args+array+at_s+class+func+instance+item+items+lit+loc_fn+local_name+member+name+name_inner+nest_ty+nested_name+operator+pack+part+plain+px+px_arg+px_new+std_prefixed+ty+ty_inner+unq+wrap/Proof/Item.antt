@@ -58,8 +58,7 @@ returns t c =
 
 pub push-arg-requires : (t : ℕ) → lts.Need-push-arg-requires (item-calls t) (item-at t) item.Post
 push-arg-requires t c κs =
-    let at-arg = c .before .before .before .before .before .before .before .before .before .before .before .before in
-    let at-start = before-arg t at-arg in
+    let at-arg = c .before .before .before .before .before .before .before .before .before .before .before .before in let at-start = before-arg t at-arg in
     let h = at-start .pre .1 .1 in
     let g = got (c .before .before .before .before .got .given .1) (at-arg .arg .ensures _ h) in
     let w = stands (g .wrote) (omega arith) (omega (arith, h .deep)) in

@@ -77,8 +77,7 @@ slice-aggregate-put t c = search needs
 
 pub put-requires : (t : ℕ) → lts.Need-put-requires (items-calls t) (items-at t) items.Post Inv-loop μ-loop
 put-requires t c κs =
-    let at-peek = c .before .before .before .before .before .before .before .before in
-    let at-start = before-peek t at-peek in
+    let at-peek = c .before .before .before .before .before .before .before .before in let at-start = before-peek t at-peek in
     (at-peek .before .loop .inv .so-far _ (at-start .pre .1 .1) .stands .holds .text, omega arith)
 
 pub sum-requires : (t : ℕ) → lts.Need-sum-requires (items-calls t) (items-at t) items.Post Inv-loop μ-loop
@@ -101,9 +100,7 @@ spaced t c =
 
 pub item-requires : (t : ℕ) → lts.Need-item-requires (items-calls t) (items-at t) items.Post Inv-loop μ-loop
 item-requires t c κs =
-    let at-joined2 = c .before .before .before in
-    let at-peek = before-joined2 t at-joined2 in
-    let at-start = before-peek t at-peek in
+    let at-joined2 = c .before .before .before in let at-peek = before-joined2 t at-joined2 in let at-start = before-peek t at-peek in
     let l = at-peek .before .loop .inv .so-far _ (at-start .pre .1 .1) in
     let u = spaced t (c .before .before .before) in
     (omega (arith, at-start .pre .0, at-peek .before .loop .inv .far, ap (λ (z : Parser). z .at) (u .puts .same)), (l .state, holds-puts (u .puts) (l .stands .holds)))
@@ -119,10 +116,8 @@ unlisted-requires t c κs = search needs
 
 pub same-length-7 : (t : ℕ) → lts.Need-same-length-7 (items-calls t) (items-at t) items.Post Inv-loop μ-loop
 same-length-7 t c =
-    let at-item = c .before .before .before .before .before .before .before .before .before in
-    let at-joined2 = before-item t at-item in
-    let at-peek = before-joined2 t at-joined2 in
-    let at-start = before-peek t at-peek in
+    let at-item = c .before .before .before .before .before .before .before .before .before in let at-joined2 = before-item t at-item in
+    let at-peek = before-joined2 t at-joined2 in let at-start = before-peek t at-peek in
     omega (arith, at-item .item .kept, spaced t (at-joined2) .puts .put .stack .size, at-start .pre .1 .1 .text .size)
 
 pub same-length-8 : (t : ℕ) → lts.Need-same-length-8 (items-calls t) (items-at t) items.Post Inv-loop μ-loop
@@ -133,8 +128,7 @@ same-length-9 t c = search needs
 
 pub returns-3 : (t : ℕ) → lts.Need-returns-3 (items-calls t) (items-at t) items.Post Inv-loop μ-loop
 returns-3 t c =
-    let at-item = c .before .before .before .before .before .before .before .before .before in
-    let at-joined2 = before-item t at-item in
+    let at-item = c .before .before .before .before .before .before .before .before .before in let at-joined2 = before-item t at-item in
     let at-peek = before-joined2 t at-joined2 in
     λ σ h.
     let l = at-peek .before .loop .inv .so-far σ h in
@@ -144,10 +138,8 @@ returns-3 t c =
 
 pub sum-requires-2 : (t : ℕ) → lts.Need-sum-requires-2 (items-calls t) (items-at t) items.Post Inv-loop μ-loop
 sum-requires-2 t c κs =
-    let at-item = c .before .before .before .before .before .before .before .before .before in
-    let at-joined2 = before-item t at-item in
-    let at-peek = before-joined2 t at-joined2 in
-    let at-start = before-peek t at-peek in
+    let at-item = c .before .before .before .before .before .before .before .before .before in let at-joined2 = before-item t at-item in
+    let at-peek = before-joined2 t at-joined2 in let at-start = before-peek t at-peek in
     let l = at-peek .before .loop .inv .so-far _ (at-start .pre .1 .1) in
     let u = spaced t (at-joined2) in
     let g = got (c .before .got .given .1) (at-item .item .ensures (l .state) (holds-puts (u .puts) (l .stands .holds))) in
@@ -155,17 +147,14 @@ sum-requires-2 t c κs =
 
 pub add-count : (t : ℕ) → lts.Need-add-count (items-calls t) (items-at t) items.Post Inv-loop μ-loop
 add-count t c =
-    let at-item = c .before .before .before .before .before .before .before .before .before .before in
-    let at-joined2 = before-item t at-item in
+    let at-item = c .before .before .before .before .before .before .before .before .before .before in let at-joined2 = before-item t at-item in
     let at-peek = before-joined2 t at-joined2 in
     search (needs, at-peek .before .loop .inv .far, at-peek .before .loop .inv .inside, at-peek .before .loop .inv .short)
 
 pub loop-less : (t : ℕ) → lts.Need-loop-less (items-calls t) (items-at t) items.Post Inv-loop μ-loop
 loop-less t c =
-    let at-item = c .before .before .before .before .before .before .before .before .before .before in
-    let at-joined2 = before-item t at-item in
-    let at-peek = before-joined2 t at-joined2 in
-    let at-start = before-peek t at-peek in
+    let at-item = c .before .before .before .before .before .before .before .before .before .before in let at-joined2 = before-item t at-item in
+    let at-peek = before-joined2 t at-joined2 in let at-start = before-peek t at-peek in
     let l = at-peek .before .loop .inv .so-far _ (at-start .pre .1 .1) in
     let u = spaced t (at-joined2) in
     let g = got (c .before .before .got .given .1) (at-item .item .ensures (l .state) (holds-puts (u .puts) (l .stands .holds))) in
@@ -173,9 +162,7 @@ loop-less t c =
 
 pub loop-again : (t : ℕ) → lts.Need-loop-again (items-calls t) (items-at t) items.Post Inv-loop μ-loop
 loop-again t c =
-    let at-item = c .before .before .before .before .before .before .before .before .before .before in
-    let at-joined2 = before-item t at-item in
-    let at-peek = before-joined2 t at-joined2 in
-    let at-start = before-peek t at-peek in
+    let at-item = c .before .before .before .before .before .before .before .before .before .before in let at-joined2 = before-item t at-item in
+    let at-peek = before-joined2 t at-joined2 in let at-start = before-peek t at-peek in
     listing-more (at-peek .before .loop .inv) (at-start .pre .1 .1) (spaced t (at-joined2)) (sym (at-peek .peek .ensures) ∙ at-joined2 .before .before .before .before .c .given .1) (sym (at-joined2 .before .before .stops .ensures) ∙ at-joined2 .before .if1 .left) (c .before .before .got .given .1)
     (at-item .item .ensures) (c .sum2 .ensures)

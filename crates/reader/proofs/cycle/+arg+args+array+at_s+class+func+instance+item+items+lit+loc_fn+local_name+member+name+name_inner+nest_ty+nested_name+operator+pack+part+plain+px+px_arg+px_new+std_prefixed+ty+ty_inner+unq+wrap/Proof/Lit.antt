@@ -55,8 +55,7 @@ moved-requires t c κs = search needs
 
 pub name-requires : (t : ℕ) → lts.Need-name-requires (lit-calls t) (lit-at t) lit.Post
 name-requires t c κs =
-    let at-then2 = c .before .before .before .before in
-    let at-here2 = before-then2 t at-then2 in
+    let at-then2 = c .before .before .before .before in let at-here2 = before-then2 t at-then2 in
     let at-start = before-here2 t at-here2 in (
       omega (arith, at-start .pre .0, ap (λ (z : Parser). z .at) (c .moved .ensures)),
       (
@@ -83,9 +82,7 @@ same-length-3 t c = search needs
 
 pub returns-2 : (t : ℕ) → lts.Need-returns-2 (lit-calls t) (lit-at t) lit.Post
 returns-2 t c =
-    let at-name = c .before .before .before .before .before .before .before .before in
-    let at-then2 = before-name t at-name in
-    let at-here2 = before-then2 t at-then2 in
+    let at-name = c .before .before .before .before .before .before .before .before in let at-then2 = before-name t at-name in let at-here2 = before-then2 t at-then2 in
     λ σ h. lit-name-refused h (sym (at-here2 .before .before .here .ensures) ∙ not-false _ (at-here2 .before .if1 .left)) (sym (at-here2 .here2 .ensures) ∙ at-then2 .if2 .taken) (at-name .before .moved .ensures) (at-name .name .ensures) (c .enum-told .given .1)
 
 pub here-requires-3 : (t : ℕ) → lts.Need-here-requires-3 (lit-calls t) (lit-at t) lit.Post
@@ -93,10 +90,8 @@ here-requires-3 t c κs = search needs
 
 pub add-moved-2 : (t : ℕ) → lts.Need-add-moved-2 (lit-calls t) (lit-at t) lit.Post
 add-moved-2 t c =
-    let at-name = c .before .before .before .before .before .before .before .before .before .before .before in
-    let at-then2 = before-name t at-name in
-    let at-here2 = before-then2 t at-then2 in
-    let at-start = before-here2 t at-here2 in
+    let at-name = c .before .before .before .before .before .before .before .before .before .before .before in let at-then2 = before-name t at-name in
+    let at-here2 = before-then2 t at-then2 in let at-start = before-here2 t at-here2 in
     omega (arith, starts-inside (at-start .args .s .now) (c .before .before .before .got .given .0 .0 .at) 69 (sym (c .before .here3 .ensures) ∙ c .if3 .taken), at-start .pre .1 .1 .source)
 
 pub moved-requires-2 : (t : ℕ) → lts.Need-moved-requires-2 (lit-calls t) (lit-at t) lit.Post
@@ -113,8 +108,7 @@ same-length-6 t c = search needs
 
 pub returns-3 : (t : ℕ) → lts.Need-returns-3 (lit-calls t) (lit-at t) lit.Post
 returns-3 t c =
-    let at-name = c .before .before .before .before .before .before .before .before .before .before .before .before in
-    let at-then2 = before-name t at-name in
+    let at-name = c .before .before .before .before .before .before .before .before .before .before .before .before in let at-then2 = before-name t at-name in
     let at-here2 = before-then2 t at-then2 in
     λ σ h. lit-name-E h (sym (at-here2 .before .before .here .ensures) ∙ not-false _ (at-here2 .before .if1 .left)) (sym (at-here2 .here2 .ensures) ∙ at-then2 .if2 .taken)
     (at-name .before .moved .ensures) (at-name .name .ensures) (c .before .before .before .before .got .given .1) (sym (c .before .before .here3 .ensures) ∙ c .before .if3 .taken)
@@ -131,8 +125,7 @@ same-length-9 t c = search needs
 
 pub returns-4 : (t : ℕ) → lts.Need-returns-4 (lit-calls t) (lit-at t) lit.Post
 returns-4 t c =
-    let at-name = c .before .before .before .before .before .before .before .before .before .before .before in
-    let at-then2 = before-name t at-name in
+    let at-name = c .before .before .before .before .before .before .before .before .before .before .before in let at-then2 = before-name t at-name in
     let at-here2 = before-then2 t at-then2 in
     λ σ h. lit-name-open h (sym (at-here2 .before .before .here .ensures) ∙ not-false _ (at-here2 .before .if1 .left)) (sym (at-here2 .here2 .ensures) ∙ at-then2 .if2 .taken)
     (at-name .before .moved .ensures) (at-name .name .ensures) (c .before .before .before .got .given .1) (sym (c .before .here3 .ensures) ∙ c .if3 .left)
@@ -142,8 +135,7 @@ moved-requires-3 t c κs = search needs
 
 pub ty-requires : (t : ℕ) → lts.Need-ty-requires (lit-calls t) (lit-at t) lit.Post
 ty-requires t c κs =
-    let at-else2 = c .before .before .before .before in
-    let at-here2 = before-else2 t at-else2 in
+    let at-else2 = c .before .before .before .before in let at-here2 = before-else2 t at-else2 in
     let at-start = before-here2 t at-here2 in (
       omega (arith, at-start .pre .0, ap (λ (z : Parser). z .at) (c .moved3 .ensures)),
       (
@@ -170,16 +162,12 @@ same-length-12 t c = search needs
 
 pub returns-5 : (t : ℕ) → lts.Need-returns-5 (lit-calls t) (lit-at t) lit.Post
 returns-5 t c =
-    let at-ty = c .before .before .before .before .before .before .before .before in
-    let at-else2 = before-ty t at-ty in
-    let at-here2 = before-else2 t at-else2 in
+    let at-ty = c .before .before .before .before .before .before .before .before in let at-else2 = before-ty t at-ty in let at-here2 = before-else2 t at-else2 in
     λ σ h. lit-type-refused h (sym (at-here2 .before .before .here .ensures) ∙ not-false _ (at-here2 .before .if1 .left)) (sym (at-here2 .here2 .ensures) ∙ at-else2 .if2 .left) (at-ty .before .moved3 .ensures) (at-ty .ty .ensures) (c .enum-told2 .given .1)
 
 pub before-requires : (t : ℕ) → lts.Need-before-requires (lit-calls t) (lit-at t) lit.Post
 before-requires t c κs =
-    let at-ty = c .before .before .before .before .before .before .before .before .before in
-    let at-else2 = before-ty t at-ty in
-    let at-here2 = before-else2 t at-else2 in
+    let at-ty = c .before .before .before .before .before .before .before .before .before in let at-else2 = before-ty t at-ty in let at-here2 = before-else2 t at-else2 in
     let at-start = before-here2 t at-here2 in
     lit-type-got (at-start .pre .1 .1) (sym (at-here2 .before .before .here .ensures) ∙ not-false _ (at-here2 .before .if1 .left)) (sym (at-here2 .here2 .ensures) ∙ at-else2 .if2 .left) (at-ty .before .moved3 .ensures) (at-ty .ty .ensures) (c .before .got2 .given .1) .wrote .holds .place
 
@@ -194,18 +182,15 @@ same-length-15 t c = search needs
 
 pub returns-6 : (t : ℕ) → lts.Need-returns-6 (lit-calls t) (lit-at t) lit.Post
 returns-6 t c =
-    let at-ty = c .before .before .before .before .before .before .before .before .before .before .before in
-    let at-else2 = before-ty t at-ty in
+    let at-ty = c .before .before .before .before .before .before .before .before .before .before .before in let at-else2 = before-ty t at-ty in
     let at-here2 = before-else2 t at-else2 in
     λ σ h. lit-open h (sym (at-here2 .before .before .here .ensures) ∙ not-false _ (at-here2 .before .if1 .left)) (sym (at-here2 .here2 .ensures) ∙ at-else2 .if2 .left)
     (at-ty .before .moved3 .ensures) (at-ty .ty .ensures) (c .before .before .before .got2 .given .1) (c .before .before2 .ensures) (c .if4 .taken)
 
 pub add-moved-3 : (t : ℕ) → lts.Need-add-moved-3 (lit-calls t) (lit-at t) lit.Post
 add-moved-3 t c =
-    let at-ty = c .before .before .before .before .before .before .before .before .before .before .before .before in
-    let at-else2 = before-ty t at-ty in
-    let at-here2 = before-else2 t at-else2 in
-    let at-start = before-here2 t at-here2 in
+    let at-ty = c .before .before .before .before .before .before .before .before .before .before .before .before in let at-else2 = before-ty t at-ty in
+    let at-here2 = before-else2 t at-else2 in let at-start = before-here2 t at-here2 in
     omega (arith, c .before .if4 .left, at-start .pre .1 .1 .source)
 
 pub moved-requires-4 : (t : ℕ) → lts.Need-moved-requires-4 (lit-calls t) (lit-at t) lit.Post
@@ -213,10 +198,8 @@ moved-requires-4 t c κs = search needs
 
 pub literal-requires : (t : ℕ) → lts.Need-literal-requires (lit-calls t) (lit-at t) lit.Post
 literal-requires t c κs =
-    let at-ty = c .before .before .before .before .before .before .before .before .before .before .before .before .before in
-    let at-else2 = before-ty t at-ty in
-    let at-here2 = before-else2 t at-else2 in
-    let at-start = before-here2 t at-here2 in
+    let at-ty = c .before .before .before .before .before .before .before .before .before .before .before .before .before in let at-else2 = before-ty t at-ty in
+    let at-here2 = before-else2 t at-else2 in let at-start = before-here2 t at-here2 in
     lit-ready (at-start .pre .1 .1) (sym (at-here2 .before .before .here .ensures) ∙ not-false _ (at-here2 .before .if1 .left))
     (sym (at-here2 .here2 .ensures) ∙ at-else2 .if2 .left) (at-ty .before .moved3 .ensures) (at-ty .ty .ensures) (c .before .before .before .before .before .got2 .given .1)
     (c .before .before .before .before2 .ensures) (c .before .before .if4 .left) (c .moved4 .ensures)
@@ -233,8 +216,7 @@ same-length-18 t c = search needs
 pub returns-7 : (t : ℕ) → lts.Need-returns-7 (lit-calls t) (lit-at t) lit.Post
 returns-7 t c =
     let at-ty = c .before .before .before .before .before .before .before .before .before .before .before .before .before .before .before .before in
-    let at-else2 = before-ty t at-ty in
-    let at-here2 = before-else2 t at-else2 in
+    let at-else2 = before-ty t at-ty in let at-here2 = before-else2 t at-else2 in
     λ σ h. lit-given h (sym (at-here2 .before .before .here .ensures) ∙ not-false _ (at-here2 .before .if1 .left)) (sym (at-here2 .here2 .ensures) ∙ at-else2 .if2 .left)
     (at-ty .before .moved3 .ensures) (at-ty .ty .ensures) (c .before .before .before .before .before .before .before .before .got2 .given .1)
     (c .before .before .before .before .before .before .before2 .ensures) (c .before .before .before .before .before .if4 .left) (c .before .before .before .moved4 .ensures)

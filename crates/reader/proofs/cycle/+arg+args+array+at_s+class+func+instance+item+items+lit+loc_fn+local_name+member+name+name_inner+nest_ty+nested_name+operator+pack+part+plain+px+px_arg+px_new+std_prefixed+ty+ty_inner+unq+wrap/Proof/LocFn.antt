@@ -59,8 +59,7 @@ here-requires t c κs = search needs
 
 pub add-moved : (t : ℕ) → lts.Need-add-moved (loc-fn-calls t) (loc-fn-at t) loc-fn.Post
 add-moved t c =
-    let at-name = c .before .before .before .before .before .before .before .before .before .before .before in
-    let at-start = before-name t at-name in
+    let at-name = c .before .before .before .before .before .before .before .before .before .before .before in let at-start = before-name t at-name in
     omega (arith, starts-inside (at-start .args .s .now) (c .before .before .before .got .given .0 .0 .at) 69 (sym (c .before .here .ensures) ∙ c .if1 .taken), at-start .pre .1 .1 .source)
 
 pub moved-requires : (t : ℕ) → lts.Need-moved-requires (loc-fn-calls t) (loc-fn-at t) loc-fn.Post
@@ -87,16 +86,13 @@ slice-aggregate-put t c = search needs
 pub put-requires : (t : ℕ) → lts.Need-put-requires (loc-fn-calls t) (loc-fn-at t) loc-fn.Post
 unfolding b
 put-requires t c κs =
-    let at-name = c .before .before .before .before .before .before .before .before .before .before .before .before .before in
-    let at-start = before-name t at-name in
+    let at-name = c .before .before .before .before .before .before .before .before .before .before .before .before .before in let at-start = before-name t at-name in
     (fn-got (at-start .pre .1 .1) (at-name .name .ensures) (c .before .before .before .before .before .got .given .1) .wrote .holds .text, omega arith)
 
 pub items-requires : (t : ℕ) → lts.Need-items-requires (loc-fn-calls t) (loc-fn-at t) loc-fn.Post
 unfolding b
 items-requires t c κs =
-    let at-put = c .before .before .before .before .before in
-    let at-name = before-put t at-put in
-    let at-start = before-name t at-name in
+    let at-put = c .before .before .before .before .before in let at-name = before-put t at-put in let at-start = before-name t at-name in
     let w = fn-got (at-start .pre .1 .1) (at-name .name .ensures) (at-put .before .before .before .before .before .before .got .given .1) .wrote in (
       omega (arith, at-start .pre .0, ap (λ (z : Parser). z .at) (at-put .put .ensures .same), w .more, w .holds .place),
       (
@@ -117,62 +113,46 @@ refused-requires t c κs = search needs
 
 pub same-length-7 : (t : ℕ) → lts.Need-same-length-7 (loc-fn-calls t) (loc-fn-at t) loc-fn.Post
 same-length-7 t c =
-    let at-items = c .before .before .before .before .before .before .before .before .before in
-    let at-put = before-items t at-items in
-    let at-name = before-put t at-put in
+    let at-items = c .before .before .before .before .before .before .before .before .before in let at-put = before-items t at-items in let at-name = before-put t at-put in
     omega (arith, at-items .items .kept, at-put .put .kept, at-name .name .kept)
 
 pub same-length-8 : (t : ℕ) → lts.Need-same-length-8 (loc-fn-calls t) (loc-fn-at t) loc-fn.Post
 same-length-8 t c =
-    let at-items = c .before .before .before .before .before .before .before .before .before in
-    let at-put = before-items t at-items in
-    let at-name = before-put t at-put in
+    let at-items = c .before .before .before .before .before .before .before .before .before in let at-put = before-items t at-items in let at-name = before-put t at-put in
     omega (arith, at-items .items .kept, at-name .name .kept)
 
 pub same-length-9 : (t : ℕ) → lts.Need-same-length-9 (loc-fn-calls t) (loc-fn-at t) loc-fn.Post
 same-length-9 t c =
-    let at-items = c .before .before .before .before .before .before .before .before .before in
-    let at-put = before-items t at-items in
-    let at-name = before-put t at-put in
+    let at-items = c .before .before .before .before .before .before .before .before .before in let at-put = before-items t at-items in let at-name = before-put t at-put in
     omega (arith, at-items .items .kept, at-name .name .kept)
 
 pub returns-3 : (t : ℕ) → lts.Need-returns-3 (loc-fn-calls t) (loc-fn-at t) loc-fn.Post
 unfolding b
 returns-3 t c =
-    let at-items = c .before .before .before .before .before .before .before .before .before in
-    let at-put = before-items t at-items in
-    let at-name = before-put t at-put in
+    let at-items = c .before .before .before .before .before .before .before .before .before in let at-put = before-items t at-items in let at-name = before-put t at-put in
     λ σ h. fn-items-refused h (at-name .name .ensures) (at-put .before .before .before .before .before .before .got .given .1)
     (sym (at-put .before .before .before .before .here .ensures) ∙ at-put .before .before .before .if1 .left) (at-put .put .ensures) (at-items .items .ensures)
     (c .before .enum-told2 .given .1) (c .refused .ensures)
 
 pub same-length-10 : (t : ℕ) → lts.Need-same-length-10 (loc-fn-calls t) (loc-fn-at t) loc-fn.Post
 same-length-10 t c =
-    let at-items = c .before .before .before .before .before .before .before .before .before .before in
-    let at-put = before-items t at-items in
-    let at-name = before-put t at-put in
+    let at-items = c .before .before .before .before .before .before .before .before .before .before in let at-put = before-items t at-items in let at-name = before-put t at-put in
     omega (arith, at-items .items .kept, at-put .put .kept, at-name .name .kept)
 
 pub same-length-11 : (t : ℕ) → lts.Need-same-length-11 (loc-fn-calls t) (loc-fn-at t) loc-fn.Post
 same-length-11 t c =
-    let at-items = c .before .before .before .before .before .before .before .before .before .before in
-    let at-put = before-items t at-items in
-    let at-name = before-put t at-put in
+    let at-items = c .before .before .before .before .before .before .before .before .before .before in let at-put = before-items t at-items in let at-name = before-put t at-put in
     omega (arith, at-items .items .kept, at-name .name .kept)
 
 pub same-length-12 : (t : ℕ) → lts.Need-same-length-12 (loc-fn-calls t) (loc-fn-at t) loc-fn.Post
 same-length-12 t c =
-    let at-items = c .before .before .before .before .before .before .before .before .before .before in
-    let at-put = before-items t at-items in
-    let at-name = before-put t at-put in
+    let at-items = c .before .before .before .before .before .before .before .before .before .before in let at-put = before-items t at-items in let at-name = before-put t at-put in
     omega (arith, at-items .items .kept, at-name .name .kept)
 
 pub returns-4 : (t : ℕ) → lts.Need-returns-4 (loc-fn-calls t) (loc-fn-at t) loc-fn.Post
 unfolding b
 returns-4 t c =
-    let at-items = c .before .before .before .before .before .before .before .before .before .before in
-    let at-put = before-items t at-items in
-    let at-name = before-put t at-put in
+    let at-items = c .before .before .before .before .before .before .before .before .before .before in let at-put = before-items t at-items in let at-name = before-put t at-put in
     λ σ h. fn-long h (at-name .name .ensures) (at-put .before .before .before .before .before .before .got .given .1)
     (sym (at-put .before .before .before .before .here .ensures) ∙ at-put .before .before .before .if1 .left) (at-put .put .ensures) (at-items .items .ensures)
     (c .before .before .list .given .1) (c .if2 .taken)
@@ -182,45 +162,30 @@ here-requires-2 t c κs = search needs
 
 pub same-length-13 : (t : ℕ) → lts.Need-same-length-13 (loc-fn-calls t) (loc-fn-at t) loc-fn.Post
 same-length-13 t c =
-    let at-else2 = c .before .before in
-    let at-items = before-else2 t at-else2 in
-    let at-put = before-items t at-items in
-    let at-name = before-put t at-put in
+    let at-else2 = c .before .before in let at-items = before-else2 t at-else2 in let at-put = before-items t at-items in let at-name = before-put t at-put in
     omega (arith, at-items .items .kept, at-put .put .kept, at-name .name .kept)
 
 pub same-length-14 : (t : ℕ) → lts.Need-same-length-14 (loc-fn-calls t) (loc-fn-at t) loc-fn.Post
 same-length-14 t c =
-    let at-else2 = c .before .before in
-    let at-items = before-else2 t at-else2 in
-    let at-put = before-items t at-items in
-    let at-name = before-put t at-put in
+    let at-else2 = c .before .before in let at-items = before-else2 t at-else2 in let at-put = before-items t at-items in let at-name = before-put t at-put in
     omega (arith, at-items .items .kept, at-name .name .kept)
 
 pub same-length-15 : (t : ℕ) → lts.Need-same-length-15 (loc-fn-calls t) (loc-fn-at t) loc-fn.Post
 same-length-15 t c =
-    let at-else2 = c .before .before in
-    let at-items = before-else2 t at-else2 in
-    let at-put = before-items t at-items in
-    let at-name = before-put t at-put in
+    let at-else2 = c .before .before in let at-items = before-else2 t at-else2 in let at-put = before-items t at-items in let at-name = before-put t at-put in
     omega (arith, at-items .items .kept, at-name .name .kept)
 
 pub returns-5 : (t : ℕ) → lts.Need-returns-5 (loc-fn-calls t) (loc-fn-at t) loc-fn.Post
 unfolding b
 returns-5 t c =
-    let at-else2 = c .before .before in
-    let at-items = before-else2 t at-else2 in
-    let at-put = before-items t at-items in
-    let at-name = before-put t at-put in
+    let at-else2 = c .before .before in let at-items = before-else2 t at-else2 in let at-put = before-items t at-items in let at-name = before-put t at-put in
     λ σ h. fn-open h (at-name .name .ensures) (at-put .before .before .before .before .before .before .got .given .1)
     (sym (at-put .before .before .before .before .here .ensures) ∙ at-put .before .before .before .if1 .left) (at-put .put .ensures) (at-items .items .ensures)
     (c .before .before .before .before .list .given .1) (c .before .before .if2 .left) (sym (c .before .here2 .ensures) ∙ not-true _ (c .if3 .taken))
 
 pub add-moved-2 : (t : ℕ) → lts.Need-add-moved-2 (loc-fn-calls t) (loc-fn-at t) loc-fn.Post
 add-moved-2 t c =
-    let at-else2 = c .before .before .before in
-    let at-items = before-else2 t at-else2 in
-    let at-put = before-items t at-items in
-    let at-name = before-put t at-put in
+    let at-else2 = c .before .before .before in let at-items = before-else2 t at-else2 in let at-put = before-items t at-items in let at-name = before-put t at-put in
     let at-start = before-name t at-name in
     omega (arith, starts-inside (at-start .args .s .now) (at-else2 .before .before .list .given .0 .0 .at) 69 (sym (c .before .before .here2 .ensures) ∙ not-false _ (c .before .if3 .left)), at-start .pre .1 .1 .source)
 
@@ -233,9 +198,7 @@ slice-aggregate-put-2 t c = search needs
 pub put-requires-2 : (t : ℕ) → lts.Need-put-requires-2 (loc-fn-calls t) (loc-fn-at t) loc-fn.Post
 unfolding b
 put-requires-2 t c κs =
-    let at-else2 = c .before .before .before .before .before in
-    let at-items = before-else2 t at-else2 in
-    let at-put = before-items t at-items in
+    let at-else2 = c .before .before .before .before .before in let at-items = before-else2 t at-else2 in let at-put = before-items t at-items in
     let at-name = before-put t at-put in
     let at-start = before-name t at-name in (
       stack-by (c .before .moved2 .ensures)
@@ -248,22 +211,16 @@ put-requires-2 t c κs =
 pub add-given : (t : ℕ) → lts.Need-add-given (loc-fn-calls t) (loc-fn-at t) loc-fn.Post
 unfolding b
 add-given t c =
-    let at-else2 = c .before .before .before .before .before .before .before .before in
-    let at-items = before-else2 t at-else2 in
-    let at-put = before-items t at-items in
-    let at-name = before-put t at-put in
-    let at-start = before-name t at-name in
+    let at-else2 = c .before .before .before .before .before .before .before .before in let at-items = before-else2 t at-else2 in let at-put = before-items t at-items in
+    let at-name = before-put t at-put in let at-start = before-name t at-name in
     let w = fn-got (at-start .pre .1 .1) (at-name .name .ensures) (at-put .before .before .before .before .before .before .got .given .1) .wrote in
     omega (arith, w .size, w .short, at-else2 .if2 .left)
 
 pub add-given-2 : (t : ℕ) → lts.Need-add-given-2 (loc-fn-calls t) (loc-fn-at t) loc-fn.Post
 unfolding b
 add-given-2 t c =
-    let at-else2 = c .before .before .before .before .before .before .before .before in
-    let at-items = before-else2 t at-else2 in
-    let at-put = before-items t at-items in
-    let at-name = before-put t at-put in
-    let at-start = before-name t at-name in
+    let at-else2 = c .before .before .before .before .before .before .before .before in let at-items = before-else2 t at-else2 in let at-put = before-items t at-items in
+    let at-name = before-put t at-put in let at-start = before-name t at-name in
     let w = fn-got (at-start .pre .1 .1) (at-name .name .ensures) (at-put .before .before .before .before .before .before .got .given .1) .wrote in
     omega (arith, w .size, w .short, at-else2 .if2 .left)
 
@@ -272,34 +229,26 @@ given-requires t c κs = search needs
 
 pub same-length-16 : (t : ℕ) → lts.Need-same-length-16 (loc-fn-calls t) (loc-fn-at t) loc-fn.Post
 same-length-16 t c =
-    let at-else2 = c .before .before .before .before .before .before .before .before .before in
-    let at-items = before-else2 t at-else2 in
-    let at-put = before-items t at-items in
+    let at-else2 = c .before .before .before .before .before .before .before .before .before in let at-items = before-else2 t at-else2 in let at-put = before-items t at-items in
     let at-name = before-put t at-put in
     omega (arith, c .before .before .before .put2 .kept, at-items .items .kept, at-put .put .kept, at-name .name .kept)
 
 pub same-length-17 : (t : ℕ) → lts.Need-same-length-17 (loc-fn-calls t) (loc-fn-at t) loc-fn.Post
 same-length-17 t c =
-    let at-else2 = c .before .before .before .before .before .before .before .before .before in
-    let at-items = before-else2 t at-else2 in
-    let at-put = before-items t at-items in
+    let at-else2 = c .before .before .before .before .before .before .before .before .before in let at-items = before-else2 t at-else2 in let at-put = before-items t at-items in
     let at-name = before-put t at-put in
     omega (arith, at-items .items .kept, at-name .name .kept)
 
 pub same-length-18 : (t : ℕ) → lts.Need-same-length-18 (loc-fn-calls t) (loc-fn-at t) loc-fn.Post
 same-length-18 t c =
-    let at-else2 = c .before .before .before .before .before .before .before .before .before in
-    let at-items = before-else2 t at-else2 in
-    let at-put = before-items t at-items in
+    let at-else2 = c .before .before .before .before .before .before .before .before .before in let at-items = before-else2 t at-else2 in let at-put = before-items t at-items in
     let at-name = before-put t at-put in
     omega (arith, at-items .items .kept, at-name .name .kept)
 
 pub returns-6 : (t : ℕ) → lts.Need-returns-6 (loc-fn-calls t) (loc-fn-at t) loc-fn.Post
 unfolding b
 returns-6 t c =
-    let at-else2 = c .before .before .before .before .before .before .before .before .before in
-    let at-items = before-else2 t at-else2 in
-    let at-put = before-items t at-items in
+    let at-else2 = c .before .before .before .before .before .before .before .before .before in let at-items = before-else2 t at-else2 in let at-put = before-items t at-items in
     let at-name = before-put t at-put in
     λ σ h. fn-given h (at-name .name .ensures) (at-put .before .before .before .before .before .before .got .given .1)
     (sym (at-put .before .before .before .before .here .ensures) ∙ at-put .before .before .before .if1 .left) (at-put .put .ensures) (at-items .items .ensures)

@@ -79,8 +79,7 @@ same-length-3 t c = search needs
 
 pub returns-2 : (t : ℕ) → lts.Need-returns-2 (local-name-calls t) (local-name-at t) local-name.Post
 returns-2 t c =
-    let at-loc-fn = c .before .before .before .before .before .before .before .before in
-    let at-else1 = before-loc-fn t at-loc-fn in
+    let at-loc-fn = c .before .before .before .before .before .before .before .before in let at-else1 = before-loc-fn t at-loc-fn in
     λ σ h. local-refused h (sym (at-else1 .before .here .ensures) ∙ not-false _ (at-else1 .if1 .left)) (at-loc-fn .before .moved .ensures) (at-loc-fn .loc-fn .ensures) (c .enum-told .given .1)
 
 pub here-requires-2 : (t : ℕ) → lts.Need-here-requires-2 (local-name-calls t) (local-name-at t) local-name.Post
@@ -88,10 +87,7 @@ here-requires-2 t c κs = search needs
 
 pub add-moved-2 : (t : ℕ) → lts.Need-add-moved-2 (local-name-calls t) (local-name-at t) local-name.Post
 add-moved-2 t c =
-    let at-here2 = c .before .before in
-    let at-loc-fn = before-here2 t at-here2 in
-    let at-else1 = before-loc-fn t at-loc-fn in
-    let at-start = before-else1 t at-else1 in
+    let at-here2 = c .before .before in let at-loc-fn = before-here2 t at-here2 in let at-else1 = before-loc-fn t at-loc-fn in let at-start = before-else1 t at-else1 in
     omega (arith, starts-inside (at-start .args .s .now) (c .before .before .before .before .got .given .0 .0 .at) 115 (sym (c .before .before .here2 .ensures) ∙ c .before .if2 .taken), at-start .pre .1 .1 .source)
 
 pub moved-requires-2 : (t : ℕ) → lts.Need-moved-requires-2 (local-name-calls t) (local-name-at t) local-name.Post
@@ -103,17 +99,13 @@ slice-aggregate-put t c = search needs
 pub put-requires : (t : ℕ) → lts.Need-put-requires (local-name-calls t) (local-name-at t) local-name.Post
 unfolding b
 put-requires t c κs =
-    let at-here2 = c .before .before .before .before in
-    let at-loc-fn = before-here2 t at-here2 in
-    let at-else1 = before-loc-fn t at-loc-fn in
+    let at-here2 = c .before .before .before .before in let at-loc-fn = before-here2 t at-here2 in let at-else1 = before-loc-fn t at-loc-fn in
     let at-start = before-else1 t at-else1 in
     (stack-by (c .before .moved2 .ensures) (local-got (at-start .pre .1 .1) (sym (at-else1 .before .here .ensures) ∙ not-false _ (at-else1 .if1 .left)) (at-loc-fn .before .moved .ensures) (at-loc-fn .loc-fn .ensures) (at-here2 .before .before .got .given .1) .wrote .holds .text), omega arith)
 
 pub add-given : (t : ℕ) → lts.Need-add-given (local-name-calls t) (local-name-at t) local-name.Post
 add-given t c =
-    let at-here2 = c .before .before .before .before .before .before .before in
-    let at-loc-fn = before-here2 t at-here2 in
-    let at-else1 = before-loc-fn t at-loc-fn in
+    let at-here2 = c .before .before .before .before .before .before .before in let at-loc-fn = before-here2 t at-here2 in let at-else1 = before-loc-fn t at-loc-fn in
     let at-start = before-else1 t at-else1 in
     let w = local-got (at-start .pre .1 .1) (sym (at-else1 .before .here .ensures) ∙ not-false _ (at-else1 .if1 .left)) (at-loc-fn .before .moved .ensures) (at-loc-fn .loc-fn .ensures) (at-here2 .before .before .got .given .1) .wrote in
     omega (arith, w .size, w .short)
@@ -123,14 +115,12 @@ given-requires t c κs = search needs
 
 pub same-length-4 : (t : ℕ) → lts.Need-same-length-4 (local-name-calls t) (local-name-at t) local-name.Post
 same-length-4 t c =
-    let at-here2 = c .before .before .before .before .before .before .before .before in
-    let at-loc-fn = before-here2 t at-here2 in
+    let at-here2 = c .before .before .before .before .before .before .before .before in let at-loc-fn = before-here2 t at-here2 in
     omega (arith, c .before .before .before .put .kept, at-loc-fn .loc-fn .kept)
 
 pub same-length-5 : (t : ℕ) → lts.Need-same-length-5 (local-name-calls t) (local-name-at t) local-name.Post
 same-length-5 t c =
-    let at-here2 = c .before .before .before .before .before .before .before .before in
-    let at-loc-fn = before-here2 t at-here2 in
+    let at-here2 = c .before .before .before .before .before .before .before .before in let at-loc-fn = before-here2 t at-here2 in
     omega (arith, at-loc-fn .loc-fn .kept)
 
 pub same-length-6 : (t : ℕ) → lts.Need-same-length-6 (local-name-calls t) (local-name-at t) local-name.Post
@@ -139,9 +129,7 @@ same-length-6 t c = search needs
 pub returns-3 : (t : ℕ) → lts.Need-returns-3 (local-name-calls t) (local-name-at t) local-name.Post
 unfolding b
 returns-3 t c =
-    let at-here2 = c .before .before .before .before .before .before .before .before in
-    let at-loc-fn = before-here2 t at-here2 in
-    let at-else1 = before-loc-fn t at-loc-fn in
+    let at-here2 = c .before .before .before .before .before .before .before .before in let at-loc-fn = before-here2 t at-here2 in let at-else1 = before-loc-fn t at-loc-fn in
     λ σ h. local-string h (sym (at-else1 .before .here .ensures) ∙ not-false _ (at-else1 .if1 .left)) (at-loc-fn .before .moved .ensures) (at-loc-fn .loc-fn .ensures)
     (at-here2 .before .before .got .given .1) (sym (at-here2 .here2 .ensures) ∙ c .before .before .before .before .before .before .before .if2 .taken)
     (c .before .before .before .before .before .moved2 .ensures) (c .before .before .before .put .ensures) (c .given .ensures)
@@ -152,20 +140,14 @@ slice-aggregate-put-2 t c = search needs
 pub put-requires-2 : (t : ℕ) → lts.Need-put-requires-2 (local-name-calls t) (local-name-at t) local-name.Post
 unfolding b
 put-requires-2 t c κs =
-    let at-here2 = c .before .before .before in
-    let at-loc-fn = before-here2 t at-here2 in
-    let at-else1 = before-loc-fn t at-loc-fn in
-    let at-start = before-else1 t at-else1 in
+    let at-here2 = c .before .before .before in let at-loc-fn = before-here2 t at-here2 in let at-else1 = before-loc-fn t at-loc-fn in let at-start = before-else1 t at-else1 in
     (local-got (at-start .pre .1 .1) (sym (at-else1 .before .here .ensures) ∙ not-false _ (at-else1 .if1 .left)) (at-loc-fn .before .moved .ensures) (at-loc-fn .loc-fn .ensures) (at-here2 .before .before .got .given .1) .wrote .holds .text, omega arith)
 
 pub name-requires : (t : ℕ) → lts.Need-name-requires (local-name-calls t) (local-name-at t) local-name.Post
 unfolding b
 name-requires t c κs =
-    let at-put2 = c .before .before .before .before .before in
-    let at-here2 = before-put2 t at-put2 in
-    let at-loc-fn = before-here2 t at-here2 in
-    let at-else1 = before-loc-fn t at-loc-fn in
-    let at-start = before-else1 t at-else1 in
+    let at-put2 = c .before .before .before .before .before in let at-here2 = before-put2 t at-put2 in let at-loc-fn = before-here2 t at-here2 in
+    let at-else1 = before-loc-fn t at-loc-fn in let at-start = before-else1 t at-else1 in
     let y = local-got (at-start .pre .1 .1) (sym (at-else1 .before .here .ensures) ∙ not-false _ (at-else1 .if1 .left)) (at-loc-fn .before .moved .ensures) (at-loc-fn .loc-fn .ensures) (at-here2 .before .before .got .given .1) .wrote in (
       omega (arith, at-start .pre .0, ap (λ (z : Parser). z .at) (at-put2 .put2 .ensures .same), y .more, y .holds .place),
       (
@@ -183,36 +165,27 @@ enum-told-2 t c = search needs
 
 pub same-length-7 : (t : ℕ) → lts.Need-same-length-7 (local-name-calls t) (local-name-at t) local-name.Post
 same-length-7 t c =
-    let at-name = c .before .before .before .before .before .before .before .before in
-    let at-put2 = before-name t at-name in
-    let at-here2 = before-put2 t at-put2 in
+    let at-name = c .before .before .before .before .before .before .before .before in let at-put2 = before-name t at-name in let at-here2 = before-put2 t at-put2 in
     let at-loc-fn = before-here2 t at-here2 in
     omega (arith, at-name .name .kept, at-put2 .put2 .kept, at-loc-fn .loc-fn .kept)
 
 pub same-length-8 : (t : ℕ) → lts.Need-same-length-8 (local-name-calls t) (local-name-at t) local-name.Post
 same-length-8 t c =
-    let at-name = c .before .before .before .before .before .before .before .before in
-    let at-put2 = before-name t at-name in
-    let at-here2 = before-put2 t at-put2 in
+    let at-name = c .before .before .before .before .before .before .before .before in let at-put2 = before-name t at-name in let at-here2 = before-put2 t at-put2 in
     let at-loc-fn = before-here2 t at-here2 in
     omega (arith, at-name .name .kept, at-loc-fn .loc-fn .kept)
 
 pub same-length-9 : (t : ℕ) → lts.Need-same-length-9 (local-name-calls t) (local-name-at t) local-name.Post
 same-length-9 t c =
-    let at-name = c .before .before .before .before .before .before .before .before in
-    let at-put2 = before-name t at-name in
-    let at-here2 = before-put2 t at-put2 in
+    let at-name = c .before .before .before .before .before .before .before .before in let at-put2 = before-name t at-name in let at-here2 = before-put2 t at-put2 in
     let at-loc-fn = before-here2 t at-here2 in
     omega (arith, at-name .name .kept, at-loc-fn .loc-fn .kept)
 
 pub returns-4 : (t : ℕ) → lts.Need-returns-4 (local-name-calls t) (local-name-at t) local-name.Post
 unfolding b
 returns-4 t c =
-    let at-name = c .before .before .before .before .before .before .before .before in
-    let at-put2 = before-name t at-name in
-    let at-here2 = before-put2 t at-put2 in
-    let at-loc-fn = before-here2 t at-here2 in
-    let at-else1 = before-loc-fn t at-loc-fn in
+    let at-name = c .before .before .before .before .before .before .before .before in let at-put2 = before-name t at-name in let at-here2 = before-put2 t at-put2 in
+    let at-loc-fn = before-here2 t at-here2 in let at-else1 = before-loc-fn t at-loc-fn in
     λ σ h. local-name-refused h (sym (at-else1 .before .here .ensures) ∙ not-false _ (at-else1 .if1 .left)) (at-loc-fn .before .moved .ensures) (at-loc-fn .loc-fn .ensures)
     (at-here2 .before .before .got .given .1) (sym (at-here2 .here2 .ensures) ∙ at-put2 .before .before .before .if2 .left) (at-put2 .put2 .ensures) (at-name .name .ensures)
     (c .enum-told2 .given .1)
@@ -220,12 +193,8 @@ returns-4 t c =
 pub add-given-2 : (t : ℕ) → lts.Need-add-given-2 (local-name-calls t) (local-name-at t) local-name.Post
 unfolding b
 add-given-2 t c =
-    let at-name = c .before .before .before .before .before .before .before .before .before in
-    let at-put2 = before-name t at-name in
-    let at-here2 = before-put2 t at-put2 in
-    let at-loc-fn = before-here2 t at-here2 in
-    let at-else1 = before-loc-fn t at-loc-fn in
-    let at-start = before-else1 t at-else1 in
+    let at-name = c .before .before .before .before .before .before .before .before .before in let at-put2 = before-name t at-name in let at-here2 = before-put2 t at-put2 in
+    let at-loc-fn = before-here2 t at-here2 in let at-else1 = before-loc-fn t at-loc-fn in let at-start = before-else1 t at-else1 in
     let y = local-got (at-start .pre .1 .1) (sym (at-else1 .before .here .ensures) ∙ not-false _ (at-else1 .if1 .left)) (at-loc-fn .before .moved .ensures) (at-loc-fn .loc-fn .ensures) (at-here2 .before .before .got .given .1) .wrote in
     let z = local-name-got (at-start .pre .1 .1) (sym (at-else1 .before .here .ensures) ∙ not-false _ (at-else1 .if1 .left)) (at-loc-fn .before .moved .ensures)
     (at-loc-fn .loc-fn .ensures) (at-here2 .before .before .got .given .1) (sym (at-here2 .here2 .ensures) ∙ at-put2 .before .before .before .if2 .left) (at-put2 .put2 .ensures)
@@ -235,12 +204,8 @@ add-given-2 t c =
 pub add-given-3 : (t : ℕ) → lts.Need-add-given-3 (local-name-calls t) (local-name-at t) local-name.Post
 unfolding b
 add-given-3 t c =
-    let at-name = c .before .before .before .before .before .before .before .before .before in
-    let at-put2 = before-name t at-name in
-    let at-here2 = before-put2 t at-put2 in
-    let at-loc-fn = before-here2 t at-here2 in
-    let at-else1 = before-loc-fn t at-loc-fn in
-    let at-start = before-else1 t at-else1 in
+    let at-name = c .before .before .before .before .before .before .before .before .before in let at-put2 = before-name t at-name in let at-here2 = before-put2 t at-put2 in
+    let at-loc-fn = before-here2 t at-here2 in let at-else1 = before-loc-fn t at-loc-fn in let at-start = before-else1 t at-else1 in
     let y = local-got (at-start .pre .1 .1) (sym (at-else1 .before .here .ensures) ∙ not-false _ (at-else1 .if1 .left)) (at-loc-fn .before .moved .ensures) (at-loc-fn .loc-fn .ensures) (at-here2 .before .before .got .given .1) .wrote in
     let z = local-name-got (at-start .pre .1 .1) (sym (at-else1 .before .here .ensures) ∙ not-false _ (at-else1 .if1 .left)) (at-loc-fn .before .moved .ensures)
     (at-loc-fn .loc-fn .ensures) (at-here2 .before .before .got .given .1) (sym (at-here2 .here2 .ensures) ∙ at-put2 .before .before .before .if2 .left) (at-put2 .put2 .ensures)
@@ -252,36 +217,27 @@ given-requires-2 t c κs = search needs
 
 pub same-length-10 : (t : ℕ) → lts.Need-same-length-10 (local-name-calls t) (local-name-at t) local-name.Post
 same-length-10 t c =
-    let at-name = c .before .before .before .before .before .before .before .before .before .before in
-    let at-put2 = before-name t at-name in
-    let at-here2 = before-put2 t at-put2 in
-    let at-loc-fn = before-here2 t at-here2 in
+    let at-name = c .before .before .before .before .before .before .before .before .before .before in let at-put2 = before-name t at-name in
+    let at-here2 = before-put2 t at-put2 in let at-loc-fn = before-here2 t at-here2 in
     omega (arith, at-name .name .kept, at-put2 .put2 .kept, at-loc-fn .loc-fn .kept)
 
 pub same-length-11 : (t : ℕ) → lts.Need-same-length-11 (local-name-calls t) (local-name-at t) local-name.Post
 same-length-11 t c =
-    let at-name = c .before .before .before .before .before .before .before .before .before .before in
-    let at-put2 = before-name t at-name in
-    let at-here2 = before-put2 t at-put2 in
-    let at-loc-fn = before-here2 t at-here2 in
+    let at-name = c .before .before .before .before .before .before .before .before .before .before in let at-put2 = before-name t at-name in
+    let at-here2 = before-put2 t at-put2 in let at-loc-fn = before-here2 t at-here2 in
     omega (arith, at-name .name .kept, at-loc-fn .loc-fn .kept)
 
 pub same-length-12 : (t : ℕ) → lts.Need-same-length-12 (local-name-calls t) (local-name-at t) local-name.Post
 same-length-12 t c =
-    let at-name = c .before .before .before .before .before .before .before .before .before .before in
-    let at-put2 = before-name t at-name in
-    let at-here2 = before-put2 t at-put2 in
-    let at-loc-fn = before-here2 t at-here2 in
+    let at-name = c .before .before .before .before .before .before .before .before .before .before in let at-put2 = before-name t at-name in
+    let at-here2 = before-put2 t at-put2 in let at-loc-fn = before-here2 t at-here2 in
     omega (arith, at-name .name .kept, at-loc-fn .loc-fn .kept)
 
 pub returns-5 : (t : ℕ) → lts.Need-returns-5 (local-name-calls t) (local-name-at t) local-name.Post
 unfolding b
 returns-5 t c =
-    let at-name = c .before .before .before .before .before .before .before .before .before .before in
-    let at-put2 = before-name t at-name in
-    let at-here2 = before-put2 t at-put2 in
-    let at-loc-fn = before-here2 t at-here2 in
-    let at-else1 = before-loc-fn t at-loc-fn in
+    let at-name = c .before .before .before .before .before .before .before .before .before .before in let at-put2 = before-name t at-name in
+    let at-here2 = before-put2 t at-put2 in let at-loc-fn = before-here2 t at-here2 in let at-else1 = before-loc-fn t at-loc-fn in
     λ σ h. local-given h (sym (at-else1 .before .here .ensures) ∙ not-false _ (at-else1 .if1 .left)) (at-loc-fn .before .moved .ensures) (at-loc-fn .loc-fn .ensures)
     (at-here2 .before .before .got .given .1) (sym (at-here2 .here2 .ensures) ∙ at-put2 .before .before .before .if2 .left) (at-put2 .put2 .ensures) (at-name .name .ensures)
     (c .before .before .inner .given .1) (c .given2 .ensures)

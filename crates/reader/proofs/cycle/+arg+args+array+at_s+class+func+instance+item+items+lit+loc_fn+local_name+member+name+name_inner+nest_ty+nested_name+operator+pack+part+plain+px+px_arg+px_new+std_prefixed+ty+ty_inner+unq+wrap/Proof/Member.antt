@@ -55,9 +55,7 @@ returns t c =
 
 pub ty-requires-2 : (t : ℕ) → lts.Need-ty-requires-2 (member-calls t) (member-at t) member.Post
 ty-requires-2 t c κs =
-    let at-class = c .before .before .before .before in
-    let at-ty = before-class t at-class in
-    let at-start = before-ty t at-ty in
+    let at-class = c .before .before .before .before in let at-ty = before-class t at-class in let at-start = before-ty t at-ty in
     let (σ, h) = at-start .pre .1 in
     let w = got (c .before .before .before .before .class .given .1) (at-ty .ty .ensures σ h) in
     (omega (arith, w .wrote .more, at-start .pre .0), (w .state, w .wrote .holds))
@@ -79,19 +77,15 @@ same-length-6 t c = search needs
 
 pub returns-2 : (t : ℕ) → lts.Need-returns-2 (member-calls t) (member-at t) member.Post
 returns-2 t c =
-    let at-ty2 = c .before .before .before .before .before .before .before .before in
-    let at-class = before-ty2 t at-ty2 in
-    let at-ty = before-class t at-class in
+    let at-ty2 = c .before .before .before .before .before .before .before .before in let at-class = before-ty2 t at-ty2 in let at-ty = before-class t at-class in
     λ σ h.
     let w = got (at-class .class .given .1) (at-ty .ty .ensures σ h) in
     by (member-is σ ∙ on-got _ w) (refused-on _ (c .enum-told2 .given .1) (at-ty2 .ty2 .ensures (w .state) (w .wrote .holds)))
 
 pub wrap-member-requires : (t : ℕ) → lts.Need-wrap-member-requires (member-calls t) (member-at t) member.Post
 wrap-member-requires t c κs =
-    let at-ty2 = c .before .before .before .before .before .before .before .before .before .before .before .before in
-    let at-class = before-ty2 t at-ty2 in
-    let at-ty = before-class t at-class in
-    let at-start = before-ty t at-ty in
+    let at-ty2 = c .before .before .before .before .before .before .before .before .before .before .before .before in let at-class = before-ty2 t at-ty2 in
+    let at-ty = before-class t at-class in let at-start = before-ty t at-ty in
     let (σ, h) = at-start .pre .1 in
     let w = got (at-class .class .given .1) (at-ty .ty .ensures σ h) in
     let v = got (c .before .before .before .before .got .given .1) (at-ty2 .ty2 .ensures (w .state) (w .wrote .holds)) in
@@ -102,33 +96,25 @@ wrap-member-requires t c κs =
 
 pub same-length-7 : (t : ℕ) → lts.Need-same-length-7 (member-calls t) (member-at t) member.Post
 same-length-7 t c =
-    let at-wrap-member = c .before .before .before .before .before .before in
-    let at-ty2 = before-wrap-member t at-wrap-member in
-    let at-class = before-ty2 t at-ty2 in
+    let at-wrap-member = c .before .before .before .before .before .before in let at-ty2 = before-wrap-member t at-wrap-member in let at-class = before-ty2 t at-ty2 in
     let at-ty = before-class t at-class in
     omega (arith, at-wrap-member .wrap-member .kept, at-ty2 .ty2 .kept, at-ty .ty .kept)
 
 pub same-length-8 : (t : ℕ) → lts.Need-same-length-8 (member-calls t) (member-at t) member.Post
 same-length-8 t c =
-    let at-wrap-member = c .before .before .before .before .before .before in
-    let at-ty2 = before-wrap-member t at-wrap-member in
-    let at-class = before-ty2 t at-ty2 in
+    let at-wrap-member = c .before .before .before .before .before .before in let at-ty2 = before-wrap-member t at-wrap-member in let at-class = before-ty2 t at-ty2 in
     let at-ty = before-class t at-class in
     omega (arith, at-wrap-member .wrap-member .kept, at-ty2 .ty2 .kept, at-ty .ty .kept)
 
 pub same-length-9 : (t : ℕ) → lts.Need-same-length-9 (member-calls t) (member-at t) member.Post
 same-length-9 t c =
-    let at-wrap-member = c .before .before .before .before .before .before in
-    let at-ty2 = before-wrap-member t at-wrap-member in
-    let at-class = before-ty2 t at-ty2 in
+    let at-wrap-member = c .before .before .before .before .before .before in let at-ty2 = before-wrap-member t at-wrap-member in let at-class = before-ty2 t at-ty2 in
     let at-ty = before-class t at-class in
     omega (arith, at-wrap-member .wrap-member .kept, at-ty2 .ty2 .kept, at-ty .ty .kept)
 
 pub returns-3 : (t : ℕ) → lts.Need-returns-3 (member-calls t) (member-at t) member.Post
 returns-3 t c =
-    let at-wrap-member = c .before .before .before .before .before .before in
-    let at-ty2 = before-wrap-member t at-wrap-member in
-    let at-class = before-ty2 t at-ty2 in
+    let at-wrap-member = c .before .before .before .before .before .before in let at-ty2 = before-wrap-member t at-wrap-member in let at-class = before-ty2 t at-ty2 in
     let at-ty = before-class t at-class in
     λ σ h.
     let w = got (at-class .class .given .1) (at-ty .ty .ensures σ h) in

@@ -35,14 +35,12 @@ returns t c = λ σ h. by (from-text (name-inner reading) σ (no-byte h (c .befo
 
 pub nested-name-requires : (t : ℕ) → lts.Need-nested-name-requires (name-inner-calls t) (name-inner-at t) name-inner.Post
 nested-name-requires t c κs =
-    let at-c = c .before .before .before .before .before in
-    let at-start = before-c t at-c in
+    let at-c = c .before .before .before .before .before in let at-start = before-c t at-c in
     (omega (arith, at-start .pre .0), at-start .pre .1)
 
 pub at-s-requires : (t : ℕ) → lts.Need-at-s-requires (name-inner-calls t) (name-inner-at t) name-inner.Post
 at-s-requires t c κs =
-    let at-c = c .before .before .before .before .before in
-    let at-start = before-c t at-c in
+    let at-c = c .before .before .before .before .before in let at-start = before-c t at-c in
     (omega (arith, at-start .pre .0), at-start .pre .1)
 
 pub add-moved : (t : ℕ) → lts.Need-add-moved (name-inner-calls t) (name-inner-at t) name-inner.Post
@@ -53,21 +51,18 @@ moved-requires t c κs = search needs
 
 pub name-requires : (t : ℕ) → lts.Need-name-requires (name-inner-calls t) (name-inner-at t) name-inner.Post
 name-requires t c κs =
-    let at-c = c .before .before .before .before .before .before in
-    let at-start = before-c t at-c in
+    let at-c = c .before .before .before .before .before .before in let at-start = before-c t at-c in
     let l = byte-inside (at-start .pre .1 .1) (at-c .before .before .peek .ensures) (at-c .c .given .1) in
     (omega (arith, at-of (c .moved .ensures), at-start .pre .0, l), ready-moved _ (c .moved .ensures) (at-start .pre .1 .1) (omega (arith, l)))
 
 pub local-name-requires : (t : ℕ) → lts.Need-local-name-requires (name-inner-calls t) (name-inner-at t) name-inner.Post
 local-name-requires t c κs =
-    let at-c = c .before .before .before .before .before in
-    let at-start = before-c t at-c in
+    let at-c = c .before .before .before .before .before in let at-start = before-c t at-c in
     (omega (arith, at-start .pre .0), at-start .pre .1)
 
 pub plain-requires : (t : ℕ) → lts.Need-plain-requires (name-inner-calls t) (name-inner-at t) name-inner.Post
 plain-requires t c κs =
-    let at-c = c .before .before .before .before .before in
-    let at-start = before-c t at-c in
+    let at-c = c .before .before .before .before .before in let at-start = before-c t at-c in
     (omega (arith, at-start .pre .0), at-start .pre .1)
 
 pub same-length : (t : ℕ) → lts.Need-same-length (name-inner-calls t) (name-inner-at t) name-inner.Post

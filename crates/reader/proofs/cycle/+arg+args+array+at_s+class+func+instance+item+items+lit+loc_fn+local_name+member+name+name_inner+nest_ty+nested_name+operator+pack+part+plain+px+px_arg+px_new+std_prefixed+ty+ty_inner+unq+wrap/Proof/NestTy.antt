@@ -62,9 +62,7 @@ returns t c =
 
 pub newest-entry-requires : (t : ℕ) → lts.Need-newest-entry-requires (nest-ty-calls t) (nest-ty-at t) nest-ty.Post
 newest-entry-requires t c κs =
-    let at-got = c .before .before .before .before in
-    let at-nested-name = before-got t at-got in
-    let at-start = before-nested-name t at-nested-name in
+    let at-got = c .before .before .before .before in let at-nested-name = before-got t at-got in let at-start = before-nested-name t at-nested-name in
     let w = got (c .before .before .before .before .got .given .1) (at-nested-name .nested-name .ensures _ (at-start .pre .1 .1)) .wrote in
     ((_, (_, w .holds)), stands-top (stood w) (omega (arith, w .short)))
 
@@ -79,16 +77,14 @@ same-length-6 t c = search needs
 
 pub returns-2 : (t : ℕ) → lts.Need-returns-2 (nest-ty-calls t) (nest-ty-at t) nest-ty.Post
 returns-2 t c =
-    let at-got = c .before .before .before .before .before .before in
-    let at-nested-name = before-got t at-got in
+    let at-got = c .before .before .before .before .before .before in let at-nested-name = before-got t at-got in
     λ σ h. let g = got (at-got .got .given .1) (at-nested-name .nested-name .ensures σ h) in
     by (nested-old σ (g .is) (sym (c .before .newest-entry .ensures _ _ _ _ _ _ _ (stood (g .wrote)) (g .wrote .short)) ∙ c .if1 .taken))
     (reads (g .wrote))
 
 pub recorded-requires : (t : ℕ) → lts.Need-recorded-requires (nest-ty-calls t) (nest-ty-at t) nest-ty.Post
 recorded-requires t c κs =
-    let at-got = c .before .before .before .before .before .before .before .before .before in
-    let at-nested-name = before-got t at-got in
+    let at-got = c .before .before .before .before .before .before .before .before .before in let at-nested-name = before-got t at-got in
     let at-start = before-nested-name t at-nested-name in
     let w = got (at-got .got .given .1) (at-nested-name .nested-name .ensures _ (at-start .pre .1 .1)) .wrote in
     ((_, (_, w .holds)), omega (arith, stands-top (stood w) (omega (arith, w .short))))
@@ -104,8 +100,7 @@ same-length-9 t c = search needs
 
 pub returns-3 : (t : ℕ) → lts.Need-returns-3 (nest-ty-calls t) (nest-ty-at t) nest-ty.Post
 returns-3 t c =
-    let at-got = c .before .before .before .before .before .before .before .before .before .before .before .before .before .before in
-    let at-nested-name = before-got t at-got in
+    let at-got = c .before .before .before .before .before .before .before .before .before .before .before .before .before .before in let at-nested-name = before-got t at-got in
     λ σ h. let g = got (at-got .got .given .1) (at-nested-name .nested-name .ensures σ h) in
     by (nested-new σ (g .is) (sym (c .before .before .before .before .before .before .before .before .before .newest-entry .ensures _ _ _ _ _ _ _ (stood (g .wrote)) (g .wrote .short)) ∙ c .before .before .before .before .before .before .before .before .if1 .left))
     (c .before .before .before .before .recorded .ensures _ _ _ _ _ _ _ (stood (g .wrote)))

@@ -112,8 +112,7 @@ returns-2 t c = λ σ h. by (opens t (c .before .before .before .before) σ h �
 
 pub add-moved : (t : ℕ) → lts.Need-add-moved (nested-name-calls t) (nested-name-at t) nested-name.Post Inv-loop μ-loop
 add-moved t c =
-    let at-c = c .before .before in
-    let at-start = before-c t at-c in
+    let at-c = c .before .before in let at-start = before-c t at-c in
     search (needs, at-c .before .before .before .loop .inv .so-far _ (start t (at-c .before .before .before .before) _ (at-start .pre .1 .1)) .here .stands .holds .place, at-start .pre .1 .1 .source)
 
 pub moved-requires-2 : (t : ℕ) → lts.Need-moved-requires-2 (nested-name-calls t) (nested-name-at t) nested-name.Post Inv-loop μ-loop
@@ -145,8 +144,7 @@ same-length-6 t c =
 
 pub returns-3 : (t : ℕ) → lts.Need-returns-3 (nested-name-calls t) (nested-name-at t) nested-name.Post Inv-loop μ-loop
 returns-3 t c =
-    let at-c = c .before .before .before .before .before .before .before in
-    let at-start = before-c t at-c in
+    let at-c = c .before .before .before .before .before .before .before in let at-start = before-c t at-c in
     λ σ h.
     from-start (mem (at-start .args .text .now) (at-start .args .store .now) (at-start .args .ends .now)) (at-start .args .p) (at-c .before .before .before .before .moved .ensures) (omega (arith, at-c .before .before .before .before .before .qualifiers .ensures .0))
     (by (opens t (at-c .before .before .before .before) σ h)
@@ -179,8 +177,7 @@ same-length-9 t c =
 
 pub returns-4 : (t : ℕ) → lts.Need-returns-4 (nested-name-calls t) (nested-name-at t) nested-name.Post Inv-loop μ-loop
 returns-4 t c =
-    let at-c = c .before .before .before .before .before .before in
-    let at-start = before-c t at-c in
+    let at-c = c .before .before .before .before .before .before in let at-start = before-c t at-c in
     λ σ h.
     from-start (mem (at-start .args .text .now) (at-start .args .store .now) (at-start .args .ends .now)) (at-start .args .p) (at-c .before .before .before .before .moved .ensures) (omega (arith, at-c .before .before .before .before .before .qualifiers .ensures .0))
     (by (opens t (at-c .before .before .before .before) σ h)
@@ -194,9 +191,7 @@ returns-4 t c =
 
 pub px-requires : (t : ℕ) → lts.Need-px-requires (nested-name-calls t) (nested-name-at t) nested-name.Post Inv-loop μ-loop
 px-requires t c κs =
-    let at-else2 = c .before .before .before in
-    let at-c = before-else2 t at-else2 in
-    let at-start = before-c t at-c in
+    let at-else2 = c .before .before .before in let at-c = before-else2 t at-else2 in let at-start = before-c t at-c in
     let l = at-c .before .before .before .loop .inv .so-far _ (start t (at-c .before .before .before .before) _ (at-start .pre .1 .1)) in
     (omega (arith, at-start .pre .0, l .here .stands .more, l .here .stands .holds .place, ap (λ (p : Parser). p .at) (at-c .before .before .before .before .moved .ensures), at-c .before .before .before .before .before .qualifiers .ensures .0), ((l .state, l .here .stands .holds), ready-for l))
 
@@ -211,30 +206,22 @@ unprefixed-requires t c κs = search needs
 
 pub same-length-10 : (t : ℕ) → lts.Need-same-length-10 (nested-name-calls t) (nested-name-at t) nested-name.Post Inv-loop μ-loop
 same-length-10 t c =
-    let at-px = c .before .before .before .before .before .before .before .before .before in
-    let at-else2 = before-px t at-px in
-    let at-c = before-else2 t at-else2 in
+    let at-px = c .before .before .before .before .before .before .before .before .before in let at-else2 = before-px t at-px in let at-c = before-else2 t at-else2 in
     omega (arith, at-px .px .kept, at-c .before .before .before .loop .inv .text-same)
 
 pub same-length-11 : (t : ℕ) → lts.Need-same-length-11 (nested-name-calls t) (nested-name-at t) nested-name.Post Inv-loop μ-loop
 same-length-11 t c =
-    let at-px = c .before .before .before .before .before .before .before .before .before in
-    let at-else2 = before-px t at-px in
-    let at-c = before-else2 t at-else2 in
+    let at-px = c .before .before .before .before .before .before .before .before .before in let at-else2 = before-px t at-px in let at-c = before-else2 t at-else2 in
     omega (arith, at-px .px .kept, at-c .before .before .before .loop .inv .store-same)
 
 pub same-length-12 : (t : ℕ) → lts.Need-same-length-12 (nested-name-calls t) (nested-name-at t) nested-name.Post Inv-loop μ-loop
 same-length-12 t c =
-    let at-px = c .before .before .before .before .before .before .before .before .before in
-    let at-else2 = before-px t at-px in
-    let at-c = before-else2 t at-else2 in
+    let at-px = c .before .before .before .before .before .before .before .before .before in let at-else2 = before-px t at-px in let at-c = before-else2 t at-else2 in
     omega (arith, at-px .px .kept, at-c .before .before .before .loop .inv .ends-same)
 
 pub returns-5 : (t : ℕ) → lts.Need-returns-5 (nested-name-calls t) (nested-name-at t) nested-name.Post Inv-loop μ-loop
 returns-5 t c =
-    let at-px = c .before .before .before .before .before .before .before .before .before in
-    let at-else2 = before-px t at-px in
-    let at-c = before-else2 t at-else2 in
+    let at-px = c .before .before .before .before .before .before .before .before .before in let at-else2 = before-px t at-px in let at-c = before-else2 t at-else2 in
     λ σ h.
     by (opens t (at-c .before .before .before .before) σ h)
     (prefixed-refuses (at-c .before .before .before .loop .inv .so-far _ (start t (at-c .before .before .before .before) σ h))
@@ -243,9 +230,7 @@ returns-5 t c =
 
 pub loop-less : (t : ℕ) → lts.Need-loop-less (nested-name-calls t) (nested-name-at t) nested-name.Post Inv-loop μ-loop
 loop-less t c =
-    let at-px = c .before .before .before .before .before .before .before .before .before in
-    let at-else2 = before-px t at-px in
-    let at-c = before-else2 t at-else2 in
+    let at-px = c .before .before .before .before .before .before .before .before .before in let at-else2 = before-px t at-px in let at-c = before-else2 t at-else2 in
     let at-start = before-c t at-c in
     let l = at-c .before .before .before .loop .inv .so-far _ (start t (at-c .before .before .before .before) _ (at-start .pre .1 .1)) in
     let e = sym (at-c .before .before .peek .ensures) ∙ at-c .c .given .1 in
@@ -257,8 +242,6 @@ loop-less t c =
 
 pub loop-again : (t : ℕ) → lts.Need-loop-again (nested-name-calls t) (nested-name-at t) nested-name.Post Inv-loop μ-loop
 loop-again t c =
-    let at-px = c .before .before .before .before .before .before .before .before .before in
-    let at-else2 = before-px t at-px in
-    let at-c = before-else2 t at-else2 in
+    let at-px = c .before .before .before .before .before .before .before .before .before in let at-else2 = before-px t at-px in let at-c = before-else2 t at-else2 in
     let at-start = before-c t at-c in
     prefixing-more (at-c .before .before .before .loop .inv) (start t (at-c .before .before .before .before) _ (at-start .pre .1 .1)) (sym (at-c .before .before .peek .ensures) ∙ at-c .c .given .1) (λ e. omega (arith, e, at-else2 .if2 .left)) (at-px .px .ensures) (c .before .got .given .1)

@@ -54,8 +54,7 @@ enum-known-w t c = search needs
 
 pub word-requires : (t : ℕ) → lts.Need-word-requires (operator-calls t) (operator-at t) operator.Post
 word-requires t c κs =
-    let at-operator-name = c .before .before .before .before in
-    let at-start = before-operator-name t at-operator-name in
+    let at-operator-name = c .before .before .before .before in let at-start = before-operator-name t at-operator-name in
     (stack-by (at-operator-name .before .moved .ensures) (at-start .pre .1 .1 .text), picked-at (c .before .before .before .before .operator-name .ensures) (c .before .before .w .given .1) .1)
 
 pub same-length : (t : ℕ) → lts.Need-same-length (operator-calls t) (operator-at t) operator.Post
@@ -82,15 +81,13 @@ slice-aggregate-put t c = search needs
 pub put-requires : (t : ℕ) → lts.Need-put-requires (operator-calls t) (operator-at t) operator.Post
 unfolding b
 put-requires t c κs =
-    let at-operator-name = c .before .before .before .before .before .before in
-    let at-start = before-operator-name t at-operator-name in
+    let at-operator-name = c .before .before .before .before .before .before in let at-start = before-operator-name t at-operator-name in
     (stack-by (at-operator-name .before .moved .ensures) (at-start .pre .1 .1 .text), omega arith)
 
 pub ty-requires : (t : ℕ) → lts.Need-ty-requires (operator-calls t) (operator-at t) operator.Post
 unfolding b
 ty-requires t c κs =
-    let at-put = c .before .before .before .before .before in
-    let at-operator-name = before-put t at-put in
+    let at-put = c .before .before .before .before .before in let at-operator-name = before-put t at-put in
     let at-start = before-operator-name t at-operator-name in (
       omega (arith, at-start .pre .0, puts-at (at-operator-name .before .moved .ensures) (at-put .put .ensures), at-operator-name .before .before .before .before .if1 .left),
       (
@@ -118,9 +115,7 @@ same-length-4 t c = search needs
 pub returns-5 : (t : ℕ) → lts.Need-returns-5 (operator-calls t) (operator-at t) operator.Post
 unfolding b
 returns-5 t c =
-    let at-ty = c .before .before .before .before .before .before .before .before in
-    let at-put = before-ty t at-ty in
-    let at-operator-name = before-put t at-put in
+    let at-ty = c .before .before .before .before .before .before .before .before in let at-put = before-ty t at-ty in let at-operator-name = before-put t at-put in
     λ σ h. oper-refused h (at-operator-name .before .before .before .before .if1 .left) (at-operator-name .before .moved .ensures) (at-operator-name .operator-name .ensures)
     (at-put .put .ensures) (at-put .before .before .before .before .before .enum-told .given .1) (at-put .before .before .before .before .if2 .left)
     (at-put .before .before .before .if3 .left) (at-ty .ty .ensures) (c .enum-told2 .given .1)
@@ -131,9 +126,7 @@ with-templated-requires t c κs = search needs
 pub add-given : (t : ℕ) → lts.Need-add-given (operator-calls t) (operator-at t) operator.Post
 unfolding b
 add-given t c =
-    let at-ty = c .before .before .before .before .before .before .before .before .before .before in
-    let at-put = before-ty t at-ty in
-    let at-operator-name = before-put t at-put in
+    let at-ty = c .before .before .before .before .before .before .before .before .before .before in let at-put = before-ty t at-ty in let at-operator-name = before-put t at-put in
     let at-start = before-operator-name t at-operator-name in
     let h = oper-holds (at-start .pre .1 .1) (at-operator-name .before .before .before .before .if1 .left) (at-operator-name .before .moved .ensures) (at-operator-name .operator-name .ensures) (at-put .put .ensures) in
     let w = got (c .before .before .got .given .1) (at-ty .ty .ensures _ h) .wrote in
@@ -144,8 +137,7 @@ given-requires t c κs = search needs
 
 pub same-length-5 : (t : ℕ) → lts.Need-same-length-5 (operator-calls t) (operator-at t) operator.Post
 same-length-5 t c =
-    let at-ty = c .before .before .before .before .before .before .before .before .before .before .before in
-    let at-put = before-ty t at-ty in
+    let at-ty = c .before .before .before .before .before .before .before .before .before .before .before in let at-put = before-ty t at-ty in
     omega (arith, at-ty .ty .kept, at-put .put .kept)
 
 pub same-length-6 : (t : ℕ) → lts.Need-same-length-6 (operator-calls t) (operator-at t) operator.Post
@@ -157,8 +149,7 @@ same-length-7 t c = search needs
 pub returns-6 : (t : ℕ) → lts.Need-returns-6 (operator-calls t) (operator-at t) operator.Post
 unfolding b
 returns-6 t c =
-    let at-ty = c .before .before .before .before .before .before .before .before .before .before .before in
-    let at-put = before-ty t at-ty in
+    let at-ty = c .before .before .before .before .before .before .before .before .before .before .before in let at-put = before-ty t at-ty in
     let at-operator-name = before-put t at-put in
     λ σ h. oper-typed h (at-operator-name .before .before .before .before .if1 .left) (at-operator-name .before .moved .ensures) (at-operator-name .operator-name .ensures)
     (at-put .put .ensures) (at-put .before .before .before .before .before .enum-told .given .1) (at-put .before .before .before .before .if2 .left)

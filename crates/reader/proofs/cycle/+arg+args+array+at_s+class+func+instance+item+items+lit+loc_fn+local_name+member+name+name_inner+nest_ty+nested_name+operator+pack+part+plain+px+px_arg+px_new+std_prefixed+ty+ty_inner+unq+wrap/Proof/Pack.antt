@@ -66,9 +66,7 @@ returns t c = λ σ h. by (packed-4 (c .before .before .before .loop .inv .so-fa
 
 pub add-moved : (t : ℕ) → lts.Need-add-moved (pack-calls t) (pack-at t) pack.Post Inv-loop μ-loop
 add-moved t c =
-    let at-known-told = c .before in
-    let at-loop = before-known-told t at-known-told in
-    let at-start = before-at-loop t at-loop in
+    let at-known-told = c .before in let at-loop = before-known-told t at-known-told in let at-start = before-at-loop t at-loop in
     let l = at-loop .loop .inv .so-far _ (at-start .pre .1 .1) in omega (arith, inside l (looked t (c .before)), l .holds .source)
 
 pub moved-requires : (t : ℕ) → lts.Need-moved-requires (pack-calls t) (pack-at t) pack.Post Inv-loop μ-loop
@@ -85,46 +83,39 @@ given-requires t c κs = search needs
 
 pub same-length-4 : (t : ℕ) → lts.Need-same-length-4 (pack-calls t) (pack-at t) pack.Post Inv-loop μ-loop
 same-length-4 t c =
-    let at-known-told = c .before .before .before .before .before .before in
-    let at-loop = before-known-told t at-known-told in
+    let at-known-told = c .before .before .before .before .before .before in let at-loop = before-known-told t at-known-told in
     at-loop .loop .inv .text-same
 
 pub same-length-5 : (t : ℕ) → lts.Need-same-length-5 (pack-calls t) (pack-at t) pack.Post Inv-loop μ-loop
 same-length-5 t c =
-    let at-known-told = c .before .before .before .before .before .before in
-    let at-loop = before-known-told t at-known-told in
+    let at-known-told = c .before .before .before .before .before .before in let at-loop = before-known-told t at-known-told in
     at-loop .loop .inv .store-same
 
 pub same-length-6 : (t : ℕ) → lts.Need-same-length-6 (pack-calls t) (pack-at t) pack.Post Inv-loop μ-loop
 same-length-6 t c =
-    let at-known-told = c .before .before .before .before .before .before in
-    let at-loop = before-known-told t at-known-told in
+    let at-known-told = c .before .before .before .before .before .before in let at-loop = before-known-told t at-known-told in
     at-loop .loop .inv .ends-same
 
 pub returns-2 : (t : ℕ) → lts.Need-returns-2 (pack-calls t) (pack-at t) pack.Post Inv-loop μ-loop
 returns-2 t c =
-    let at-known-told = c .before .before .before .before .before .before in
-    let at-loop = before-known-told t at-known-told in
+    let at-known-told = c .before .before .before .before .before .before in let at-loop = before-known-told t at-known-told in
     λ σ h. packed-ends (at-loop .loop .inv .so-far σ h) (looked t (at-known-told)) (c .before .before .before .before .before .if1 .taken)
     (sym (c .before .before .before .pack-ends .ensures) ∙ c .before .before .if2 .taken) (c .before .before .before .before .moved .ensures) (c .before .joined-size .ensures)
     (c .given .ensures)
 
 pub sub-level : (t : ℕ) → lts.Need-sub-level (pack-calls t) (pack-at t) pack.Post Inv-loop μ-loop
 sub-level t c =
-    let at-known-told = c .before .before .before .before in
-    let at-loop = before-known-told t at-known-told in
+    let at-known-told = c .before .before .before .before in let at-loop = before-known-told t at-known-told in
     omega (arith, inner-E (at-loop .loop .level) (at-loop .loop .n) (sym (c .before .pack-ends .ensures) ∙ c .if2 .left) .0)
 
 pub mul-sum : (t : ℕ) → lts.Need-mul-sum (pack-calls t) (pack-at t) pack.Post Inv-loop μ-loop
 mul-sum t c =
-    let at-known-told = c .before .before .before .before in
-    let at-loop = before-known-told t at-known-told in
+    let at-known-told = c .before .before .before .before in let at-loop = before-known-told t at-known-told in
     omega (arith, at-loop .loop .inv .deep)
 
 pub array-read-sum : (t : ℕ) → lts.Need-array-read-sum (pack-calls t) (pack-at t) pack.Post Inv-loop μ-loop
 array-read-sum t c =
-    let at-known-told = c .before .before .before .before in
-    let at-loop = before-known-told t at-known-told in
+    let at-known-told = c .before .before .before .before in let at-loop = before-known-told t at-known-told in
     omega (arith, at-loop .loop .inv .deep)
 
 pub joined-size-requires-2 : (t : ℕ) → lts.Need-joined-size-requires-2 (pack-calls t) (pack-at t) pack.Post Inv-loop μ-loop
@@ -132,15 +123,12 @@ joined-size-requires-2 t c κs = search needs
 
 pub add-sum : (t : ℕ) → lts.Need-add-sum (pack-calls t) (pack-at t) pack.Post Inv-loop μ-loop
 add-sum t c =
-    let at-known-told = c .before .before .before .before .before in
-    let at-loop = before-known-told t at-known-told in
+    let at-known-told = c .before .before .before .before .before in let at-loop = before-known-told t at-known-told in
     omega (arith, c .joined-size2 .ensures, inner-E (at-loop .loop .level) (at-loop .loop .n) (sym (c .before .before .pack-ends .ensures) ∙ c .before .if2 .left) .1)
 
 pub sum-requires : (t : ℕ) → lts.Need-sum-requires (pack-calls t) (pack-at t) pack.Post Inv-loop μ-loop
 sum-requires t c κs =
-    let at-known-told = c .before .before .before .before .before in
-    let at-loop = before-known-told t at-known-told in
-    let at-start = before-at-loop t at-loop in
+    let at-known-told = c .before .before .before .before .before in let at-loop = before-known-told t at-known-told in let at-start = before-at-loop t at-loop in
     let f = inner-E (at-loop .loop .level) (at-loop .loop .n) (sym (c .before .before .pack-ends .ensures) ∙ c .before .if2 .left) in (
       outer-small (at-loop .loop .inv .so-far _ (at-start .pre .1 .1)) (looked t (at-known-told)) (c .before .before .before .before .if1 .taken) (f .0),
       omega
@@ -149,16 +137,12 @@ sum-requires t c κs =
 
 pub loop-less : (t : ℕ) → lts.Need-loop-less (pack-calls t) (pack-at t) pack.Post Inv-loop μ-loop
 loop-less t c =
-    let at-known-told = c .before .before .before .before .before .before in
-    let at-loop = before-known-told t at-known-told in
-    let at-start = before-at-loop t at-loop in
+    let at-known-told = c .before .before .before .before .before .before in let at-loop = before-known-told t at-known-told in let at-start = before-at-loop t at-loop in
     omega (arith, inside (at-loop .loop .inv .so-far _ (at-start .pre .1 .1)) (looked t (at-known-told)), ap (λ (z : Parser). z .at) (c .before .before .before .before .moved .ensures))
 
 pub loop-again : (t : ℕ) → lts.Need-loop-again (pack-calls t) (pack-at t) pack.Post Inv-loop μ-loop
 loop-again t c =
-    let at-known-told = c .before .before .before .before .before .before in
-    let at-loop = before-known-told t at-known-told in
-    let at-start = before-at-loop t at-loop in
+    let at-known-told = c .before .before .before .before .before .before in let at-loop = before-known-told t at-known-told in let at-start = before-at-loop t at-loop in
     packing (at-start .pre .1 .1) (at-loop .loop .inv .room) (omega (arith, at-loop .loop .inv .deep))
     (λ σ h. packed-closes (at-loop .loop .inv .so-far σ h) (looked t (at-known-told)) (c .before .before .before .before .before .if1 .taken)
     (sym (c .before .before .before .pack-ends .ensures) ∙ c .before .before .if2 .left) (c .before .before .before .before .moved .ensures)
@@ -166,9 +150,7 @@ loop-again t c =
 
 pub comma-requires : (t : ℕ) → lts.Need-comma-requires (pack-calls t) (pack-at t) pack.Post Inv-loop μ-loop
 comma-requires t c κs =
-    let at-known-told = c .before .before in
-    let at-loop = before-known-told t at-known-told in
-    let at-start = before-at-loop t at-loop in
+    let at-known-told = c .before .before in let at-loop = before-known-told t at-known-told in let at-start = before-at-loop t at-loop in
     at-loop .loop .inv .so-far _ (at-start .pre .1 .1) .holds .text
 
 pub pack-opens-requires : (t : ℕ) → lts.Need-pack-opens-requires (pack-calls t) (pack-at t) pack.Post Inv-loop μ-loop
@@ -176,30 +158,22 @@ pack-opens-requires t c κs = search needs
 
 pub mul-outer : (t : ℕ) → lts.Need-mul-outer (pack-calls t) (pack-at t) pack.Post Inv-loop μ-loop
 mul-outer t c =
-    let at-comma = c .before .before .before .before in
-    let at-known-told = before-comma t at-comma in
-    let at-loop = before-known-told t at-known-told in
+    let at-comma = c .before .before .before .before in let at-known-told = before-comma t at-comma in let at-loop = before-known-told t at-known-told in
     omega (arith, at-loop .loop .inv .deep)
 
 pub array-write-outer : (t : ℕ) → lts.Need-array-write-outer (pack-calls t) (pack-at t) pack.Post Inv-loop μ-loop
 array-write-outer t c =
-    let at-comma = c .before .before .before .before in
-    let at-known-told = before-comma t at-comma in
-    let at-loop = before-known-told t at-known-told in
+    let at-comma = c .before .before .before .before in let at-known-told = before-comma t at-comma in let at-loop = before-known-told t at-known-told in
     opens-J (at-loop .loop .level) (at-known-told .before .c .given .0 .0) (sym (c .before .pack-opens .ensures) ∙ c .if3 .taken) .1
 
 pub add-level : (t : ℕ) → lts.Need-add-level (pack-calls t) (pack-at t) pack.Post Inv-loop μ-loop
 add-level t c =
-    let at-comma = c .before .before .before .before in
-    let at-known-told = before-comma t at-comma in
-    let at-loop = before-known-told t at-known-told in
+    let at-comma = c .before .before .before .before in let at-known-told = before-comma t at-comma in let at-loop = before-known-told t at-known-told in
     omega (arith, at-loop .loop .inv .deep)
 
 pub add-moved-2 : (t : ℕ) → lts.Need-add-moved-2 (pack-calls t) (pack-at t) pack.Post Inv-loop μ-loop
 add-moved-2 t c =
-    let at-comma = c .before .before .before .before in
-    let at-known-told = before-comma t at-comma in
-    let at-loop = before-known-told t at-known-told in
+    let at-comma = c .before .before .before .before in let at-known-told = before-comma t at-comma in let at-loop = before-known-told t at-known-told in
     let at-start = before-at-loop t at-loop in
     let l = at-loop .loop .inv .so-far _ (at-start .pre .1 .1) in omega (arith, inside l (looked t (at-known-told)), l .holds .source)
 
@@ -208,17 +182,13 @@ moved-requires-2 t c κs = search needs
 
 pub loop-less-2 : (t : ℕ) → lts.Need-loop-less-2 (pack-calls t) (pack-at t) pack.Post Inv-loop μ-loop
 loop-less-2 t c =
-    let at-comma = c .before .before .before .before .before in
-    let at-known-told = before-comma t at-comma in
-    let at-loop = before-known-told t at-known-told in
+    let at-comma = c .before .before .before .before .before in let at-known-told = before-comma t at-comma in let at-loop = before-known-told t at-known-told in
     let at-start = before-at-loop t at-loop in
     omega (arith, inside (at-loop .loop .inv .so-far _ (at-start .pre .1 .1)) (looked t (at-known-told)), ap (λ (z : Parser). z .at) (c .moved2 .ensures))
 
 pub loop-again-2 : (t : ℕ) → lts.Need-loop-again-2 (pack-calls t) (pack-at t) pack.Post Inv-loop μ-loop
 loop-again-2 t c =
-    let at-comma = c .before .before .before .before .before in
-    let at-known-told = before-comma t at-comma in
-    let at-loop = before-known-told t at-known-told in
+    let at-comma = c .before .before .before .before .before in let at-known-told = before-comma t at-comma in let at-loop = before-known-told t at-known-told in
     let at-start = before-at-loop t at-loop in
     packing (at-start .pre .1 .1) (length-set (at-loop .loop .outer) (at-loop .loop .level) (at-loop .loop .n) ∙ at-loop .loop .inv .room)
     (omega (arith, opens-J (at-loop .loop .level) (at-known-told .before .c .given .0 .0) (sym (c .before .before .pack-opens .ensures) ∙ c .before .if3 .taken) .1))
@@ -227,9 +197,7 @@ loop-again-2 t c =
 
 pub arg-requires : (t : ℕ) → lts.Need-arg-requires (pack-calls t) (pack-at t) pack.Post Inv-loop μ-loop
 arg-requires t c κs =
-    let at-comma = c .before .before .before .before .before .before .before in
-    let at-known-told = before-comma t at-comma in
-    let at-loop = before-known-told t at-known-told in
+    let at-comma = c .before .before .before .before .before .before .before in let at-known-told = before-comma t at-comma in let at-loop = before-known-told t at-known-told in
     let at-start = before-at-loop t at-loop in
     let l = at-loop .loop .inv .so-far _ (at-start .pre .1 .1) in (omega (arith, at-start .pre .0, l .more, ap (λ (z : Parser). z .at) (at-comma .comma .ensures .same)), (l .state, holds-puts (at-comma .comma .ensures) (l .holds)))
 
@@ -241,62 +209,44 @@ enum-told-2 t c = search needs
 
 pub same-length-7 : (t : ℕ) → lts.Need-same-length-7 (pack-calls t) (pack-at t) pack.Post Inv-loop μ-loop
 same-length-7 t c =
-    let at-arg = c .before .before .before .before .before .before .before .before in
-    let at-comma = before-arg t at-arg in
-    let at-known-told = before-comma t at-comma in
-    let at-loop = before-known-told t at-known-told in
-    let at-start = before-at-loop t at-loop in
+    let at-arg = c .before .before .before .before .before .before .before .before in let at-comma = before-arg t at-arg in let at-known-told = before-comma t at-comma in
+    let at-loop = before-known-told t at-known-told in let at-start = before-at-loop t at-loop in
     omega (arith, at-arg .arg .kept, at-comma .comma .ensures .put .stack .size, at-start .pre .1 .1 .text .size)
 
 pub same-length-8 : (t : ℕ) → lts.Need-same-length-8 (pack-calls t) (pack-at t) pack.Post Inv-loop μ-loop
 same-length-8 t c =
-    let at-arg = c .before .before .before .before .before .before .before .before in
-    let at-comma = before-arg t at-arg in
-    let at-known-told = before-comma t at-comma in
+    let at-arg = c .before .before .before .before .before .before .before .before in let at-comma = before-arg t at-arg in let at-known-told = before-comma t at-comma in
     let at-loop = before-known-told t at-known-told in
     omega (arith, at-arg .arg .kept, at-loop .loop .inv .store-same)
 
 pub same-length-9 : (t : ℕ) → lts.Need-same-length-9 (pack-calls t) (pack-at t) pack.Post Inv-loop μ-loop
 same-length-9 t c =
-    let at-arg = c .before .before .before .before .before .before .before .before in
-    let at-comma = before-arg t at-arg in
-    let at-known-told = before-comma t at-comma in
+    let at-arg = c .before .before .before .before .before .before .before .before in let at-comma = before-arg t at-arg in let at-known-told = before-comma t at-comma in
     let at-loop = before-known-told t at-known-told in
     omega (arith, at-arg .arg .kept, at-loop .loop .inv .ends-same)
 
 pub returns-3 : (t : ℕ) → lts.Need-returns-3 (pack-calls t) (pack-at t) pack.Post Inv-loop μ-loop
 returns-3 t c =
-    let at-arg = c .before .before .before .before .before .before .before .before in
-    let at-comma = before-arg t at-arg in
-    let at-known-told = before-comma t at-comma in
+    let at-arg = c .before .before .before .before .before .before .before .before in let at-comma = before-arg t at-arg in let at-known-told = before-comma t at-comma in
     let at-loop = before-known-told t at-known-told in
     λ σ h. packed-refuses (at-loop .loop .inv .so-far σ h) (looked t (at-known-told)) (λ e. omega (arith, e, at-comma .before .before .if1 .left)) (at-comma .comma .ensures) (at-arg .arg .ensures) (c .enum-told2 .given .1)
 
 pub add-sum-2 : (t : ℕ) → lts.Need-add-sum-2 (pack-calls t) (pack-at t) pack.Post Inv-loop μ-loop
 add-sum-2 t c =
-    let at-arg = c .before .before .before .before .before .before .before .before .before in
-    let at-comma = before-arg t at-arg in
-    let at-known-told = before-comma t at-comma in
-    let at-loop = before-known-told t at-known-told in
-    let at-start = before-at-loop t at-loop in
+    let at-arg = c .before .before .before .before .before .before .before .before .before in let at-comma = before-arg t at-arg in let at-known-told = before-comma t at-comma in
+    let at-loop = before-known-told t at-known-told in let at-start = before-at-loop t at-loop in
     omega (arith, text-short (at-loop .loop .inv .so-far _ (at-start .pre .1 .1)) (looked t (at-known-told)) (λ e. omega (arith, e, at-comma .before .before .if1 .left)) (at-comma .comma .ensures) (at-arg .arg .ensures) (c .before .got .given .1))
 
 pub sum-requires-2 : (t : ℕ) → lts.Need-sum-requires-2 (pack-calls t) (pack-at t) pack.Post Inv-loop μ-loop
 sum-requires-2 t c κs =
-    let at-arg = c .before .before .before .before .before .before .before .before .before in
-    let at-comma = before-arg t at-arg in
-    let at-known-told = before-comma t at-comma in
-    let at-loop = before-known-told t at-known-told in
-    let at-start = before-at-loop t at-loop in
+    let at-arg = c .before .before .before .before .before .before .before .before .before in let at-comma = before-arg t at-arg in let at-known-told = before-comma t at-comma in
+    let at-loop = before-known-told t at-known-told in let at-start = before-at-loop t at-loop in
     let l = at-loop .loop .inv .so-far _ (at-start .pre .1 .1) in (omega (arith, l .size), omega (arith, text-short l (looked t (at-known-told)) (λ e. omega (arith, e, at-comma .before .before .if1 .left)) (at-comma .comma .ensures) (at-arg .arg .ensures) (c .before .got .given .1)))
 
 pub loop-less-3 : (t : ℕ) → lts.Need-loop-less-3 (pack-calls t) (pack-at t) pack.Post Inv-loop μ-loop
 loop-less-3 t c =
-    let at-arg = c .before .before .before .before .before .before .before .before .before .before in
-    let at-comma = before-arg t at-arg in
-    let at-known-told = before-comma t at-comma in
-    let at-loop = before-known-told t at-known-told in
-    let at-start = before-at-loop t at-loop in
+    let at-arg = c .before .before .before .before .before .before .before .before .before .before in let at-comma = before-arg t at-arg in
+    let at-known-told = before-comma t at-comma in let at-loop = before-known-told t at-known-told in let at-start = before-at-loop t at-loop in
     let l = at-loop .loop .inv .so-far _ (at-start .pre .1 .1) in omega (
       arith,
       inside l (looked t (at-known-told)),
@@ -306,11 +256,8 @@ loop-less-3 t c =
 
 pub loop-again-3 : (t : ℕ) → lts.Need-loop-again-3 (pack-calls t) (pack-at t) pack.Post Inv-loop μ-loop
 loop-again-3 t c =
-    let at-arg = c .before .before .before .before .before .before .before .before .before .before in
-    let at-comma = before-arg t at-arg in
-    let at-known-told = before-comma t at-comma in
-    let at-loop = before-known-told t at-known-told in
-    let at-start = before-at-loop t at-loop in
+    let at-arg = c .before .before .before .before .before .before .before .before .before .before in let at-comma = before-arg t at-arg in
+    let at-known-told = before-comma t at-comma in let at-loop = before-known-told t at-known-told in let at-start = before-at-loop t at-loop in
     packing (at-start .pre .1 .1) (at-loop .loop .inv .room) (at-loop .loop .inv .deep)
     (λ σ h. packed-more (at-loop .loop .inv .so-far σ h) (looked t (at-known-told)) (λ e. omega (arith, e, at-comma .before .before .if1 .left)) (at-comma .comma .ensures)
     (at-arg .arg .ensures) (c .before .before .got .given .1) (c .sum2 .ensures))

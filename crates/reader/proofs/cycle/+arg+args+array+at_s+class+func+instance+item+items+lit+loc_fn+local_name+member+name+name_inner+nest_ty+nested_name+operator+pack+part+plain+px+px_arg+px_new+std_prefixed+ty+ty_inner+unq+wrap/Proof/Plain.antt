@@ -83,17 +83,14 @@ same-length-6 t c = search needs
 pub returns-2 : (t : ℕ) → lts.Need-returns-2 (plain-calls t) (plain-at t) plain.Post
 unfolding b
 returns-2 t c =
-    let at-got = c .before .before .before in
-    let at-unq = before-got t at-got in
+    let at-got = c .before .before .before in let at-unq = before-got t at-got in
     λ σ h. let g = got (c .before .before .before .got .given .1) (at-unq .unq .ensures σ h) in
     by (unscoped-step σ (g .is) ∙ at-code-no "I" _ _ _ (ap (λ u. starts u (b "I")) (g .wrote .holds .rest) ∙ sym (c .before .here .ensures) ∙ not-true _ (c .if1 .taken)))
     (reads (g .wrote))
 
 pub push-sub-requires : (t : ℕ) → lts.Need-push-sub-requires (plain-calls t) (plain-at t) plain.Post
 push-sub-requires t c κs =
-    let at-got = c .before .before .before .before .before .before in
-    let at-unq = before-got t at-got in
-    let at-start = before-unq t at-unq in
+    let at-got = c .before .before .before .before .before .before in let at-unq = before-got t at-got in let at-start = before-unq t at-unq in
     let w = got (at-got .got .given .1) (at-unq .unq .ensures _ (at-start .pre .1 .1)) .wrote in
     ((_, (_, w .holds)), omega (arith, stands-top (stood w) (omega (arith, w .short))))
 
@@ -115,53 +112,41 @@ same-length-9 t c = search needs
 pub returns-3 : (t : ℕ) → lts.Need-returns-3 (plain-calls t) (plain-at t) plain.Post
 unfolding b onto
 returns-3 t c =
-    let at-push-sub = c .before .before .before .before .before .before in
-    let at-got = before-push-sub t at-push-sub in
-    let at-unq = before-got t at-got in
+    let at-push-sub = c .before .before .before .before .before .before in let at-got = before-push-sub t at-push-sub in let at-unq = before-got t at-got in
     λ σ h. let g = got (at-got .got .given .1) (at-unq .unq .ensures σ h) in
     by (unscoped-step σ (g .is) ∙ at-code-yes "I" _ _ _ (ap (λ u. starts u (b "I")) (g .wrote .holds .rest) ∙ sym (at-push-sub .before .before .before .before .before .here .ensures) ∙ not-false _ (at-push-sub .before .before .before .before .if1 .left)))
     (push-refused _ (c .enum-told2 .given .1) (at-push-sub .push-sub .ensures _ _ _ _ _ _ _ (stood (g .wrote))))
 
 pub instance-requires : (t : ℕ) → lts.Need-instance-requires (plain-calls t) (plain-at t) plain.Post
 instance-requires t c κs =
-    let at-push-sub = c .before .before .before .before .before .before .before .before .before .before in
-    let at-got = before-push-sub t at-push-sub in
-    let at-unq = before-got t at-got in
-    let at-start = before-unq t at-unq in
+    let at-push-sub = c .before .before .before .before .before .before .before .before .before .before in let at-got = before-push-sub t at-push-sub in
+    let at-unq = before-got t at-got in let at-start = before-unq t at-unq in
     let w = got (at-got .got .given .1) (at-unq .unq .ensures _ (at-start .pre .1 .1)) .wrote in
     let v = kept (stood w) (c .before .before .before .before .kept .given .1) (at-push-sub .push-sub .ensures _ _ _ _ _ _ _ (stood w)) in
     (omega (arith, at-start .pre .0, v .stands .more), ((v .state, v .stands .holds), (omega (arith, w .size, w .short), stands-top (v .stands) (omega (arith, w .short)))))
 
 pub same-length-10 : (t : ℕ) → lts.Need-same-length-10 (plain-calls t) (plain-at t) plain.Post
 same-length-10 t c =
-    let at-instance = c .before .before .before .before .before .before in
-    let at-push-sub = before-instance t at-instance in
-    let at-got = before-push-sub t at-push-sub in
+    let at-instance = c .before .before .before .before .before .before in let at-push-sub = before-instance t at-instance in let at-got = before-push-sub t at-push-sub in
     let at-unq = before-got t at-got in
     omega (arith, at-instance .instance .kept, at-push-sub .push-sub .kept, at-unq .unq .kept)
 
 pub same-length-11 : (t : ℕ) → lts.Need-same-length-11 (plain-calls t) (plain-at t) plain.Post
 same-length-11 t c =
-    let at-instance = c .before .before .before .before .before .before in
-    let at-push-sub = before-instance t at-instance in
-    let at-got = before-push-sub t at-push-sub in
+    let at-instance = c .before .before .before .before .before .before in let at-push-sub = before-instance t at-instance in let at-got = before-push-sub t at-push-sub in
     let at-unq = before-got t at-got in
     omega (arith, at-instance .instance .kept, at-push-sub .push-sub .kept, at-unq .unq .kept)
 
 pub same-length-12 : (t : ℕ) → lts.Need-same-length-12 (plain-calls t) (plain-at t) plain.Post
 same-length-12 t c =
-    let at-instance = c .before .before .before .before .before .before in
-    let at-push-sub = before-instance t at-instance in
-    let at-got = before-push-sub t at-push-sub in
+    let at-instance = c .before .before .before .before .before .before in let at-push-sub = before-instance t at-instance in let at-got = before-push-sub t at-push-sub in
     let at-unq = before-got t at-got in
     omega (arith, at-instance .instance .kept, at-push-sub .push-sub .kept, at-unq .unq .kept)
 
 pub returns-4 : (t : ℕ) → lts.Need-returns-4 (plain-calls t) (plain-at t) plain.Post
 unfolding b onto
 returns-4 t c =
-    let at-instance = c .before .before .before .before .before .before in
-    let at-push-sub = before-instance t at-instance in
-    let at-got = before-push-sub t at-push-sub in
+    let at-instance = c .before .before .before .before .before .before in let at-push-sub = before-instance t at-instance in let at-got = before-push-sub t at-push-sub in
     let at-unq = before-got t at-got in
     λ σ h. let g = got (at-got .got .given .1) (at-unq .unq .ensures σ h) in
     let v = kept (stood (g .wrote)) (at-instance .before .before .before .before .before .kept .given .1) (at-push-sub .push-sub .ensures _ _ _ _ _ _ _ (stood (g .wrote))) in

@@ -42,8 +42,7 @@ same-length t c = search needs
 
 pub returns : (t : ℕ) → lts.Need-returns (px-calls t) (px-at t) px.Post
 returns t c rest e base from ps σ h =
-    let at-structor = c .before .before .before .before .before in
-    let at-start = before-structor t at-structor in
+    let at-structor = c .before .before .before .before .before in let at-start = before-structor t at-structor in
     let s = (ap structor-ahead (h .stands .holds .rest) ∙ sym (at-structor .structor .ensures) ∙ c .before .before .before .before .if1 .taken) in
     let r = h .stands .holds .rest ∙ e in
     let (x, (v, f)) = two-bytes (at-start .args .c) rest (ap structor-ahead (sym r) ∙ s) in
@@ -51,9 +50,7 @@ returns t c rest e base from ps σ h =
 
 pub px-arg-requires : (t : ℕ) → lts.Need-px-arg-requires (px-calls t) (px-at t) px.Post
 px-arg-requires t c κs =
-    let at-else1 = c .before .before .before .before in
-    let at-structor = before-else1 t at-else1 in
-    let at-start = before-structor t at-structor in
+    let at-else1 = c .before .before .before .before in let at-structor = before-else1 t at-else1 in let at-start = before-structor t at-structor in
     (omega (arith, at-start .pre .0), at-start .pre .1)
 
 pub separated-requires : (t : ℕ) → lts.Need-separated-requires (px-calls t) (px-at t) px.Post
@@ -61,9 +58,7 @@ separated-requires t c κs = search needs
 
 pub substitution-requires : (t : ℕ) → lts.Need-substitution-requires (px-calls t) (px-at t) px.Post
 substitution-requires t c κs =
-    let at-separated = c .before .before .before .before .before in
-    let at-else1 = before-separated t at-separated in
-    let at-structor = before-else1 t at-else1 in
+    let at-separated = c .before .before .before .before .before in let at-else1 = before-separated t at-separated in let at-structor = before-else1 t at-else1 in
     let at-start = before-structor t at-structor in
     (at-start .pre .1 .0 .0, holds-puts (at-separated .separated .ensures) (at-start .pre .1 .0 .1))
 
@@ -87,9 +82,7 @@ same-length-4 t c = search needs
 
 pub returns-2 : (t : ℕ) → lts.Need-returns-2 (px-calls t) (px-at t) px.Post
 returns-2 t c rest e base from ps σ h =
-    let at-substitution = c .before .before .before .before .before in
-    let at-separated = before-substitution t at-substitution in
-    let at-else1 = before-separated t at-separated in
+    let at-substitution = c .before .before .before .before .before in let at-separated = before-substitution t at-substitution in let at-else1 = before-separated t at-separated in
     let at-structor = before-else1 t at-else1 in
     let u = at-separated .separated .ensures in
     parts-by (prefix-S ps σ (ap structor-ahead (h .stands .holds .rest) ∙ sym (at-structor .structor .ensures) ∙ at-else1 .if1 .left) (h .stands .holds .rest ∙ e) (at-separated .before .before .match .keys2) ∙ old-is ps σ)
@@ -97,19 +90,14 @@ returns-2 t c rest e base from ps σ h =
 
 pub longer-requires : (t : ℕ) → lts.Need-longer-requires (px-calls t) (px-at t) px.Post
 longer-requires t c κs =
-    let at-substitution = c .before .before .before .before .before in
-    let at-separated = before-substitution t at-substitution in
-    let at-else1 = before-separated t at-separated in
-    let at-structor = before-else1 t at-else1 in
-    let at-start = before-structor t at-structor in
+    let at-substitution = c .before .before .before .before .before in let at-separated = before-substitution t at-substitution in let at-else1 = before-separated t at-separated in
+    let at-structor = before-else1 t at-else1 in let at-start = before-structor t at-structor in
     let a = got (c .before .got .given .1) (at-substitution .substitution .ensures (at-start .pre .1 .0 .0) (holds-puts (at-separated .separated .ensures) (at-start .pre .1 .0 .1))) in
     (omega (arith, a .wrote .size, a .wrote .short), at-start .pre .1 .1 .0)
 
 pub px-new-requires : (t : ℕ) → lts.Need-px-new-requires (px-calls t) (px-at t) px.Post
 px-new-requires t c κs =
-    let at-else1 = c .before .before .before .before in
-    let at-structor = before-else1 t at-else1 in
-    let at-start = before-structor t at-structor in
+    let at-else1 = c .before .before .before .before in let at-structor = before-else1 t at-else1 in let at-start = before-structor t at-structor in
     (omega (arith, at-start .pre .0), at-start .pre .1)
 
 pub same-length-5 : (t : ℕ) → lts.Need-same-length-5 (px-calls t) (px-at t) px.Post
@@ -123,8 +111,7 @@ same-length-7 t c = search needs
 
 pub returns-3 : (t : ℕ) → lts.Need-returns-3 (px-calls t) (px-at t) px.Post
 returns-3 t c rest e base from ps σ h =
-    let at-else1 = c .before .before .before .before .before .before .before .before .before .before .before in
-    let at-structor = before-else1 t at-else1 in
+    let at-else1 = c .before .before .before .before .before .before .before .before .before .before .before in let at-structor = before-else1 t at-else1 in
     parts-by (prefix-I ps σ (ap structor-ahead (h .stands .holds .rest) ∙ sym (at-structor .structor .ensures) ∙ at-else1 .if1 .left) (h .stands .holds .rest ∙ e)
     (c .before .before .before .before .before .before .before .before .before .before .match .keys1))
     (c .before .before .before .before .before .before .px-arg .ensures base from ps σ h)
@@ -140,10 +127,8 @@ same-length-10 t c = search needs
 
 pub returns-4 : (t : ℕ) → lts.Need-returns-4 (px-calls t) (px-at t) px.Post
 returns-4 t c rest e base from ps σ h =
-    let at-substitution = c .before .before .before .before .before .before in
-    let at-separated = before-substitution t at-substitution in
-    let at-else1 = before-separated t at-separated in
-    let at-structor = before-else1 t at-else1 in
+    let at-substitution = c .before .before .before .before .before .before in let at-separated = before-substitution t at-substitution in
+    let at-else1 = before-separated t at-separated in let at-structor = before-else1 t at-else1 in
     let u = at-separated .separated .ensures in
     let a = got (c .before .before .got .given .1) (at-substitution .substitution .ensures σ (holds-puts u (h .stands .holds))) in
     parts-by (prefix-S ps σ (ap structor-ahead (h .stands .holds .rest) ∙ sym (at-structor .structor .ensures) ∙ at-else1 .if1 .left) (h .stands .holds .rest ∙ e) (at-separated .before .before .match .keys2) ∙ old-is ps σ ∙ then-ok _ (a .is))
@@ -160,8 +145,7 @@ same-length-13 t c = search needs
 
 pub returns-5 : (t : ℕ) → lts.Need-returns-5 (px-calls t) (px-at t) px.Post
 returns-5 t c rest e base from ps σ h =
-    let at-else1 = c .before .before .before .before .before .before .before .before .before .before .before in
-    let at-structor = before-else1 t at-else1 in
+    let at-else1 = c .before .before .before .before .before .before .before .before .before .before .before in let at-structor = before-else1 t at-else1 in
     parts-by (prefix-new ps σ (ap structor-ahead (h .stands .holds .rest) ∙ sym (at-structor .structor .ensures) ∙ at-else1 .if1 .left) (h .stands .holds .rest ∙ e)
     (c .before .before .before .before .before .before .before .before .before .before .match .rest .0 .1)
     (c .before .before .before .before .before .before .before .before .before .before .match .rest .1))

@@ -37,8 +37,7 @@ clear-args-requires t c κs = search needs
 
 pub args-requires : (t : ℕ) → lts.Need-args-requires (px-arg-calls t) (px-arg-at t) px-arg.Post
 args-requires t c κs =
-    let at-clear-args = c .before .before .before in
-    let at-start = before-clear-args t at-clear-args in
+    let at-clear-args = c .before .before .before in let at-start = before-clear-args t at-clear-args in
     let k = c .before .before .before .clear-args .ensures in
     (omega (arith, at-start .pre .0, ap (λ (r : Parser). r .at) (k .0)), (with-args [] (at-start .pre .1 .0 .0), k .1 _ _ (at-start .pre .1 .0 .0) (at-start .pre .1 .0 .1)))
 
@@ -62,8 +61,7 @@ same-length-3 t c = search needs
 
 pub returns : (t : ℕ) → lts.Need-returns (px-arg-calls t) (px-arg-at t) px-arg.Post
 returns t c base from ps σ h =
-    let at-args2 = c .before .before .before .before .before .before .before .before .before in
-    let at-clear-args = before-args2 t at-args2 in
+    let at-args2 = c .before .before .before .before .before .before .before .before .before in let at-clear-args = before-args2 t at-args2 in
     parts-by (args-is ps σ) (unread-on (After ps) (c .before .enum-told .given .1) (c .unread .ensures) (at-args2 .args2 .ensures (with-args [] σ) (at-clear-args .clear-args .ensures .1 _ _ σ (h .stands .holds))))
 
 pub same-length-4 : (t : ℕ) → lts.Need-same-length-4 (px-arg-calls t) (px-arg-at t) px-arg.Post
@@ -77,9 +75,7 @@ same-length-6 t c = search needs
 
 pub returns-2 : (t : ℕ) → lts.Need-returns-2 (px-arg-calls t) (px-arg-at t) px-arg.Post
 returns-2 t c base from ps σ h =
-    let at-got = c .before .before .before in
-    let at-args2 = before-got t at-got in
-    let at-clear-args = before-args2 t at-args2 in
+    let at-got = c .before .before .before in let at-args2 = before-got t at-got in let at-clear-args = before-args2 t at-args2 in
     let k = at-clear-args .clear-args .ensures in
     let a = got (c .before .before .before .got .given .1) (at-args2 .args2 .ensures (with-args [] σ) (k .1 _ _ σ (h .stands .holds))) in
     let z : length (ps .texts) ≡ 0 = omega (arith, h .count, c .if1 .taken) in
@@ -87,9 +83,7 @@ returns-2 t c base from ps σ h =
 
 pub sum-requires : (t : ℕ) → lts.Need-sum-requires (px-arg-calls t) (px-arg-at t) px-arg.Post
 sum-requires t c κs =
-    let at-got = c .before .before .before in
-    let at-args2 = before-got t at-got in
-    let at-clear-args = before-args2 t at-args2 in
+    let at-got = c .before .before .before in let at-args2 = before-got t at-got in let at-clear-args = before-args2 t at-args2 in
     let at-start = before-clear-args t at-clear-args in
     let k = at-clear-args .clear-args .ensures in
     let h = k .1 _ _ (at-start .pre .1 .0 .0) (at-start .pre .1 .0 .1) in
@@ -98,9 +92,7 @@ sum-requires t c κs =
 
 pub push-sub-requires : (t : ℕ) → lts.Need-push-sub-requires (px-arg-calls t) (px-arg-at t) px-arg.Post
 push-sub-requires t c κs =
-    let at-got = c .before .before .before .before .before .before .before in
-    let at-args2 = before-got t at-got in
-    let at-clear-args = before-args2 t at-args2 in
+    let at-got = c .before .before .before .before .before .before .before in let at-args2 = before-got t at-got in let at-clear-args = before-args2 t at-args2 in
     let at-start = before-clear-args t at-clear-args in
     let k = at-clear-args .clear-args .ensures in
     let h = k .1 _ _ (at-start .pre .1 .0 .0) (at-start .pre .1 .0 .1) in
@@ -123,23 +115,17 @@ same-length-7 t c = search needs
 
 pub same-length-8 : (t : ℕ) → lts.Need-same-length-8 (px-arg-calls t) (px-arg-at t) px-arg.Post
 same-length-8 t c =
-    let at-push-sub = c .before .before .before .before .before .before .before in
-    let at-got = before-push-sub t at-push-sub in
-    let at-args2 = before-got t at-got in
+    let at-push-sub = c .before .before .before .before .before .before .before in let at-got = before-push-sub t at-push-sub in let at-args2 = before-got t at-got in
     omega (arith, at-args2 .args2 .kept, at-push-sub .push-sub .kept)
 
 pub same-length-9 : (t : ℕ) → lts.Need-same-length-9 (px-arg-calls t) (px-arg-at t) px-arg.Post
 same-length-9 t c =
-    let at-push-sub = c .before .before .before .before .before .before .before in
-    let at-got = before-push-sub t at-push-sub in
-    let at-args2 = before-got t at-got in
+    let at-push-sub = c .before .before .before .before .before .before .before in let at-got = before-push-sub t at-push-sub in let at-args2 = before-got t at-got in
     omega (arith, at-args2 .args2 .kept, at-push-sub .push-sub .kept)
 
 pub returns-3 : (t : ℕ) → lts.Need-returns-3 (px-arg-calls t) (px-arg-at t) px-arg.Post
 returns-3 t c base from ps σ h =
-    let at-push-sub = c .before .before .before .before .before .before .before in
-    let at-got = before-push-sub t at-push-sub in
-    let at-args2 = before-got t at-got in
+    let at-push-sub = c .before .before .before .before .before .before .before in let at-got = before-push-sub t at-push-sub in let at-args2 = before-got t at-got in
     let at-clear-args = before-args2 t at-args2 in
     let k = at-clear-args .clear-args .ensures in
     let a = got (at-got .got .given .1) (at-args2 .args2 .ensures (with-args [] σ) (k .1 _ _ σ (h .stands .holds))) in
@@ -156,11 +142,8 @@ with-templated-requires t c κs = search needs
 
 pub sum-requires-2 : (t : ℕ) → lts.Need-sum-requires-2 (px-arg-calls t) (px-arg-at t) px-arg.Post
 sum-requires-2 t c κs =
-    let at-push-sub = c .before .before .before .before .before .before .before .before .before in
-    let at-got = before-push-sub t at-push-sub in
-    let at-args2 = before-got t at-got in
-    let at-clear-args = before-args2 t at-args2 in
-    let at-start = before-clear-args t at-clear-args in
+    let at-push-sub = c .before .before .before .before .before .before .before .before .before in let at-got = before-push-sub t at-push-sub in
+    let at-args2 = before-got t at-got in let at-clear-args = before-args2 t at-args2 in let at-start = before-clear-args t at-clear-args in
     let k = at-clear-args .clear-args .ensures in
     let h = k .1 _ _ (at-start .pre .1 .0 .0) (at-start .pre .1 .0 .1) in
     let a = got (at-got .got .given .1) (at-args2 .args2 .ensures (with-args [] (at-start .pre .1 .0 .0)) h) in
@@ -168,31 +151,26 @@ sum-requires-2 t c κs =
 
 pub same-length-10 : (t : ℕ) → lts.Need-same-length-10 (px-arg-calls t) (px-arg-at t) px-arg.Post
 same-length-10 t c =
-    let at-push-sub = c .before .before .before .before .before .before .before .before .before .before in
-    let at-got = before-push-sub t at-push-sub in
+    let at-push-sub = c .before .before .before .before .before .before .before .before .before .before in let at-got = before-push-sub t at-push-sub in
     let at-args2 = before-got t at-got in
     omega (arith, at-args2 .args2 .kept, at-push-sub .push-sub .kept)
 
 pub same-length-11 : (t : ℕ) → lts.Need-same-length-11 (px-arg-calls t) (px-arg-at t) px-arg.Post
 same-length-11 t c =
-    let at-push-sub = c .before .before .before .before .before .before .before .before .before .before in
-    let at-got = before-push-sub t at-push-sub in
+    let at-push-sub = c .before .before .before .before .before .before .before .before .before .before in let at-got = before-push-sub t at-push-sub in
     let at-args2 = before-got t at-got in
     omega (arith, at-args2 .args2 .kept, at-push-sub .push-sub .kept)
 
 pub same-length-12 : (t : ℕ) → lts.Need-same-length-12 (px-arg-calls t) (px-arg-at t) px-arg.Post
 same-length-12 t c =
-    let at-push-sub = c .before .before .before .before .before .before .before .before .before .before in
-    let at-got = before-push-sub t at-push-sub in
+    let at-push-sub = c .before .before .before .before .before .before .before .before .before .before in let at-got = before-push-sub t at-push-sub in
     let at-args2 = before-got t at-got in
     omega (arith, at-args2 .args2 .kept, at-push-sub .push-sub .kept)
 
 pub returns-4 : (t : ℕ) → lts.Need-returns-4 (px-arg-calls t) (px-arg-at t) px-arg.Post
 returns-4 t c base from ps σ h =
-    let at-push-sub = c .before .before .before .before .before .before .before .before .before .before in
-    let at-got = before-push-sub t at-push-sub in
-    let at-args2 = before-got t at-got in
-    let at-clear-args = before-args2 t at-args2 in
+    let at-push-sub = c .before .before .before .before .before .before .before .before .before .before in let at-got = before-push-sub t at-push-sub in
+    let at-args2 = before-got t at-got in let at-clear-args = before-args2 t at-args2 in
     let k = at-clear-args .clear-args .ensures in
     let a = got (at-got .got .given .1) (at-args2 .args2 .ensures (with-args [] σ) (k .1 _ _ σ (h .stands .holds))) in
     let z : 0 < length (ps .texts) = omega (arith, h .count, at-push-sub .before .before .before .before .before .if1 .left) in

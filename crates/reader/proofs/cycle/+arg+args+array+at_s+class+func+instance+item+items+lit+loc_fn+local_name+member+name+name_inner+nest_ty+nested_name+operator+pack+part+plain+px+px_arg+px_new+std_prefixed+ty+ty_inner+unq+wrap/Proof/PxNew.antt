@@ -34,8 +34,7 @@ separated-requires t c κs = search needs
 
 pub part-requires : (t : ℕ) → lts.Need-part-requires (px-new-calls t) (px-new-at t) px-new.Post
 part-requires t c κs =
-    let at-separated = c .before .before .before .before .before in
-    let at-start = before-separated t at-separated in
+    let at-separated = c .before .before .before .before .before in let at-start = before-separated t at-separated in
     let u = at-separated .separated .ensures in
     (omega (arith, at-start .pre .0, ap (λ (r : Parser). r .at) (u .same)), (at-start .pre .1 .0 .0, holds-puts u (at-start .pre .1 .0 .1)))
 
@@ -59,15 +58,13 @@ same-length-3 t c = search needs
 
 pub returns : (t : ℕ) → lts.Need-returns (px-new-calls t) (px-new-at t) px-new.Post
 returns t c base from ps σ h =
-    let at-part = c .before .before .before .before .before .before .before .before .before in
-    let at-separated = before-part t at-part in
+    let at-part = c .before .before .before .before .before .before .before .before .before in let at-separated = before-part t at-part in
     let u = at-separated .separated .ensures in
     parts-by (new-is _ ps σ) (unread-on (Behind ps) (c .before .enum-told .given .1) (c .unread .ensures) (at-part .part .ensures σ (holds-puts u (h .stands .holds))))
 
 pub longer-requires : (t : ℕ) → lts.Need-longer-requires (px-new-calls t) (px-new-at t) px-new.Post
 longer-requires t c κs =
-    let at-part = c .before .before .before .before .before .before .before .before .before in
-    let at-separated = before-part t at-part in
+    let at-part = c .before .before .before .before .before .before .before .before .before in let at-separated = before-part t at-part in
     let at-start = before-separated t at-separated in
     let u = at-separated .separated .ensures in
     let h = at-start .pre .1 .0 .1 in
@@ -89,9 +86,7 @@ same-length-6 t c = search needs
 pub returns-2 : (t : ℕ) → lts.Need-returns-2 (px-new-calls t) (px-new-at t) px-new.Post
 unfolding b
 returns-2 t c base from ps σ h =
-    let at-longer = c .before .before in
-    let at-part = before-longer t at-longer in
-    let at-separated = before-part t at-part in
+    let at-longer = c .before .before in let at-part = before-longer t at-longer in let at-separated = before-part t at-part in
     let u = at-separated .separated .ensures in
     let a = got (c .before .before .before .before .got .given .1) (at-part .part .ensures σ (holds-puts u (h .stands .holds))) in
     parts-by (new-is _ ps σ ∙ then-ok (Behind ps) (a .is) ∙ behind-last ps (a .said) (a .state) (ahead-is _ _ _ (a .wrote .holds .rest) (c .before .here .ensures) (c .if1 .taken)))
@@ -99,9 +94,7 @@ returns-2 t c base from ps σ h =
 
 pub push-sub-requires : (t : ℕ) → lts.Need-push-sub-requires (px-new-calls t) (px-new-at t) px-new.Post
 push-sub-requires t c κs =
-    let at-longer = c .before .before .before .before .before in
-    let at-part = before-longer t at-longer in
-    let at-separated = before-part t at-part in
+    let at-longer = c .before .before .before .before .before in let at-part = before-longer t at-longer in let at-separated = before-part t at-part in
     let at-start = before-separated t at-separated in
     let u = at-separated .separated .ensures in
     let h = at-start .pre .1 .0 .1 in
@@ -121,9 +114,7 @@ unread-requires-2 t c κs = search needs
 
 pub same-length-7 : (t : ℕ) → lts.Need-same-length-7 (px-new-calls t) (px-new-at t) px-new.Post
 same-length-7 t c =
-    let at-push-sub = c .before .before .before .before .before .before .before in
-    let at-longer = before-push-sub t at-push-sub in
-    let at-part = before-longer t at-longer in
+    let at-push-sub = c .before .before .before .before .before .before .before in let at-longer = before-push-sub t at-push-sub in let at-part = before-longer t at-longer in
     let at-separated = before-part t at-part in
     omega (arith, at-separated .separated .kept, at-part .part .kept, at-push-sub .push-sub .kept)
 
@@ -136,9 +127,7 @@ same-length-9 t c = search needs
 pub returns-3 : (t : ℕ) → lts.Need-returns-3 (px-new-calls t) (px-new-at t) px-new.Post
 unfolding b
 returns-3 t c base from ps σ h =
-    let at-push-sub = c .before .before .before .before .before .before .before in
-    let at-longer = before-push-sub t at-push-sub in
-    let at-part = before-longer t at-longer in
+    let at-push-sub = c .before .before .before .before .before .before .before in let at-longer = before-push-sub t at-push-sub in let at-part = before-longer t at-longer in
     let at-separated = before-part t at-part in
     let u = at-separated .separated .ensures in
     let a = got (at-longer .before .before .got .given .1) (at-part .part .ensures σ (holds-puts u (h .stands .holds))) in
@@ -148,34 +137,26 @@ returns-3 t c base from ps σ h =
 
 pub same-length-10 : (t : ℕ) → lts.Need-same-length-10 (px-new-calls t) (px-new-at t) px-new.Post
 same-length-10 t c =
-    let at-push-sub = c .before .before .before .before .before .before .before in
-    let at-longer = before-push-sub t at-push-sub in
-    let at-part = before-longer t at-longer in
+    let at-push-sub = c .before .before .before .before .before .before .before in let at-longer = before-push-sub t at-push-sub in let at-part = before-longer t at-longer in
     let at-separated = before-part t at-part in
     omega (arith, at-separated .separated .kept, at-part .part .kept, at-push-sub .push-sub .kept)
 
 pub same-length-11 : (t : ℕ) → lts.Need-same-length-11 (px-new-calls t) (px-new-at t) px-new.Post
 same-length-11 t c =
-    let at-push-sub = c .before .before .before .before .before .before .before in
-    let at-longer = before-push-sub t at-push-sub in
-    let at-part = before-longer t at-longer in
+    let at-push-sub = c .before .before .before .before .before .before .before in let at-longer = before-push-sub t at-push-sub in let at-part = before-longer t at-longer in
     let at-separated = before-part t at-part in
     omega (arith, at-separated .separated .kept, at-part .part .kept, at-push-sub .push-sub .kept)
 
 pub same-length-12 : (t : ℕ) → lts.Need-same-length-12 (px-new-calls t) (px-new-at t) px-new.Post
 same-length-12 t c =
-    let at-push-sub = c .before .before .before .before .before .before .before in
-    let at-longer = before-push-sub t at-push-sub in
-    let at-part = before-longer t at-longer in
+    let at-push-sub = c .before .before .before .before .before .before .before in let at-longer = before-push-sub t at-push-sub in let at-part = before-longer t at-longer in
     let at-separated = before-part t at-part in
     omega (arith, at-separated .separated .kept, at-part .part .kept, at-push-sub .push-sub .kept)
 
 pub returns-4 : (t : ℕ) → lts.Need-returns-4 (px-new-calls t) (px-new-at t) px-new.Post
 unfolding b
 returns-4 t c base from ps σ h =
-    let at-push-sub = c .before .before .before .before .before .before .before in
-    let at-longer = before-push-sub t at-push-sub in
-    let at-part = before-longer t at-longer in
+    let at-push-sub = c .before .before .before .before .before .before .before in let at-longer = before-push-sub t at-push-sub in let at-part = before-longer t at-longer in
     let at-separated = before-part t at-part in
     let u = at-separated .separated .ensures in
     let a = got (at-longer .before .before .got .given .1) (at-part .part .ensures σ (holds-puts u (h .stands .holds))) in

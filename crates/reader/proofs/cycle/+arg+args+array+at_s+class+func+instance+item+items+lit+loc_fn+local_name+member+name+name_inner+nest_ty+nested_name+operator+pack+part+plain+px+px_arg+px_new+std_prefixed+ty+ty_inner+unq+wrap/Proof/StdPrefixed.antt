@@ -89,8 +89,7 @@ put-requires t c κs =
 
 pub unq-requires : (t : ℕ) → lts.Need-unq-requires (std-prefixed-calls t) (std-prefixed-at t) std-prefixed.Post
 unq-requires t c κs =
-    let at-put = c .before .before .before .before .before in
-    let at-start = before-put t at-put in
+    let at-put = c .before .before .before .before .before in let at-start = before-put t at-put in
     (omega (arith, at-start .pre .0, puts-at (at-put .before .before .moved .ensures) (at-put .put .ensures)), (_, word-holds (at-put .before .before .moved .ensures) (at-put .put .ensures) (at-start .pre .1 .0 .1) (std-inside _ _ (at-start .pre .1 .1))))
 
 pub enum-known-got : (t : ℕ) → lts.Need-enum-known-got (std-prefixed-calls t) (std-prefixed-at t) std-prefixed.Post
@@ -111,17 +110,12 @@ same-length-3 t c = search needs
 pub returns : (t : ℕ) → lts.Need-returns (std-prefixed-calls t) (std-prefixed-at t) std-prefixed.Post
 unfolding b
 returns t c =
-    let at-unq = c .before .before .before .before .before .before .before .before in
-    let at-put = before-unq t at-unq in
-    let at-start = before-put t at-put in
+    let at-unq = c .before .before .before .before .before .before .before .before in let at-put = before-unq t at-unq in let at-start = before-put t at-put in
     λ σ h. by (std-open (at-start .args .s .now) (at-start .args .p .at) σ (h .rest) (at-start .pre .1 .1)) (refused-on _ (c .enum-told .given .1) (at-unq .unq .ensures _ (word-holds (at-put .before .before .moved .ensures) (at-put .put .ensures) h (std-inside _ _ (at-start .pre .1 .1)))))
 
 pub add-n : (t : ℕ) → lts.Need-add-n (std-prefixed-calls t) (std-prefixed-at t) std-prefixed.Post
 add-n t c =
-    let at-got = c .before in
-    let at-unq = before-got t at-got in
-    let at-put = before-unq t at-unq in
-    let at-start = before-put t at-put in
+    let at-got = c .before in let at-unq = before-got t at-got in let at-put = before-unq t at-unq in let at-start = before-put t at-put in
     let w = got (c .before .got .given .1) (at-unq .unq .ensures _ (word-holds (at-put .before .before .moved .ensures) (at-put .put .ensures) (at-start .pre .1 .0 .1) (std-inside _ _ (at-start .pre .1 .1)))) .wrote in
     let a = w .size in
     let d = w .short in
@@ -130,10 +124,7 @@ add-n t c =
 pub push-sub-requires : (t : ℕ) → lts.Need-push-sub-requires (std-prefixed-calls t) (std-prefixed-at t) std-prefixed.Post
 unfolding b
 push-sub-requires t c κs =
-    let at-got = c .before .before .before .before in
-    let at-unq = before-got t at-got in
-    let at-put = before-unq t at-unq in
-    let at-start = before-put t at-put in
+    let at-got = c .before .before .before .before in let at-unq = before-got t at-got in let at-put = before-unq t at-unq in let at-start = before-put t at-put in
     let h = at-start .pre .1 .0 .1 in
     let l = std-inside _ _ (at-start .pre .1 .1) in
     let w = got (c .before .before .before .before .got .given .1) (at-unq .unq .ensures _ (word-holds (at-put .before .before .moved .ensures) (at-put .put .ensures) h l)) .wrote in
@@ -148,9 +139,7 @@ enum-told-2 t c = search needs
 
 pub same-length-4 : (t : ℕ) → lts.Need-same-length-4 (std-prefixed-calls t) (std-prefixed-at t) std-prefixed.Post
 same-length-4 t c =
-    let at-push-sub = c .before .before .before .before .before .before in
-    let at-got = before-push-sub t at-push-sub in
-    let at-unq = before-got t at-got in
+    let at-push-sub = c .before .before .before .before .before .before in let at-got = before-push-sub t at-push-sub in let at-unq = before-got t at-got in
     let at-put = before-unq t at-unq in
     omega (arith, at-unq .unq .kept, at-put .put .kept)
 
@@ -163,11 +152,8 @@ same-length-6 t c = search needs
 pub returns-2 : (t : ℕ) → lts.Need-returns-2 (std-prefixed-calls t) (std-prefixed-at t) std-prefixed.Post
 unfolding b onto
 returns-2 t c =
-    let at-push-sub = c .before .before .before .before .before .before in
-    let at-got = before-push-sub t at-push-sub in
-    let at-unq = before-got t at-got in
-    let at-put = before-unq t at-unq in
-    let at-start = before-put t at-put in
+    let at-push-sub = c .before .before .before .before .before .before in let at-got = before-push-sub t at-push-sub in let at-unq = before-got t at-got in
+    let at-put = before-unq t at-unq in let at-start = before-put t at-put in
     λ σ h. let l = std-inside _ _ (at-start .pre .1 .1) in
     let g = got (at-got .got .given .1) (at-unq .unq .ensures _ (word-holds (at-put .before .before .moved .ensures) (at-put .put .ensures) h l)) in
     let u = word-joined (at-put .before .before .moved .ensures) (at-put .put .ensures) h l (omega arith) (omega arith) refl (g .wrote) in
@@ -179,11 +165,8 @@ here-requires t c κs = search needs
 pub instance-requires : (t : ℕ) → lts.Need-instance-requires (std-prefixed-calls t) (std-prefixed-at t) std-prefixed.Post
 unfolding b
 instance-requires t c κs =
-    let at-push-sub = c .before .before .before .before .before .before .before .before .before .before .before .before in
-    let at-got = before-push-sub t at-push-sub in
-    let at-unq = before-got t at-got in
-    let at-put = before-unq t at-unq in
-    let at-start = before-put t at-put in
+    let at-push-sub = c .before .before .before .before .before .before .before .before .before .before .before .before in let at-got = before-push-sub t at-push-sub in
+    let at-unq = before-got t at-got in let at-put = before-unq t at-unq in let at-start = before-put t at-put in
     let h = at-start .pre .1 .0 .1 in
     let l = std-inside _ _ (at-start .pre .1 .1) in
     let w = got (at-got .got .given .1) (at-unq .unq .ensures _ (word-holds (at-put .before .before .moved .ensures) (at-put .put .ensures) h l)) .wrote in
@@ -193,40 +176,27 @@ instance-requires t c κs =
 
 pub same-length-7 : (t : ℕ) → lts.Need-same-length-7 (std-prefixed-calls t) (std-prefixed-at t) std-prefixed.Post
 same-length-7 t c =
-    let at-instance = c .before .before .before .before .before .before in
-    let at-push-sub = before-instance t at-instance in
-    let at-got = before-push-sub t at-push-sub in
-    let at-unq = before-got t at-got in
-    let at-put = before-unq t at-unq in
+    let at-instance = c .before .before .before .before .before .before in let at-push-sub = before-instance t at-instance in let at-got = before-push-sub t at-push-sub in
+    let at-unq = before-got t at-got in let at-put = before-unq t at-unq in
     omega (arith, at-instance .instance .kept, at-push-sub .push-sub .kept, at-unq .unq .kept, at-put .put .kept)
 
 pub same-length-8 : (t : ℕ) → lts.Need-same-length-8 (std-prefixed-calls t) (std-prefixed-at t) std-prefixed.Post
 same-length-8 t c =
-    let at-instance = c .before .before .before .before .before .before in
-    let at-push-sub = before-instance t at-instance in
-    let at-got = before-push-sub t at-push-sub in
-    let at-unq = before-got t at-got in
-    let at-put = before-unq t at-unq in
+    let at-instance = c .before .before .before .before .before .before in let at-push-sub = before-instance t at-instance in let at-got = before-push-sub t at-push-sub in
+    let at-unq = before-got t at-got in let at-put = before-unq t at-unq in
     omega (arith, at-instance .instance .kept, at-push-sub .push-sub .kept, at-unq .unq .kept, at-put .put .kept)
 
 pub same-length-9 : (t : ℕ) → lts.Need-same-length-9 (std-prefixed-calls t) (std-prefixed-at t) std-prefixed.Post
 same-length-9 t c =
-    let at-instance = c .before .before .before .before .before .before in
-    let at-push-sub = before-instance t at-instance in
-    let at-got = before-push-sub t at-push-sub in
-    let at-unq = before-got t at-got in
-    let at-put = before-unq t at-unq in
+    let at-instance = c .before .before .before .before .before .before in let at-push-sub = before-instance t at-instance in let at-got = before-push-sub t at-push-sub in
+    let at-unq = before-got t at-got in let at-put = before-unq t at-unq in
     omega (arith, at-instance .instance .kept, at-push-sub .push-sub .kept, at-unq .unq .kept, at-put .put .kept)
 
 pub returns-3 : (t : ℕ) → lts.Need-returns-3 (std-prefixed-calls t) (std-prefixed-at t) std-prefixed.Post
 unfolding b onto
 returns-3 t c =
-    let at-instance = c .before .before .before .before .before .before in
-    let at-push-sub = before-instance t at-instance in
-    let at-got = before-push-sub t at-push-sub in
-    let at-unq = before-got t at-got in
-    let at-put = before-unq t at-unq in
-    let at-start = before-put t at-put in
+    let at-instance = c .before .before .before .before .before .before in let at-push-sub = before-instance t at-instance in let at-got = before-push-sub t at-push-sub in
+    let at-unq = before-got t at-got in let at-put = before-unq t at-unq in let at-start = before-put t at-put in
     λ σ h. let l = std-inside _ _ (at-start .pre .1 .1) in
     let g = got (at-got .got .given .1) (at-unq .unq .ensures _ (word-holds (at-put .before .before .moved .ensures) (at-put .put .ensures) h l)) in
     let w = g .wrote in
@@ -242,36 +212,27 @@ given-requires t c κs = search needs
 
 pub same-length-10 : (t : ℕ) → lts.Need-same-length-10 (std-prefixed-calls t) (std-prefixed-at t) std-prefixed.Post
 same-length-10 t c =
-    let at-push-sub = c .before .before .before .before .before .before .before .before .before .before in
-    let at-got = before-push-sub t at-push-sub in
-    let at-unq = before-got t at-got in
-    let at-put = before-unq t at-unq in
+    let at-push-sub = c .before .before .before .before .before .before .before .before .before .before in let at-got = before-push-sub t at-push-sub in
+    let at-unq = before-got t at-got in let at-put = before-unq t at-unq in
     omega (arith, at-push-sub .push-sub .kept, at-unq .unq .kept, at-put .put .kept)
 
 pub same-length-11 : (t : ℕ) → lts.Need-same-length-11 (std-prefixed-calls t) (std-prefixed-at t) std-prefixed.Post
 same-length-11 t c =
-    let at-push-sub = c .before .before .before .before .before .before .before .before .before .before in
-    let at-got = before-push-sub t at-push-sub in
-    let at-unq = before-got t at-got in
-    let at-put = before-unq t at-unq in
+    let at-push-sub = c .before .before .before .before .before .before .before .before .before .before in let at-got = before-push-sub t at-push-sub in
+    let at-unq = before-got t at-got in let at-put = before-unq t at-unq in
     omega (arith, at-push-sub .push-sub .kept, at-unq .unq .kept, at-put .put .kept)
 
 pub same-length-12 : (t : ℕ) → lts.Need-same-length-12 (std-prefixed-calls t) (std-prefixed-at t) std-prefixed.Post
 same-length-12 t c =
-    let at-push-sub = c .before .before .before .before .before .before .before .before .before .before in
-    let at-got = before-push-sub t at-push-sub in
-    let at-unq = before-got t at-got in
-    let at-put = before-unq t at-unq in
+    let at-push-sub = c .before .before .before .before .before .before .before .before .before .before in let at-got = before-push-sub t at-push-sub in
+    let at-unq = before-got t at-got in let at-put = before-unq t at-unq in
     omega (arith, at-push-sub .push-sub .kept, at-unq .unq .kept, at-put .put .kept)
 
 pub returns-4 : (t : ℕ) → lts.Need-returns-4 (std-prefixed-calls t) (std-prefixed-at t) std-prefixed.Post
 unfolding b onto
 returns-4 t c =
-    let at-push-sub = c .before .before .before .before .before .before .before .before .before .before in
-    let at-got = before-push-sub t at-push-sub in
-    let at-unq = before-got t at-got in
-    let at-put = before-unq t at-unq in
-    let at-start = before-put t at-put in
+    let at-push-sub = c .before .before .before .before .before .before .before .before .before .before in let at-got = before-push-sub t at-push-sub in
+    let at-unq = before-got t at-got in let at-put = before-unq t at-unq in let at-start = before-put t at-put in
     λ σ h. let l = std-inside _ _ (at-start .pre .1 .1) in
     let g = got (at-got .got .given .1) (at-unq .unq .ensures _ (word-holds (at-put .before .before .moved .ensures) (at-put .put .ensures) h l)) in
     let u = word-joined (at-put .before .before .moved .ensures) (at-put .put .ensures) h l (omega arith) (omega arith) refl (g .wrote) in

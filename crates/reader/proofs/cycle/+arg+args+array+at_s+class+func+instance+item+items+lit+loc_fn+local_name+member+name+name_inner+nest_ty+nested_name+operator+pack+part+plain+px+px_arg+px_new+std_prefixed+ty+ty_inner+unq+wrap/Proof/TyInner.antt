@@ -55,8 +55,7 @@ enum-known-w t c = search needs
 
 pub word-requires : (t : ℕ) → lts.Need-word-requires (ty-inner-calls t) (ty-inner-at t) ty-inner.Post
 word-requires t c κs =
-    let at-builtin = c .before .before .before .before in
-    let at-start = before-builtin t at-builtin in
+    let at-builtin = c .before .before .before .before in let at-start = before-builtin t at-builtin in
     (stack-by (at-builtin .before .moved .ensures) (at-start .pre .1 .1 .text), picked-at (c .before .before .before .before .builtin .ensures) (c .before .before .w .given .1) .1)
 
 pub same-length : (t : ℕ) → lts.Need-same-length (ty-inner-calls t) (ty-inner-at t) ty-inner.Post
@@ -72,49 +71,37 @@ returns-2 t c =
 
 pub array-requires : (t : ℕ) → lts.Need-array-requires (ty-inner-calls t) (ty-inner-at t) ty-inner.Post
 array-requires t c κs =
-    let at-enum-told2 = c .before .before .before .before in
-    let at-builtin = before-enum-told2 t at-enum-told2 in
-    let at-start = before-builtin t at-builtin in
+    let at-enum-told2 = c .before .before .before .before in let at-builtin = before-enum-told2 t at-enum-told2 in let at-start = before-builtin t at-builtin in
     let l = byte-inside (at-start .pre .1 .1) (at-builtin .before .before .before .before .before .peek .ensures) (at-builtin .before .before .before .c .given .1) in
     (omega (arith, at-of (at-builtin .before .moved .ensures), at-start .pre .0, l), ready-moved _ (at-builtin .before .moved .ensures) (at-start .pre .1 .1) (omega (arith, l)))
 
 pub func-requires : (t : ℕ) → lts.Need-func-requires (ty-inner-calls t) (ty-inner-at t) ty-inner.Post
 func-requires t c κs =
-    let at-enum-told2 = c .before .before .before .before in
-    let at-builtin = before-enum-told2 t at-enum-told2 in
-    let at-start = before-builtin t at-builtin in
+    let at-enum-told2 = c .before .before .before .before in let at-builtin = before-enum-told2 t at-enum-told2 in let at-start = before-builtin t at-builtin in
     let l = byte-inside (at-start .pre .1 .1) (at-builtin .before .before .before .before .before .peek .ensures) (at-builtin .before .before .before .c .given .1) in
     (omega (arith, at-of (at-builtin .before .moved .ensures), at-start .pre .0, l), ready-moved _ (at-builtin .before .moved .ensures) (at-start .pre .1 .1) (omega (arith, l)))
 
 pub member-requires : (t : ℕ) → lts.Need-member-requires (ty-inner-calls t) (ty-inner-at t) ty-inner.Post
 member-requires t c κs =
-    let at-enum-told2 = c .before .before .before .before in
-    let at-builtin = before-enum-told2 t at-enum-told2 in
-    let at-start = before-builtin t at-builtin in
+    let at-enum-told2 = c .before .before .before .before in let at-builtin = before-enum-told2 t at-enum-told2 in let at-start = before-builtin t at-builtin in
     let l = byte-inside (at-start .pre .1 .1) (at-builtin .before .before .before .before .before .peek .ensures) (at-builtin .before .before .before .c .given .1) in
     (omega (arith, at-of (at-builtin .before .moved .ensures), at-start .pre .0, l), ready-moved _ (at-builtin .before .moved .ensures) (at-start .pre .1 .1) (omega (arith, l)))
 
 pub builtin-d-requires : (t : ℕ) → lts.Need-builtin-d-requires (ty-inner-calls t) (ty-inner-at t) ty-inner.Post
 builtin-d-requires t c κs =
-    let at-enum-told2 = c .before .before in
-    let at-builtin = before-enum-told2 t at-enum-told2 in
-    let at-start = before-builtin t at-builtin in
+    let at-enum-told2 = c .before .before in let at-builtin = before-enum-told2 t at-enum-told2 in let at-start = before-builtin t at-builtin in
     (_, (_, at-start .pre .1))
 
 pub source-name-requires : (t : ℕ) → lts.Need-source-name-requires (ty-inner-calls t) (ty-inner-at t) ty-inner.Post
 source-name-requires t c κs =
-    let at-enum-told2 = c .before .before in
-    let at-builtin = before-enum-told2 t at-enum-told2 in
-    let at-start = before-builtin t at-builtin in
+    let at-enum-told2 = c .before .before in let at-builtin = before-enum-told2 t at-enum-told2 in let at-start = before-builtin t at-builtin in
     let h = at-start .pre .1 .1 in
     let l = byte-inside h (at-builtin .before .before .before .before .before .peek .ensures) (at-builtin .before .before .before .c .given .1) in
     (omega (arith, at-of (at-builtin .before .moved .ensures), l), (h .source, stack-by (at-builtin .before .moved .ensures) (h .text)))
 
 pub nest-ty-requires : (t : ℕ) → lts.Need-nest-ty-requires (ty-inner-calls t) (ty-inner-at t) ty-inner.Post
 nest-ty-requires t c κs =
-    let at-enum-told2 = c .before .before .before .before in
-    let at-builtin = before-enum-told2 t at-enum-told2 in
-    let at-start = before-builtin t at-builtin in
+    let at-enum-told2 = c .before .before .before .before in let at-builtin = before-enum-told2 t at-enum-told2 in let at-start = before-builtin t at-builtin in
     (omega (arith, at-start .pre .0), at-start .pre .1)
 
 pub template-param-requires : (t : ℕ) → lts.Need-template-param-requires (ty-inner-calls t) (ty-inner-at t) ty-inner.Post
@@ -122,23 +109,17 @@ template-param-requires t c κs = search needs
 
 pub at-s-requires : (t : ℕ) → lts.Need-at-s-requires (ty-inner-calls t) (ty-inner-at t) ty-inner.Post
 at-s-requires t c κs =
-    let at-enum-told2 = c .before .before .before .before in
-    let at-builtin = before-enum-told2 t at-enum-told2 in
-    let at-start = before-builtin t at-builtin in
+    let at-enum-told2 = c .before .before .before .before in let at-builtin = before-enum-told2 t at-enum-told2 in let at-start = before-builtin t at-builtin in
     (omega (arith, at-start .pre .0), at-start .pre .1)
 
 pub class-requires : (t : ℕ) → lts.Need-class-requires (ty-inner-calls t) (ty-inner-at t) ty-inner.Post
 class-requires t c κs =
-    let at-enum-told2 = c .before .before .before .before .before .before in
-    let at-builtin = before-enum-told2 t at-enum-told2 in
-    let at-start = before-builtin t at-builtin in
+    let at-enum-told2 = c .before .before .before .before .before .before in let at-builtin = before-enum-told2 t at-enum-told2 in let at-start = before-builtin t at-builtin in
     (omega (arith, at-start .pre .0), at-start .pre .1)
 
 pub wrap-requires : (t : ℕ) → lts.Need-wrap-requires (ty-inner-calls t) (ty-inner-at t) ty-inner.Post
 wrap-requires t c κs =
-    let at-enum-told2 = c .before .before .before .before in
-    let at-builtin = before-enum-told2 t at-enum-told2 in
-    let at-start = before-builtin t at-builtin in
+    let at-enum-told2 = c .before .before .before .before in let at-builtin = before-enum-told2 t at-enum-told2 in let at-start = before-builtin t at-builtin in
     let l = byte-inside (at-start .pre .1 .1) (at-builtin .before .before .before .before .before .peek .ensures) (at-builtin .before .before .before .c .given .1) in
     (omega (arith, at-of (at-builtin .before .moved .ensures), at-start .pre .0, l), ready-moved _ (at-builtin .before .moved .ensures) (at-start .pre .1 .1) (omega (arith, l)))
 
@@ -153,8 +134,7 @@ same-length-4 t c = search needs
 
 pub returns-3 : (t : ℕ) → lts.Need-returns-3 (ty-inner-calls t) (ty-inner-at t) ty-inner.Post
 returns-3 t c =
-    let at-enum-told2 = c .before .before .before .before .before .before .before .before .before .before .before in
-    let at-builtin = before-enum-told2 t at-enum-told2 in
+    let at-enum-told2 = c .before .before .before .before .before .before .before .before .before .before .before in let at-builtin = before-enum-told2 t at-enum-told2 in
     λ σ h.
     let l = byte-inside h (at-builtin .before .before .before .before .before .peek .ensures) (at-builtin .before .before .before .c .given .1) in
     by (from-text (type-inner reading) σ (byte-is h (at-builtin .before .before .before .before .before .peek .ensures) 65 (at-builtin .before .before .before .c .given .1) (c .before .before .before .before .before .before .before .before .before .before .match3 .keys2)) (inner-A _ σ))
@@ -171,8 +151,7 @@ same-length-7 t c = search needs
 
 pub returns-4 : (t : ℕ) → lts.Need-returns-4 (ty-inner-calls t) (ty-inner-at t) ty-inner.Post
 returns-4 t c =
-    let at-enum-told2 = c .before .before .before .before .before .before .before .before .before .before .before in
-    let at-builtin = before-enum-told2 t at-enum-told2 in
+    let at-enum-told2 = c .before .before .before .before .before .before .before .before .before .before .before in let at-builtin = before-enum-told2 t at-enum-told2 in
     λ σ h.
     let l = byte-inside h (at-builtin .before .before .before .before .before .peek .ensures) (at-builtin .before .before .before .c .given .1) in
     by (from-text (type-inner reading) σ (byte-is h (at-builtin .before .before .before .before .before .peek .ensures) 70 (at-builtin .before .before .before .c .given .1) (c .before .before .before .before .before .before .before .before .before .before .match3 .keys3)) (inner-F _ σ))
@@ -189,8 +168,7 @@ same-length-10 t c = search needs
 
 pub returns-5 : (t : ℕ) → lts.Need-returns-5 (ty-inner-calls t) (ty-inner-at t) ty-inner.Post
 returns-5 t c =
-    let at-enum-told2 = c .before .before .before .before .before .before .before .before .before .before .before in
-    let at-builtin = before-enum-told2 t at-enum-told2 in
+    let at-enum-told2 = c .before .before .before .before .before .before .before .before .before .before .before in let at-builtin = before-enum-told2 t at-enum-told2 in
     λ σ h.
     let l = byte-inside h (at-builtin .before .before .before .before .before .peek .ensures) (at-builtin .before .before .before .c .given .1) in
     by (from-text (type-inner reading) σ (byte-is h (at-builtin .before .before .before .before .before .peek .ensures) 77 (at-builtin .before .before .before .c .given .1) (c .before .before .before .before .before .before .before .before .before .before .match3 .keys4)) (inner-M _ σ))
@@ -201,8 +179,7 @@ same-length-11 t c = search needs
 
 pub returns-6 : (t : ℕ) → lts.Need-returns-6 (ty-inner-calls t) (ty-inner-at t) ty-inner.Post
 returns-6 t c =
-    let at-enum-told2 = c .before .before .before .before .before in
-    let at-builtin = before-enum-told2 t at-enum-told2 in
+    let at-enum-told2 = c .before .before .before .before .before in let at-builtin = before-enum-told2 t at-enum-told2 in
     λ σ h.
     let e = byte-is h (at-builtin .before .before .before .before .before .peek .ensures) 68 (at-builtin .before .before .before .c .given .1) (c .before .before .before .before .match3 .keys5) in
     by (same-from (type-inner reading) (by-code d-letters (λ w. give (b w)) (λ _. refused 4)) σ e (inner-D _ σ))
@@ -213,8 +190,7 @@ same-length-12 t c = search needs
 
 pub returns-7 : (t : ℕ) → lts.Need-returns-7 (ty-inner-calls t) (ty-inner-at t) ty-inner.Post
 returns-7 t c =
-    let at-enum-told2 = c .before .before .before .before .before in
-    let at-builtin = before-enum-told2 t at-enum-told2 in
+    let at-enum-told2 = c .before .before .before .before .before in let at-builtin = before-enum-told2 t at-enum-told2 in
     λ σ h.
     let l = byte-inside h (at-builtin .before .before .before .before .before .peek .ensures) (at-builtin .before .before .before .c .given .1) in
     by (from-text (type-inner reading) σ (byte-is h (at-builtin .before .before .before .before .before .peek .ensures) 117 (at-builtin .before .before .before .c .given .1) (c .before .before .before .before .match3 .keys6)) (inner-u _ σ))
@@ -231,8 +207,7 @@ same-length-15 t c = search needs
 
 pub returns-8 : (t : ℕ) → lts.Need-returns-8 (ty-inner-calls t) (ty-inner-at t) ty-inner.Post
 returns-8 t c =
-    let at-enum-told2 = c .before .before .before .before .before .before .before .before .before .before .before in
-    let at-builtin = before-enum-told2 t at-enum-told2 in
+    let at-enum-told2 = c .before .before .before .before .before .before .before .before .before .before .before in let at-builtin = before-enum-told2 t at-enum-told2 in
     λ σ h. by (same-from (type-inner reading) (nested-type reading) σ
     (byte-is h (at-builtin .before .before .before .before .before .peek .ensures) 78 (at-builtin .before .before .before .c .given .1)
     (c .before .before .before .before .before .before .before .before .before .before .match3 .keys7)) (inner-N _ σ))
@@ -249,8 +224,7 @@ same-length-18 t c = search needs
 
 pub returns-9 : (t : ℕ) → lts.Need-returns-9 (ty-inner-calls t) (ty-inner-at t) ty-inner.Post
 returns-9 t c =
-    let at-enum-told2 = c .before .before .before .before .before .before .before in
-    let at-builtin = before-enum-told2 t at-enum-told2 in
+    let at-enum-told2 = c .before .before .before .before .before .before .before in let at-builtin = before-enum-told2 t at-enum-told2 in
     λ σ h. by (same-from (type-inner reading) (reading ⟨template-param⟩) σ
     (byte-is h (at-builtin .before .before .before .before .before .peek .ensures) 84 (at-builtin .before .before .before .c .given .1)
     (c .before .before .before .before .before .before .match3 .keys8)) (inner-T _ σ)) (less (omega (arith, h .deep)) (c .before .before .template-param .ensures σ h))
@@ -266,8 +240,7 @@ same-length-21 t c = search needs
 
 pub returns-10 : (t : ℕ) → lts.Need-returns-10 (ty-inner-calls t) (ty-inner-at t) ty-inner.Post
 returns-10 t c =
-    let at-enum-told2 = c .before .before .before .before .before .before .before .before .before .before .before in
-    let at-builtin = before-enum-told2 t at-enum-told2 in
+    let at-enum-told2 = c .before .before .before .before .before .before .before .before .before .before .before in let at-builtin = before-enum-told2 t at-enum-told2 in
     λ σ h. by (same-from (type-inner reading) (s-type reading) σ
     (byte-is h (at-builtin .before .before .before .before .before .peek .ensures) 83 (at-builtin .before .before .before .c .given .1)
     (c .before .before .before .before .before .before .before .before .before .before .match3 .keys9)) (inner-S _ σ))
@@ -296,8 +269,7 @@ returns-11 t c =
 
 pub returns-12 : (t : ℕ) → lts.Need-returns-12 (ty-inner-calls t) (ty-inner-at t) ty-inner.Post
 returns-12 t c =
-    let at-enum-told2 = c .before .before in
-    let at-builtin = before-enum-told2 t at-enum-told2 in
+    let at-enum-told2 = c .before .before in let at-builtin = before-enum-told2 t at-enum-told2 in
     λ σ h. by (from-text (type-inner reading) σ (byte-at h (at-builtin .before .before .before .before .before .peek .ensures) (at-builtin .before .before .before .c .given .1))
     (inner-4 _ _ σ (no-letter _ _ (c .before .before .before .before .builtin .ensures) (c .before .before .enum-told2 .given .1))
     (no-head _ (c .before .match3 .rest) (λ e. omega (arith, e, c .if1 .taken)) (λ e. omega (arith, e, c .if1 .taken)))
@@ -305,8 +277,7 @@ returns-12 t c =
 
 pub returns-13 : (t : ℕ) → lts.Need-returns-13 (ty-inner-calls t) (ty-inner-at t) ty-inner.Post
 returns-13 t c =
-    let at-enum-told2 = c .before .before .before .before in
-    let at-builtin = before-enum-told2 t at-enum-told2 in
+    let at-enum-told2 = c .before .before .before .before in let at-builtin = before-enum-told2 t at-enum-told2 in
     λ σ h. by (from-text (type-inner reading) σ (byte-at h (at-builtin .before .before .before .before .before .peek .ensures) (at-builtin .before .before .before .c .given .1))
     (inner-4 _ _ σ (no-letter _ _ (at-builtin .builtin .ensures) (c .before .before .before .before .enum-told2 .given .1))
     (no-head _ (c .before .before .before .match3 .rest) (λ e. omega (arith, e, c .if3 .taken)) (λ e. omega (arith, e, c .if3 .taken)))
@@ -314,8 +285,7 @@ returns-13 t c =
 
 pub returns-14 : (t : ℕ) → lts.Need-returns-14 (ty-inner-calls t) (ty-inner-at t) ty-inner.Post
 returns-14 t c =
-    let at-enum-told2 = c .before .before .before .before .before in
-    let at-builtin = before-enum-told2 t at-enum-told2 in
+    let at-enum-told2 = c .before .before .before .before .before in let at-builtin = before-enum-told2 t at-enum-told2 in
     λ σ h. by (from-text (type-inner reading) σ (byte-at h (at-builtin .before .before .before .before .before .peek .ensures) (at-builtin .before .before .before .c .given .1))
     (inner-4 _ _ σ (no-letter _ _ (at-builtin .builtin .ensures) (at-enum-told2 .enum-told2 .given .1))
     (no-head _ (c .before .before .before .before .match3 .rest) (λ e. omega (arith, e, c .if4 .left)) (λ e. omega (arith, e, c .if4 .left)))
@@ -332,8 +302,7 @@ same-length-27 t c = search needs
 
 pub returns-15 : (t : ℕ) → lts.Need-returns-15 (ty-inner-calls t) (ty-inner-at t) ty-inner.Post
 returns-15 t c =
-    let at-enum-told2 = c .before .before .before .before .before .before .before .before .before .before .before in
-    let at-builtin = before-enum-told2 t at-enum-told2 in
+    let at-enum-told2 = c .before .before .before .before .before .before .before .before .before .before .before in let at-builtin = before-enum-told2 t at-enum-told2 in
     λ σ h.
     let l = byte-inside h (at-builtin .before .before .before .before .before .peek .ensures) (at-builtin .before .before .before .c .given .1) in
     let v = either (c .before .before .before .before .before .before .before .before .before .before .match3 .came) (λ x. lettered-row _ (x .keys1)) (λ y. between-row _ (y .0 .rest .0 .0 .0 .0 .0 .1) (y .0 .rest .0 .0 .1) (y .3 .left) (y .4 .taken)) in

@@ -58,8 +58,7 @@ slice-aggregate-put t c = search needs
 pub put-requires : (t : ℕ) → lts.Need-put-requires (unq-calls t) (unq-at t) unq.Post
 unfolding b
 put-requires t c κs =
-    let at-c = c .before .before .before .before .before .before in
-    let at-start = before-c t at-c in
+    let at-c = c .before .before .before .before .before .before in let at-start = before-c t at-c in
     (stack-by (c .before .moved2 .ensures) (stack-by (at-c .before .before .before .moved .ensures) (at-start .pre .1 .1 .text)), omega arith)
 
 pub add-if2 : (t : ℕ) → lts.Need-add-if2 (unq-calls t) (unq-at t) unq.Post
@@ -82,8 +81,7 @@ slice-aggregate-put-2 t c = search needs
 pub put-requires-2 : (t : ℕ) → lts.Need-put-requires-2 (unq-calls t) (unq-at t) unq.Post
 unfolding b
 put-requires-2 t c κs =
-    let at-c = c .before .before .before .before .before .before in
-    let at-start = before-c t at-c in
+    let at-c = c .before .before .before .before .before .before in let at-start = before-c t at-c in
     (stack-by (c .before .moved3 .ensures) (stack-by (at-c .before .before .before .moved .ensures) (at-start .pre .1 .1 .text)), omega arith)
 
 pub add-moved-3 : (t : ℕ) → lts.Need-add-moved-3 (unq-calls t) (unq-at t) unq.Post
@@ -94,14 +92,12 @@ moved-requires-4 t c κs = search needs
 
 pub unnamed-type-name-requires : (t : ℕ) → lts.Need-unnamed-type-name-requires (unq-calls t) (unq-at t) unq.Post
 unnamed-type-name-requires t c κs =
-    let at-c = c .before .before .before .before in
-    let at-start = before-c t at-c in
+    let at-c = c .before .before .before .before in let at-start = before-c t at-c in
     stack-by (c .moved4 .ensures) (stack-by (at-c .before .before .before .moved .ensures) (at-start .pre .1 .1 .text))
 
 pub source-name-requires : (t : ℕ) → lts.Need-source-name-requires (unq-calls t) (unq-at t) unq.Post
 source-name-requires t c κs =
-    let at-c = c .before .before .before .before .before in
-    let at-start = before-c t at-c in
+    let at-c = c .before .before .before .before .before in let at-start = before-c t at-c in
     let h = unq-ready (at-start .pre .1 .1) (at-c .before .before .before .before .behind .ensures) (at-c .before .before .before .moved .ensures) in
     (h .place, (h .source, h .text))
 

@@ -43,8 +43,7 @@ returns t c =
 
 pub wrap-requires : (t : ℕ) → lts.Need-wrap-requires (wrap-calls t) (wrap-at t) wrap.Post
 wrap-requires t c κs =
-    let at-ty = c .before .before .before .before .before .before .before .before .before .before .before .before in
-    let at-start = before-ty t at-ty in
+    let at-ty = c .before .before .before .before .before .before .before .before .before .before .before .before in let at-start = before-ty t at-ty in
     let (σ, h) = at-start .pre .1 in
     let w = got (c .before .before .before .before .got .given .1) (at-ty .ty .ensures σ h) in
     ((_, (w .state, w .wrote .holds)), wrote-fits (w .wrote) (omega arith))
