@@ -10,7 +10,7 @@ use lib.Dec.{leb}
 use lib.ListN.{length, drop}
 use lib.Seq.{paste, take-length}
 use Rattle.grammar.specs.Text.{Text, if_then_else_}
-use Rattle.grammar.specs.Names.{refusal, named, demangle, mangled-name, answer, within, most-symbol-bytes, number-of}
+use Rattle.grammar.specs.Names.{refusal, named, demangle, mangled-name, answer, within, most-symbol-bytes, number-of, work-fits}
 use Rattle.grammar.specs.Names as n
 use Rattle.grammar.specs.laws.Fuel.{never-0}
 use Rattle.catalogue.specs.Recogniser.{classify}
@@ -68,6 +68,7 @@ module _ (s out : Text) where
 -- a reading whose output slice is never too short tells the number of the symbol
 pub number-is : (s out text store ends : Text) {out' : Text} (r : Answer) {k : ℕ} → Tells (answer most-symbol-bytes (lent (slices out text store ends)) s) out out' r
     → 16384 ≤ length out → Long least-normal-ends (slices [] text store ends) → k ≡ number-in r → k ≡ number-of (demangle most-symbol-bytes s)
+unfolding work-fits
 number-is s out text store ends r e h f g =
     let l = slices out text store ends in
     g ∙ e .number ∙ ap number-of (answer-is l s h (long-fit {l = l} (record { text = f .text; store = f .store; ends = omega (arith, f .ends) })))

@@ -7,24 +7,37 @@ use borrow.Author.Needs.{needs}
 use Rattle.demangle.proofs.entry.demangle_uncleared.Statement.{statement}
 use Rattle.demangle.proofs.entry.demangle_uncleared.Tie as tie
 
+-- Stages: places that later facts cite. Each function goes from one to the one before it.
+abbrev before-behind-front : tie.After-behind-front → tie.Start
+before-behind-front c = c .before .before .before .before .before .before
+
 returns : tie.Need-returns
 returns c =
-    let a = c .before .before .before .before .before .before .before .before .before .args in
+    let at-behind-front = c .before .before .before in let at-start = before-behind-front at-behind-front in
+    let a = at-start .args in
     front-refuses (c .before .before .before .behind-front .ensures) (slices (a .out .now) (a .text .now) (a .store .now) (a .ends .now)) (c .before .enum-told .given .1) (c .refused .ensures)
 
 returns-2 : tie.Need-returns-2
 returns-2 c =
-    let a = c .before .before .before .before .before .before .before .before .before .before .before .args in
-    front-short (c .before .before .before .before .before .behind-front .ensures) (c .before .before .before .front .given .1) (slices (a .out .now) (a .text .now) (a .store .now) (a .ends .now)) (sym (c .before .work-fits .ensures) ∙ not-true _ (c .if1 .taken))
+    let at-behind-front = c .before .before .before .before .before in let at-start = before-behind-front at-behind-front in
+    let a = at-start .args in
+    front-short (at-behind-front .behind-front .ensures) (c .before .before .before .front .given .1) (slices (a .out .now) (a .text .now) (a .store .now) (a .ends .now)) (sym (c .before .work-fits .ensures) ∙ not-true _ (c .if1 .taken))
 
 read-behind-requires : tie.Need-read-behind-requires
-read-behind-requires c κs = (front-inside (c .before .before .before .before .before .before .before .before .before .behind-front .ensures) (c .before .before .before .before .before .before .before .front .given .1), fit-long _ _ (sym (c .before .before .before .before .before .work-fits .ensures) ∙ not-false _ (c .before .before .before .before .if1 .left)))
+read-behind-requires c κs =
+    let at-behind-front = c .before .before .before .before .before .before .before .before .before in
+    (front-inside (at-behind-front .behind-front .ensures) (c .before .before .before .before .before .before .before .front .given .1), fit-long _ _ (sym (c .before .before .before .before .before .work-fits .ensures) ∙ not-false _ (c .before .before .before .before .if1 .left)))
 
 returns-3 : tie.Need-returns-3
 returns-3 c =
-    let a = c .before .before .before .before .before .before .before .before .before .before .before .before .before .before .before .before .before .before .before .before .before .before .before .before .args in
-    front-reads (c .before .before .before .before .before .before .before .before .before .before .before .before .before .before .before .before .before .before .behind-front .ensures) (c .before .before .before .before .before .before .before .before .before .before .before .before .before .before .before .before .front .given .1) (slices (a .out .now) (a .text .now) (a .store .now) (a .ends .now)) _
-    (c .before .before .before .before .before .before .before .before .read-behind .result) (sym (c .before .before .before .before .before .before .before .before .before .before .before .before .before .before .work-fits .ensures) ∙ not-false _ (c .before .before .before .before .before .before .before .before .before .before .before .before .before .if1 .left)) (c .before .before .before .before .before .before .before .before .read-behind .ensures)
+    let at-behind-front = c .before .before .before .before .before .before .before .before .before .before .before .before .before .before .before .before .before .before in
+    let at-start = before-behind-front at-behind-front in
+    let a = at-start .args in
+    front-reads (at-behind-front .behind-front .ensures) (c .before .before .before .before .before .before .before .before .before .before .before .before .before .before .before .before .front .given .1) (slices (a .out .now) (a .text .now) (a .store .now) (a .ends .now)) _
+    (c .before .before .before .before .before .before .before .before .read-behind .result)
+    (sym (c .before .before .before .before .before .before .before .before .before .before .before .before .before .before .work-fits .ensures) ∙ not-false _
+    (c .before .before .before .before .before .before .before .before .before .before .before .before .before .if1 .left))
+    (c .before .before .before .before .before .before .before .before .read-behind .ensures)
 
 pub demangle-uncleared-spec : {M : Type 1} → statement M
 demangle-uncleared-spec =

@@ -10,7 +10,8 @@ use Rattle.demangle.proofs.entry.read.Statement.{statement}
 use Rattle.demangle.proofs.entry.read.Tie as tie
 
 returns : tie.Need-returns
-returns c = tells-unread (c .before .before .before .before .before .before .before .before .before .before .before .before .before .before .before .before .before .before .args .out .now) (c .before .before .before .before .before .before .before .before .before .mangled-name .ensures) (c .before .enum-told .given .1) (c .unread .ensures)
+returns c = tells-unread (c .before .before .before .before .before .before .before .before .before .before .before .before .before .before .before .before .before .before .args .out .now)
+    (c .before .before .before .before .before .before .before .before .before .mangled-name .ensures) (c .before .enum-told .given .1) (c .unread .ensures)
 
 print-requires : tie.Need-print-requires
 print-requires c κs =
@@ -21,7 +22,9 @@ returns-2 : tie.Need-returns-2
 unfolding mangled-name
 returns-2 c =
     let (t, (σ, (e, h))) = was-read (c .before .before .before .before .before .before .before .before .before .before .before .before .before .before .mangled-name .ensures) (c .before .before .before .before .before .before .got .given .1) in
-    tells-as (ap (λ (x : Result Text). within (length (c .before .before .before .before .before .before .before .before .before .before .before .before .before .before .before .before .before .before .before .before .before .before .before .args .out .now)) (finished x)) (sym e)) (c .before .before .print .ensures _ _ t σ h)
+    tells-as (ap (λ (x : Result Text). within
+    (length (c .before .before .before .before .before .before .before .before .before .before .before .before .before .before .before .before .before .before .before .before .before .before .before .args .out .now))
+    (finished x)) (sym e)) (c .before .before .print .ensures _ _ t σ h)
 
 pub read-spec : {M : Type 1} → statement M
 read-spec =

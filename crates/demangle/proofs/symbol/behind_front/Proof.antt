@@ -14,17 +14,23 @@ returns-2 c = front-2 _ (c .before .before .if1 .left) (sym (c .before .has-high
 
 returns-3 : tie.Need-returns-3
 unfolding b
-returns-3 c = front-z _ (c .before .before .before .before .before .if1 .left) (sym (c .before .before .before .before .has-high .ensures) ∙ c .before .before .before .if2 .left) (sym (c .before .starts-with .ensures) ∙ c .if3 .taken)
+returns-3 c =
+    let at-else1 = c .before .before .before .before .before in
+    front-z _ (at-else1 .if1 .left) (sym (c .before .before .before .before .has-high .ensures) ∙ c .before .before .before .if2 .left) (sym (c .before .starts-with .ensures) ∙ c .if3 .taken)
 
 returns-4 : tie.Need-returns-4
 unfolding b
-returns-4 c = front-zz _ (c .before .before .before .before .before .before .before .before .if1 .left)
+returns-4 c =
+    let at-else1 = c .before .before .before .before .before .before .before .before in
+    front-zz _ (at-else1 .if1 .left)
     (sym (c .before .before .before .before .before .before .before .has-high .ensures) ∙ c .before .before .before .before .before .before .if2 .left)
     (sym (c .before .before .before .before .starts-with .ensures) ∙ c .before .before .before .if3 .left) (sym (c .before .starts-with2 .ensures) ∙ c .if4 .taken)
 
 returns-5 : tie.Need-returns-5
 unfolding b
-returns-5 c = front-3 _ (c .before .before .before .before .before .before .before .before .if1 .left)
+returns-5 c =
+    let at-else1 = c .before .before .before .before .before .before .before .before in
+    front-3 _ (at-else1 .if1 .left)
     (sym (c .before .before .before .before .before .before .before .has-high .ensures) ∙ c .before .before .before .before .before .before .if2 .left)
     (sym (c .before .before .before .before .starts-with .ensures) ∙ c .before .before .before .if3 .left) (sym (c .before .starts-with2 .ensures) ∙ c .if4 .left)
 
