@@ -12,7 +12,10 @@ write-lines-requires : tie.Need-write-lines-requires
 write-lines-requires c κs = least-lengths _ _ (c .before .before .before .before .before .before .long-enough .ensures) (not-false _ (c .before .before .before .before .before .if1 .left))
 
 returns-2 : tie.Need-returns-2
-returns-2 c = goes-some _ _ (c .before .before .before .before .before .before .before .before .before .before .before .before .before .before .before .before .before .long-enough .ensures) _ (not-false _ (c .before .before .before .before .before .before .before .before .before .before .before .before .before .before .before .before .if1 .left)) (c .before .before .before .before .before .before .before .before .before .before .write-lines .ensures)
+returns-2 c = goes-some _ _
+    (c .before .before .before .before .before .before .before .before .before .before .before .before .before .before .before .before .before .long-enough .ensures) _
+    (not-false _ (c .before .before .before .before .before .before .before .before .before .before .before .before .before .before .before .before .if1 .left))
+    (c .before .before .before .before .before .before .before .before .before .before .write-lines .ensures)
 
 pub list-uncleared-spec : {M : Type 1} → statement M
 list-uncleared-spec =

@@ -15,7 +15,8 @@ slice-reshare-prefix-print-line : tie.Need-slice-reshare-prefix-print-line
 slice-reshare-prefix-print-line c = let a = c .before .before .before .before .before .before .before .before .before .before .before .before .before .before .before .before .before .before .before .before .before .before .args in omega (arith, short-answer-of (a .kind) (a .s .now))
 
 slice-aggregate-print-line : tie.Need-slice-aggregate-print-line
-slice-aggregate-print-line c = let a = c .before .before .before .before .before .before .before .before .before .before .before .before .before .before .before .before .before .before .before .before .before .before .before .args in sym (length-take-le _ _ (omega (arith, short-answer-of (a .kind) (a .s .now))))
+slice-aggregate-print-line c = let a = c .before .before .before .before .before .before .before .before .before .before .before .before .before .before .before .before .before .before .before .before .before .before .before .args in sym
+    (length-take-le _ _ (omega (arith, short-answer-of (a .kind) (a .s .now))))
 
 print-line-requires : tie.Need-print-line-requires
 print-line-requires c κs =

@@ -17,6 +17,10 @@ Inv-loop kind input out₀ name₀ text₀ store₀ ends₀ at₀ end₀ out nam
 abbrev μ-loop : tie.MeasureT-loop
 μ-loop kind input out₀ name₀ text₀ store₀ ends₀ at₀ end₀ out name text store ends at end = length input - at
 
+-- Stages: places that later facts cite. Each function goes from one to the one before it.
+abbrev before-write-line : tie.After-write-line Inv-loop μ-loop → tie.Else1 Inv-loop μ-loop
+before-write-line c = c .before .before .before .before .before .before .before
+
 loop-holds : tie.Need-loop-holds Inv-loop μ-loop
 loop-holds c = (gone-none _ _, (refl, (refl, (refl, refl))))
 
@@ -24,14 +28,24 @@ returns : tie.Need-returns Inv-loop μ-loop
 returns c = gone-feed (c .before .before .before .loop .inv .0) (omega (arith, c .before .line-end .ensures .0))
 
 returns-2 : tie.Need-returns-2 Inv-loop μ-loop
-returns-2 c = gone-full (c .before .before .before .before .before .before .before .before .before .before .before .before .before .before .before .before .before .before .before .before .before .loop .inv .0) (c .before .before .before .before .before .before .before .before .before .before .before .before .before .before .before .before .before .before .before .line-end .ensures .0) (c .before .before .before .before .before .before .before .before .before .before .before .before .before .before .before .before .before .before .if1 .left) (c .before .before .before .before .before .before .before .before .before .before .before .write-line .ensures) (c .if2 .taken)
+returns-2 c =
+    let at-write-line = c .before .before .before .before .before .before .before .before .before .before .before in let at-else1 = before-write-line at-write-line in
+    gone-full (at-else1 .before .before .before .loop .inv .0) (at-else1 .before .line-end .ensures .0) (at-else1 .if1 .left) (at-write-line .write-line .ensures) (c .if2 .taken)
 
 add-end : tie.Need-add-end Inv-loop μ-loop
-add-end c = omega (arith, gone-more (c .before .before .before .before .before .before .before .before .before .before .before .before .before .before .before .before .before .before .before .before .before .loop .inv .0) (c .before .before .before .before .before .before .before .before .before .before .before .before .before .before .before .before .before .before .before .line-end .ensures .0) (c .before .before .before .before .before .before .before .before .before .before .before .before .before .before .before .before .before .before .if1 .left) (c .before .before .before .before .before .before .before .before .before .before .before .write-line .ensures) (c .if2 .left) .room)
+add-end c = omega (
+  arith,
+  gone-more
+      ((before-write-line (c .before .before .before .before .before .before .before .before .before .before .before)) .before .before .before .loop .inv .0)
+      ((before-write-line (c .before .before .before .before .before .before .before .before .before .before .before)) .before .line-end .ensures .0)
+      ((before-write-line (c .before .before .before .before .before .before .before .before .before .before .before)) .if1 .left)
+      ((c .before .before .before .before .before .before .before .before .before .before .before) .write-line .ensures) (c .if2 .left) .room,
+)
 
 loop-again : tie.Need-loop-again Inv-loop μ-loop
 loop-again c =
-    (gone-more (c .before .before .before .before .before .before .before .before .before .before .before .before .before .before .before .before .before .before .before .before .before .loop .inv .0) (c .before .before .before .before .before .before .before .before .before .before .before .before .before .before .before .before .before .before .before .line-end .ensures .0) (c .before .before .before .before .before .before .before .before .before .before .before .before .before .before .before .before .before .before .if1 .left) (c .before .before .before .before .before .before .before .before .before .before .before .write-line .ensures) (c .if2 .left), search needs)
+    let at-write-line = c .before .before .before .before .before .before .before .before .before .before .before in let at-else1 = before-write-line at-write-line in
+    (gone-more (at-else1 .before .before .before .loop .inv .0) (at-else1 .before .line-end .ensures .0) (at-else1 .if1 .left) (at-write-line .write-line .ensures) (c .if2 .left), search needs)
 
 returns-3 : tie.Need-returns-3 Inv-loop μ-loop
 returns-3 c = gone-end (c .before .loop .inv .0) (c .loop-test .left)

@@ -13,7 +13,9 @@ returns c =
     let a = c .before .before .before .before .before .before .before .before .before .before .before .before .before .before .before .before .before .before .before .before .before .before .before .before .before .before .before .before .before .before .args in
     let d = c .before .before .before .before .before .before .before .before .before .before .before .before .before .before .before .before .before .before .before .before .normalize-uncleared in
     told-normalizes (a .s .now) (slices (a .out .now) (a .text .now) (a .store .now) (a .ends .now)) _ (d .ensures)
-    (c .before .before .before .before .before .before .before .before .before .before .clear .ensures ∙ ap zeros (omega (arith, d .kept))) (c .before .before .before .before .before .before .clear2 .ensures ∙ ap zeros (omega (arith, d .kept))) (c .before .before .clear-ends .ensures ∙ ap zeros (omega (arith, d .kept)))
+    (c .before .before .before .before .before .before .before .before .before .before .clear .ensures ∙ ap zeros (omega (arith, d .kept)))
+    (c .before .before .before .before .before .before .clear2 .ensures ∙ ap zeros (omega (arith, d .kept)))
+    (c .before .before .clear-ends .ensures ∙ ap zeros (omega (arith, d .kept)))
 
 pub normalize-spec : {M : Type 1} → statement M
 normalize-spec =
