@@ -125,6 +125,10 @@ pub fn word_ok(s: &[u8], from: usize, to: usize) -> bool
     if !all_in(s, from, to, Alphabet::Words) {
         return false;
     }
+    // no reserved word is longer
+    if 10 < to - from {
+        return true;
+    }
     !is_reserved(s, from, to)
 }
 

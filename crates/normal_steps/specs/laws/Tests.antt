@@ -6,16 +6,16 @@ use mathlib.Core.Path.{_≡_, refl, sym, ap, _∙_}
 use Prim.Native.Nat.{ℕ, _+_, _≤_, _<_}
 use Prim.Native.String.{String}
 use native.Mathlib.Omega.{arith}
-use borrow.Author.Tests.{ltb-true, ltb-false}
-use lib.Dec.{eqb, ltb}
+use borrow.Author.Tests.{ltb-true, ltb-false, leb-true}
+use lib.Dec.{eqb, ltb, leb}
 use lib.ListN.{length, take, drop}
 use lib.Seq.{drop-drop}
 use Rattle.grammar.specs.Text.{Text, if_then_else_, b, same, starts, digit}
-use Rattle.grammar.specs.laws.Text.{starts-nothing}
+use Rattle.grammar.specs.laws.Text.{starts-nothing, same-not}
 use Rattle.grammar.specs.laws.Places.{starts-byte}
 use Rattle.grammar.specs.laws.NameSteps.{starts-one}
 use Rattle.catalogue.specs.Bytes.{all, first, and-left, and-right, eqb-yes}
-use Rattle.catalogue.specs.Class.{listed, leading-zero, numeral}
+use Rattle.catalogue.specs.Class.{listed, leading-zero, numeral, reserved}
 use Rattle.catalogue.specs.Recogniser.{if-next}
 use Rattle.catalogue.specs.laws.ReadsBack.{next-no}
 
@@ -79,3 +79,19 @@ module _ {n : Text} where
   pub all-tests : {q y : Bool} → Tested n q [] y → q ≡ y
   unfolding listed
   all-tests {q} h = sym (or-false q) ∙ h .is
+
+-- no word of the list has more than k bytes
+no-longer : ℕ → List String → Bool
+no-longer k [] = true
+no-longer k (w ∷ ws) = leb (length (b w)) k && no-longer k ws
+
+unlisted : (k : ℕ) (n : Text) (ws : List String) → no-longer k ws ≡ true → k < length n → listed n ws ≡ false
+unfolding listed no-longer b
+unlisted k n [] h l = refl
+unlisted k n (w ∷ ws) h l =
+    let i = leb-true (length (b w)) k (and-left (leb (length (b w)) k) (no-longer k ws) h) in
+    rw (same-not n (b w) (λ e. omega (arith, i, e)), unlisted k n ws (and-right (leb (length (b w)) k) (no-longer k ws) h) l) refl
+
+pub long-free : (n : Text) → 10 < length n → listed n reserved ≡ false
+unfolding reserved no-longer b
+long-free n l = unlisted 10 n reserved refl l
