@@ -16,5 +16,6 @@ pub mod Decision
 pub mod LowBytes
 pub mod NormalForm
 pub mod Examples
+pub mod Starred
 pub mod ManyArguments
 pub mod Bytes

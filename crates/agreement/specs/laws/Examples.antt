@@ -3,21 +3,20 @@ use mathlib.Core.List.{List, [], _∷_}
 use mathlib.Core.Path.{_≡_, refl}
 use Rattle.grammar.specs.Text.{b}
 use Rattle.grammar.specs.Tables.{Row, _⇒_}
-use Rattle.grammar.specs.Names.{Answer, named}
-use Rattle.grammar.specs.laws.Examples.{Answered, answered, by-test}
+use Rattle.grammar.specs.laws.Examples.{Case, prints, Answered, answered, by-test}
 use Rattle.catalogue.specs.Normal.{normal-of}
 use Rattle.catalogue.specs.laws.Examples.{Written, normals, normals-hold}
 use Rattle.agreement.specs.laws.NormalNames.{demand-3-first}
 
-unfoldable pub normal-cases : List (Row Answer)
+unfoldable pub normal-cases : List (Row Case)
 normal-cases =
-    "_Z1fP1aPS_" ⇒ named (b "f(a*, a*)")
-    ∷ "_Z1fP1aP1a" ⇒ named (b "f(a*, a*)")
-    ∷ "_Z1fP1aS0_" ⇒ named (b "f(a*, a*)")
-    ∷ "_ZN1n1fEN1n1aE" ⇒ named (b "n::f(n::a)")
-    ∷ "_ZN1n1fENS_1aE" ⇒ named (b "n::f(n::a)")
-    ∷ "_Z1f1a1b1b" ⇒ named (b "f(a, b, b)")
-    ∷ "_Z1f1a1bS0_" ⇒ named (b "f(a, b, b)")
+    "_Z1fP1aPS_" ⇒ prints "f(a*, a*)"
+    ∷ "_Z1fP1aP1a" ⇒ prints "f(a*, a*)"
+    ∷ "_Z1fP1aS0_" ⇒ prints "f(a*, a*)"
+    ∷ "_ZN1n1fEN1n1aE" ⇒ prints "n::f(n::a)"
+    ∷ "_ZN1n1fENS_1aE" ⇒ prints "n::f(n::a)"
+    ∷ "_Z1f1a1b1b" ⇒ prints "f(a, b, b)"
+    ∷ "_Z1f1a1bS0_" ⇒ prints "f(a, b, b)"
     ∷ []
 
 pub normal-cases-answered : Answered normal-cases

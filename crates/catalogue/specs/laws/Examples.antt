@@ -130,7 +130,7 @@ abbrev agrees : Res Enc → Text → Text → Bool
 agrees (ok e us) n p = same (write e) n && same (print-enc e) p
 agrees wrong n p = false
 
-unfoldable agreeing : Rows → Bool
+unfoldable pub agreeing : Rows → Bool
 unfolding
     b if_then_else_ choose same run past digit digit-value number decimal letters word-for index
     text-discrete ty-discrete same-ty word print print-enc digit-of base36 ref-digits spell spell-sym

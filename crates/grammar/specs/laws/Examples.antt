@@ -2,6 +2,8 @@
 use mathlib.Core.Bool.{Bool, true, false, _&&_}
 use mathlib.Core.List.{List, [], _∷_}
 use mathlib.Core.Path.{_≡_, ap}
+use Prim.Native.Nat.{ℕ}
+use Prim.Native.String.{String}
 use lib.Dec.{T, eqb, eqb→eq}
 use Rattle.grammar.specs.Text as t
 use Rattle.grammar.specs.Tables as w
@@ -9,70 +11,66 @@ use Rattle.grammar.specs.Reader as r
 use Rattle.grammar.specs.Grammar as g
 use Rattle.grammar.specs.Names as n
 use Rattle.grammar.specs.laws.Text.{both, same→eq}
-use Rattle.grammar.specs.Text.{b, same}
+use Rattle.grammar.specs.Text.{Text, b, same}
 use Rattle.grammar.specs.Tables.{Row, _⇒_}
 use Rattle.grammar.specs.Names.{Answer, named, refusal, demangle, most-symbol-bytes}
 
+-- what is asked of a symbol, and the answer
+abbrev pub Case : Type 0
+Case = (Text → Answer) × Answer
+
+abbrev pub prints : String → Case
+prints t = (demangle most-symbol-bytes, named (b t))
+
+abbrev pub refuses : ℕ → Case
+refuses k = (demangle most-symbol-bytes, refusal k)
+
 -- the proposition: each symbol of a table has the answer that stands beside it
-abbrev pub Answered : List (Row Answer) → Type 0
+abbrev pub Answered : List (Row Case) → Type 0
 Answered [] = Unit {0}
-Answered ((w ⇒ a) ∷ rows) = (demangle most-symbol-bytes (b w) ≡ a) × Answered rows
+Answered ((w ⇒ c) ∷ rows) = (c .0 (b w) ≡ c .1) × Answered rows
 
--- ---------------------------------------------------------------- the tables
-
--- document 01's starred names
-unfoldable pub starred : List (Row Answer)
-starred =
-    "_Z1fv" ⇒ named (b "f()")
-    ∷ "_Z1fv.isra.0" ⇒ named (b "f(void)")
-    ∷ "_ZNK1a1bEi" ⇒ named (b "a::b(int) const")
-    ∷ "_ZplRK1aS1_" ⇒ named (b "operator+(a const&, a const&)")
-    ∷ "_Z1fI1aIiEEvT_" ⇒ named (b "void f<a<int> >(int)")
-    ∷ "_Z1aB1bB1cv" ⇒ named (b "a[abi:b[abi:c]]()")
-    ∷ "_Z1fPFvPFicEE" ⇒ named (b "f(void (*)(int (**)(char)))")
-    ∷ "_Z1fS_" ⇒ refusal 7
-    ∷ "_Z0v" ⇒ refusal 4
-    ∷ []
+-- ---------------------------------------------------------------- the table
 
 -- the departures that document 01 lists, by their numbers, and both sides of 96 open readings
-unfoldable pub departures : List (Row Answer)
+unfoldable pub departures : List (Row Case)
 departures =
     -- D-1
-    "_Z1fI1aIiEEvT0_" ⇒ named (b "void f<a<int> >(a<int>)")
+    "_Z1fI1aIiEEvT0_" ⇒ prints "void f<a<int> >(a<int>)"
     -- D-2
-    ∷ "_Z1fIcN1aIiE1bEdEvT_T0_T1_" ⇒ named (b "void f<char, a<int>::b, double>(int, a<int>::b, double)")
-    ∷ "_Z1fIcSt1aIiEEvT_T0_" ⇒ named (b "void f<char, std::a<int> >(int, std::a<int>)")
+    ∷ "_Z1fIcN1aIiE1bEdEvT_T0_T1_" ⇒ prints "void f<char, a<int>::b, double>(int, a<int>::b, double)"
+    ∷ "_Z1fIcSt1aIiEEvT_T0_" ⇒ prints "void f<char, std::a<int> >(int, std::a<int>)"
     -- D-3
-    ∷ "_Z1fINK1a1bEEvv" ⇒ named (b "void f<a::b>() const")
+    ∷ "_Z1fINK1a1bEEvv" ⇒ prints "void f<a::b>() const"
     -- D-4
-    ∷ "_Z1fIXX!E!EEvv" ⇒ named (b "void f<...>()")
+    ∷ "_Z1fIXX!E!EEvv" ⇒ prints "void f<...>()"
     -- D-5
-    ∷ "_ZNUl!!E_clEv" ⇒ named (b "{lambda}::operator()()")
+    ∷ "_ZNUl!!E_clEv" ⇒ prints "{lambda}::operator()()"
     -- D-6
-    ∷ "_Z1fIL_1giEvv" ⇒ named (b "void f<g, int>()")
+    ∷ "_Z1fIL_1giEvv" ⇒ prints "void f<g, int>()"
     -- D-7
-    ∷ "_Z1fIiEvS0_" ⇒ named (b "void f<int>(f<int>)")
+    ∷ "_Z1fIiEvS0_" ⇒ prints "void f<int>(f<int>)"
     -- D-8
-    ∷ "_ZN1aIiE1bET_S1_" ⇒ refusal 7
+    ∷ "_ZN1aIiE1bET_S1_" ⇒ refuses 7
     -- D-9
-    ∷ "_Z1fA3_iS_" ⇒ refusal 7
+    ∷ "_Z1fA3_iS_" ⇒ refuses 7
     -- D-10
-    ∷ "_Z1fVKiS_S0_" ⇒ named (b "f(int const volatile, int const, int const volatile)")
+    ∷ "_Z1fVKiS_S0_" ⇒ prints "f(int const volatile, int const, int const volatile)"
     -- D-11
-    ∷ "_Z1fB1aB1bv" ⇒ named (b "f[abi:a[abi:b]]()")
+    ∷ "_Z1fB1aB1bv" ⇒ prints "f[abi:a[abi:b]]()"
     -- D-12
-    ∷ "_Z1fPFPFvvEPFiiEE" ⇒ named (b "f(void (**)() (*)(int (**)(int)))")
+    ∷ "_Z1fPFPFvvEPFiiEE" ⇒ prints "f(void (**)() (*)(int (**)(int)))"
     -- D-13
-    ∷ "_ZGTtTV1a!!" ⇒ named (b "transaction clone for vtable for a")
-    ∷ "_ZGV1f!!" ⇒ named (b "guard variable for f")
+    ∷ "_ZGTtTV1a!!" ⇒ prints "transaction clone for vtable for a"
+    ∷ "_ZGV1f!!" ⇒ prints "guard variable for f"
     -- D-14
-    ∷ "_Z1fDfDd" ⇒ named (b "f(_Float32, _Float64)")
+    ∷ "_Z1fDfDd" ⇒ prints "f(_Float32, _Float64)"
     -- 95 and 96 times P
-    ∷ "_Z1fPPPPPPPPPPPPPPPPPPPPPPPPPPPPPPPPPPPPPPPPPPPPPPPPPPPPPPPPPPPPPPPPPPPPPPPPPPPPPPPPPPPPPPPPPPPPPPPi" ⇒ named (b "f(int***********************************************************************************************)")
-    ∷ "_Z1fPPPPPPPPPPPPPPPPPPPPPPPPPPPPPPPPPPPPPPPPPPPPPPPPPPPPPPPPPPPPPPPPPPPPPPPPPPPPPPPPPPPPPPPPPPPPPPPPi" ⇒ refusal 8
+    ∷ "_Z1fPPPPPPPPPPPPPPPPPPPPPPPPPPPPPPPPPPPPPPPPPPPPPPPPPPPPPPPPPPPPPPPPPPPPPPPPPPPPPPPPPPPPPPPPPPPPPPPi" ⇒ prints "f(int***********************************************************************************************)"
+    ∷ "_Z1fPPPPPPPPPPPPPPPPPPPPPPPPPPPPPPPPPPPPPPPPPPPPPPPPPPPPPPPPPPPPPPPPPPPPPPPPPPPPPPPPPPPPPPPPPPPPPPPPi" ⇒ refuses 8
     ∷ []
 
--- ---------------------------------------------------------------- the tables computed
+-- ---------------------------------------------------------------- tables computed
 
 unfoldable pub same-answer : Answer → Answer → Bool
 same-answer (named s) (named t) = same s t
@@ -81,7 +79,7 @@ same-answer (refusal k) (named t) = false
 same-answer (refusal j) (refusal k) = eqb j k
 
 -- the proposition as a test; whoever unfolds it can compute `demangle`
-unfoldable pub answered : List (Row Answer) → Bool
+unfoldable pub answered : List (Row Case) → Bool
 unfolding
     same-answer
     t.b
@@ -201,7 +199,7 @@ unfolding
     n.front
     n.demangle
 answered [] = true
-answered ((w ⇒ a) ∷ rows) = same-answer (demangle most-symbol-bytes (b w)) a && answered rows
+answered ((w ⇒ c) ∷ rows) = same-answer (c .0 (b w)) (c .1) && answered rows
 
 same-answer→eq : (a c : Answer) → T (same-answer a c) → a ≡ c
 unfolding same-answer
@@ -210,16 +208,12 @@ same-answer→eq (named s) (refusal k) h = absurd h
 same-answer→eq (refusal j) (named t) h = absurd h
 same-answer→eq (refusal j) (refusal k) h = ap refusal (eqb→eq j k h)
 
-pub by-test : (rows : List (Row Answer)) → T (answered rows) → Answered rows
+pub by-test : (rows : List (Row Case)) → T (answered rows) → Answered rows
 unfolding answered
 by-test [] h = tt
-by-test ((w ⇒ a) ∷ rows) h =
-    let (p, q) = both (same-answer (demangle most-symbol-bytes (b w)) a) (answered rows) h in
-    (same-answer→eq (demangle most-symbol-bytes (b w)) a p, by-test rows q)
-
-pub starred-answered : Answered starred
-unfolding answered starred
-starred-answered = by-test starred tt
+by-test ((w ⇒ c) ∷ rows) h =
+    let (p, q) = both (same-answer (c .0 (b w)) (c .1)) (answered rows) h in
+    (same-answer→eq (c .0 (b w)) (c .1) p, by-test rows q)
 
 pub departures-answered : Answered departures
 unfolding answered departures

@@ -3,7 +3,7 @@
 use mathlib.Core.Logic.{_↔_}
 use mathlib.Core.Bool.{true}
 use mathlib.Core.Option.{some}
-use mathlib.Core.Path.{_≡_, sym, ap, _∙_}
+use mathlib.Core.Path.{_≡_, sym, ap, subst, _∙_}
 use Prim.Native.Nat.{_≤_}
 use lib.ListN.{length, take}
 use Rattle.grammar.specs.Text.{Text}
@@ -64,8 +64,18 @@ class-of {s} {v} h = walk-normal s v (walk-is s ∙ h .is)
 
 -- ---- demand 3
 
--- "Over the catalogue class, normal symbols are equal exactly when printed names are, and a normal symbol is accepted, prints the same
--- name and is its own normal symbol." The first half, of any two symbols for which both entries answered 0.
+-- "Over the "catalogue" class, normal symbols are equal exactly when printed names are, and a normal symbol is accepted, prints the same
+-- name and is its own normal symbol. Proved of the definitions and of what the entries write."
+
+-- v is an accepted catalogue symbol of the name x and its own normal symbol, by the definitions and in every run of the entries
+pub record Normal-named (v x : Text) : Type 0 where
+  pub is : Catalogue v
+  pub accepted : demangle most-symbol-bytes v ≡ named x
+  pub own : (c : Catalogue v) → normal-of c ≡ v
+  pub names : Always-named v x
+  pub normals : Always-normalized v v
+
+-- The first half, of any two symbols for which both entries answered 0.
 pub equal-normals-equal-names : {s t x y v w : Text} → Named s x → Named t y → Normalized s v → Normalized t w → (v ≡ w) ↔ (x ≡ y)
 equal-normals-equal-names {x = x} {y = y} h k i j =
     let (c, e) = class-of (normal-of-is i) in
@@ -90,10 +100,16 @@ module _ {s x v : Text} (h : Named s x) (k : Normalized s v) where
         short = normal-of-is k .short;
       }
 
-  -- "Over the catalogue class, normal symbols are equal exactly when printed names are, and a normal symbol is accepted, prints the same
-  -- name and is its own normal symbol." The second half, of what was written for a symbol for which both entries answered 0.
-  pub normal-is-normal : Always-named v x × Always-normalized v v
-  normal-is-normal = (
-    (λ l l' r f g i. let (a, b) = writes-name v l l' r i x normal-name f g in record { number = a; text = b }),
-    (λ l l' r f g i. let (a, b) = writes-normal v l l' r i v normal-normal f g in record { number = a; text = b }),
-  )
+  -- The second half, of what was written for a symbol for which both entries answered 0: "a normal symbol is accepted, prints the same
+  -- name and is its own normal symbol".
+  pub normal-is-normal : Normal-named v x
+  normal-is-normal =
+      let (c, e) = class-of (normal-of-is k) in
+      let (d, i, f) = demand-3-second c x (name-of h) (rw e (normal-of-is k .short)) in
+      record {
+        is = rw e at d;
+        accepted = normal-name;
+        own = subst (λ (w : Text). (a : Catalogue w) → normal-of a ≡ w) e f;
+        names = λ l l' r f g i. let (a, b) = writes-name v l l' r i x normal-name f g in record { number = a; text = b };
+        normals = λ l l' r f g i. let (a, b) = writes-normal v l l' r i v normal-normal f g in record { number = a; text = b };
+      }
