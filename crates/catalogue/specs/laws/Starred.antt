@@ -38,7 +38,7 @@ starred =
     ∷ []
 
 -- the two symbols of document 01's listing
-unfoldable pub listed : List (Row Case)
+abbrev pub listed : List (Row Case)
 listed =
     "_Z1fv" ⇒ prints "f()"
     ∷ "_Z0v" ⇒ refuses 4
@@ -51,5 +51,5 @@ unfolding answered agreeing normal-told normal-after normal-symbol starred
 starred-answered = by-test starred tt
 
 pub listed-answered : Answered listed
-unfolding answered agreeing normal-told normal-after normal-symbol listed
+unfolding answered agreeing normal-told normal-after normal-symbol
 listed-answered = by-test listed tt
