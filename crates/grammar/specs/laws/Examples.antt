@@ -10,8 +10,9 @@ use Rattle.grammar.specs.Grammar as g
 use Rattle.grammar.specs.Names as n
 use Rattle.grammar.specs.laws.Text.{both, same→eq}
 use Rattle.grammar.specs.Text.{b, same}
+use Rattle.grammar.specs.Limits.{most-symbol-bytes}
 use Rattle.grammar.specs.Tables.{Row, _⇒_}
-use Rattle.grammar.specs.Names.{Answer, named, refusal, demangle, most-symbol-bytes}
+use Rattle.grammar.specs.Names.{Answer, named, refusal, demangle}
 
 -- the proposition: each symbol of a table has the answer that stands beside it
 abbrev pub Answered : List (Row Answer) → Type 0

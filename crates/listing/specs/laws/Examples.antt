@@ -3,7 +3,8 @@ use mathlib.Core.List.{[], _∷_, _++_}
 use mathlib.Core.Option.{some}
 use mathlib.Core.Path.{_≡_, ap, ap₂, _∙_}
 use Rattle.grammar.specs.Text.{Text, b, if_then_else_, decimal}
-use Rattle.grammar.specs.Names.{named, refusal, demangle, most-symbol-bytes, number-of, length-of}
+use Rattle.grammar.specs.Limits.{most-symbol-bytes}
+use Rattle.grammar.specs.Names.{named, refusal, demangle, number-of, length-of}
 use Rattle.grammar.specs.laws.Examples.{starred, starred-answered}
 use Rattle.catalogue.specs.Tree.{Enc}
 use Rattle.catalogue.specs.Class.{Res}

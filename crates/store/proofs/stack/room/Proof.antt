@@ -3,7 +3,7 @@
 use mathlib.Core.Path.{refl}
 use native.Mathlib.Omega.{arith}
 use borrow.Author.Needs.{needs}
-use Rattle.store.specs.Stack.{kept-bytes}
+use Rattle.grammar.specs.Limits.{kept-bytes}
 use Rattle.store.proofs.Stacks.{room-here, room-cut}
 use Rattle.store.proofs.stack.room.Statement.{statement}
 use Rattle.store.proofs.stack.room.Tie as tie
