@@ -1,4 +1,4 @@
--- `store::stack::room` meets its contract: the stack is as it was, or `cut` leaves its newest 32,768 bytes.
+-- `store::stack::room` meets its contract: the stack is as it was, or `cut` leaves the newest bytes that are kept.
 -- Assumes nothing.
 use mathlib.Core.Path.{refl}
 use native.Mathlib.Omega.{arith}
