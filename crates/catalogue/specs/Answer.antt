@@ -1,11 +1,12 @@
 -- The answer of the entry for normal symbols: the normal symbol of an accepted catalogue symbol, or the number of the first refusal.
 use mathlib.Core.Bool.{Bool, _&&_}
 use mathlib.Core.Option.{Option, none, some}
-use Prim.Native.Nat.{ℕ}
+use Prim.Native.Nat.{ℕ, _*_}
 use lib.Dec.{leb}
 use lib.ListN.{length}
 use Rattle.grammar.specs.Text.{Text, if_then_else_}
-use Rattle.grammar.specs.Names.{Answer, named, refusal, Lent, front, mangled-name, demangle, within, most-symbol-bytes, least-text, least-store}
+use Rattle.grammar.specs.Limits.{most-symbol-bytes, least-text, least-store}
+use Rattle.grammar.specs.Names.{Answer, named, refusal, Lent, front, mangled-name, demangle, within}
 use Rattle.catalogue.specs.Tree.{Enc}
 use Rattle.catalogue.specs.Class.{Res, ok, wrong}
 use Rattle.catalogue.specs.Normal.{write}
@@ -32,9 +33,10 @@ normal-symbol s = normal-after s (demangle most-symbol-bytes s)
 
 -- ---------------------------------------------------------------- the entry for normal symbols, with its slices
 
--- it shares the work slices of the entry for names, and needs more of `ends`
+-- it shares the work slices of the entry for names, and needs more of `ends`: four numbers for each node, and one for each entry of two tables,
+-- of all which a symbol has at most as many as bytes
 abbrev pub least-normal-ends : ℕ
-least-normal-ends = 24576
+least-normal-ends = 6 * most-symbol-bytes
 
 unfoldable pub normal-work-fits : Lent → Bool
 normal-work-fits l = leb least-text (l .text) && leb least-store (l .store) && leb least-normal-ends (l .ends)

@@ -2,8 +2,11 @@
 ghost use mathlib.Core.Path.{_≡_};
 ghost use Rattle.catalogue.specs.Class.{most-arguments};
 
+// The arguments of all lists of a symbol together.
+pub const ARGUMENTS: usize = 1024;
+
 pub fn most_arguments() -> usize
     ensures { λ r. ⌜ r ≡ most-arguments ⌝ }
 {
-    1024
+    ARGUMENTS
 }

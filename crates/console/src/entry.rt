@@ -1,17 +1,23 @@
 // The entry: a program is a call of it.
 use crate::input::list_input;
+use crate::lines::MOST_KEPT;
+use demangle::symbol;
 use listing::listing::Kind;
+use listing::listing::NAME;
+
+// So many bytes are read at once, and so many of the listing are written at once.
+const CHUNK: usize = 65536;
 
 // Writes the header, and the listing of standard input, one symbol a line. `ends` is long enough for either kind.
 pub fn run(kind: Kind) {
     io::write_all(1, b"code,bytes,name\n");
-    let mut chunk = [0u8; 65536];
-    let mut lines = [0u8; 69634];
-    let mut out = [0u8; 65536];
-    let mut name = [0u8; 16384];
-    let mut text = [0u8; 51200];
-    let mut store = [0u8; 65536];
-    let mut ends = [0u16; 24576];
+    let mut chunk = [0u8; CHUNK];
+    let mut lines = [0u8; CHUNK + MOST_KEPT + 1];
+    let mut out = [0u8; CHUNK];
+    let mut name = [0u8; NAME];
+    let mut text = [0u8; symbol::TEXT];
+    let mut store = [0u8; symbol::STORE];
+    let mut ends = [0u16; normalize::entry::ENDS];
     list_input(
         kind,
         &mut chunk,

@@ -5,6 +5,7 @@ use crate::output::write_listing;
 use listing::listing::Kind;
 ghost use Prim.Native.Nat.{_+_, _≤_};
 ghost use lib.ListN.{length};
+ghost use Rattle.listing.specs.Cut.{most-kept};
 
 // How many bytes of `lines` are used, and whether there is more to read.
 struct Turn {
@@ -24,8 +25,8 @@ fn read_once(
     store: &mut [u8],
     ends: &mut [u16],
 ) -> Turn
-    requires { ⌜ (used ≤ 4097) × (4097 + length (now chunk) ≤ length (now lines)) ⌝ }
-    ensures { λ r. ⌜ r .used ≤ 4097 ⌝ }
+    requires { ⌜ (used ≤ most-kept) × (most-kept + length (now chunk) ≤ length (now lines)) ⌝ }
+    ensures { λ r. ⌜ r .used ≤ most-kept ⌝ }
 {
     let got = libc::read(0, chunk);
     let n = io::count(got, chunk);
@@ -59,7 +60,7 @@ pub fn list_input(
     store: &mut [u8],
     ends: &mut [u16],
 )
-    requires { ⌜ 4098 + length (now chunk) ≤ length (now lines) ⌝ }
+    requires { ⌜ most-kept + 1 + length (now chunk) ≤ length (now lines) ⌝ }
 {
     let mut used: usize = 0;
     let mut goes_on = true;

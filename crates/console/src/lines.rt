@@ -1,12 +1,14 @@
 // The lines that are kept of the input.
 use grammar::text;
 use listing::feeds::line_end;
+use parser::state::Parser;
 ghost use Prim.Native.Nat.{_+_, _≤_};
 ghost use lib.ListN.{length};
+ghost use Rattle.listing.specs.Cut.{most-kept};
 ghost use Rattle.console.specs.Kept.{Keeps, Puts};
 
 // So many bytes of a line are kept: enough to tell that it is too long for a symbol.
-const MOST_KEPT: usize = 4097;
+pub const MOST_KEPT: usize = Parser::SYMBOL + 1;
 
 // How many bytes of `lines` are used, and where the line begins that has no line feed yet.
 pub struct Kept {
@@ -29,7 +31,7 @@ fn keep_part(part: &[u8], lines: &mut [u8], end: usize, left: usize) -> usize
 
 // Puts the bytes of `chunk` behind the `used` bytes of a line, each line cut to the bytes that are kept.
 pub fn keep(chunk: &[u8], lines: &mut [u8], used: usize) -> Kept
-    requires { ⌜ (used ≤ 4097) × (used + length (now chunk) ≤ length (now lines)) ⌝ }
+    requires { ⌜ (used ≤ most-kept) × (used + length (now chunk) ≤ length (now lines)) ⌝ }
     ensures { λ r. ⌜ Keeps (now (chunk .entry)) (now (lines .entry)) (now (lines .exit)) used r ⌝ }
 {
     let mut end = used;

@@ -5,7 +5,8 @@ use Prim.Native.Nat.{ℕ, _≤_}
 use lib.Dec.{leb}
 use lib.ListN.{length}
 use Rattle.grammar.specs.Text.{Text}
-use Rattle.grammar.specs.Names.{answer, most-symbol-bytes, number-of, length-of, written, least-text, least-store}
+use Rattle.grammar.specs.Limits.{most-symbol-bytes, least-text, least-store}
+use Rattle.grammar.specs.Names.{answer, number-of, length-of, written}
 use Rattle.grammar.specs.Names as n
 use Rattle.store.specs.Stack.{zeros}
 use Rattle.demangle.specs.declared.entry.Answer.{Answer}

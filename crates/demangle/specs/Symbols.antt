@@ -3,7 +3,8 @@ use mathlib.Core.Path.{_≡_}
 use Prim.Native.Nat.{_≤_}
 use lib.ListN.{length, drop}
 use Rattle.grammar.specs.Text.{Text}
-use Rattle.grammar.specs.Names.{front, most-symbol-bytes}
+use Rattle.grammar.specs.Limits.{most-symbol-bytes}
+use Rattle.grammar.specs.Names.{front}
 use Rattle.grammar.specs.Names as n
 use Rattle.demangle.specs.declared.symbol.Front.{Front}
 use Rattle.demangle.specs.declared.symbol.Front.the-variants.{Behind, Refused}
@@ -14,7 +15,7 @@ fronted s (Behind k) f = f (drop k s)
 fronted s (Refused r) f = n.refusal r
 
 abbrev pub Front-inside : Text → Front → Type 0
-Front-inside s (Behind k) = (k ≤ length s) × (length s ≤ 4096)
+Front-inside s (Behind k) = (k ≤ length s) × (length s ≤ most-symbol-bytes)
 Front-inside s (Refused r) = Unit {0}
 
 pub record Fronts (s : Text) (r : Front) : Type 0 where

@@ -9,7 +9,8 @@ use store::stack;
 ghost use mathlib.Core.Path.{_≡_};
 ghost use Prim.Native.Nat.{_≤_};
 ghost use lib.ListN.{length, drop};
-ghost use Rattle.grammar.specs.Names.{answer, most-symbol-bytes, mangled-name, within, least-ends};
+ghost use Rattle.grammar.specs.Limits.{most-symbol-bytes, most-text-bytes, least-ends};
+ghost use Rattle.grammar.specs.Names.{answer, mangled-name, within};
 ghost use Rattle.parser.specs.Holds.{mem};
 ghost use Rattle.encoding.specs.Encodings.{Least};
 ghost use Rattle.demangle.specs.Outcome.{slices, lent, Demangles, Long};
@@ -67,7 +68,7 @@ fn read_behind(
     store: &mut [u8],
     ends: &mut [u16],
 ) -> Answer
-    requires { ⌜ ((at ≤ length (now s)) × (length (now s) ≤ 4096)) × Long least-ends (slices (now out) (now text) (now store) (now ends)) ⌝ }
+    requires { ⌜ ((at ≤ length (now s)) × (length (now s) ≤ most-symbol-bytes)) × Long least-ends (slices (now out) (now text) (now store) (now ends)) ⌝ }
     ensures { λ r. ⌜ Tells (within (length (now (out .entry))) (mangled-name (drop at (now (s .entry))))) (now (out .entry)) (now (out .exit)) r ⌝ }
 {
     read(
@@ -81,7 +82,7 @@ fn read_behind(
 
 // What is behind _Z, read and printed. The work slices have their least lengths.
 fn read(s: &[u8], out: &mut [u8], text: &mut [u8], store: &mut [u8], ends: &mut [u16]) -> Answer
-    requires { ⌜ (length (now s) ≤ 16384) × Least (mem (now text) (now store) (now ends)) ⌝ }
+    requires { ⌜ (length (now s) ≤ most-text-bytes) × Least (mem (now text) (now store) (now ends)) ⌝ }
     ensures { λ r. ⌜ Tells (within (length (now (out .entry))) (mangled-name (now (s .entry)))) (now (out .entry)) (now (out .exit)) r ⌝ }
 {
     let got = mangled::mangled_name(s, text, store, ends);

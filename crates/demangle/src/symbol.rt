@@ -1,21 +1,24 @@
 // What is told of a symbol before it is read, and its name written.
 use grammar::text as bytes;
+use parser::state::Parser;
+use store::stack;
 ghost use mathlib.Core.Bool.{_&&_};
 ghost use mathlib.Core.Path.{_≡_};
 ghost use mathlib.Core.List.{_++_};
 ghost use Prim.Native.Nat.{_-_, _≤_};
 ghost use lib.Dec.{leb};
 ghost use lib.ListN.{length, take, drop};
-ghost use Rattle.grammar.specs.Names.{high, without-slots, least-text, least-store};
+ghost use Rattle.grammar.specs.Limits.{least-text, least-store};
+ghost use Rattle.grammar.specs.Names.{high, without-slots};
 ghost use Rattle.store.specs.Stack.{slots-in};
 ghost use Rattle.demangle.specs.Symbols.{Fronts};
 
 // The least lengths of the work slices.
-pub const TEXT: usize = 51200;
+pub const TEXT: usize = stack::LENGTH;
 
-pub const STORE: usize = 65536;
+pub const STORE: usize = 2 * Parser::BYTES;
 
-pub const ENDS: usize = 2048;
+pub const ENDS: usize = 2 * Parser::ENTRIES;
 
 // The place behind _Z or __Z, or why there is none.
 pub enum Front {
@@ -41,7 +44,7 @@ pub fn has_high(s: &[u8]) -> bool
 pub fn behind_front(s: &[u8]) -> Front
     ensures { λ r. ⌜ Fronts (now (s .entry)) r ⌝ }
 {
-    if 4096 < s.len() {
+    if Parser::SYMBOL < s.len() {
         return Front::Refused(1);
     }
     if has_high(s) {

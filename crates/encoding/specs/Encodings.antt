@@ -5,6 +5,7 @@ use mathlib.Core.Path.{_≡_}
 use Prim.Native.Nat.{ℕ, _+_, _≤_}
 use lib.ListN.{length, drop}
 use Rattle.grammar.specs.Text.{Text, b, choose, same, each, join}
+use Rattle.grammar.specs.Limits.{most-text-bytes, least-text, least-store, least-ends}
 use Rattle.grammar.specs.Tables.{labels}
 use Rattle.grammar.specs.Reader.{State, Result, ok, refused, Reader, onto, give, find}
 use Rattle.grammar.specs.Words.{word-of, Picked-inside}
@@ -74,7 +75,7 @@ pub record Prints (k : ℕ) (s base : Text) (m : Memory) (p : Parser) (n : ℕ) 
   pub text : Stack (m .text) (p .top)
   pub tail : Tail k (window m p) (base ++ t)
   pub size : n ≡ length t
-  pub short : length t ≤ 16384
+  pub short : length t ≤ most-text-bytes
 
 -- the code's answer is the grammar's
 pub data Encodes (k : ℕ) (s base : Text) (m : Memory) : Read → Result Text → Type 0 where
@@ -83,6 +84,6 @@ pub data Encodes (k : ℕ) (s base : Text) (m : Memory) : Read → Result Text �
 
 -- the work slices have their least lengths
 pub record Least (m : Memory) : Type 0 where
-  pub text : length (m .text) ≡ 51200
-  pub store : length (m .store) ≡ 65536
-  pub ends : length (m .ends) ≡ 2048
+  pub text : length (m .text) ≡ least-text
+  pub store : length (m .store) ≡ least-store
+  pub ends : length (m .ends) ≡ least-ends

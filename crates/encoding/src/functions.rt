@@ -14,6 +14,7 @@ ghost use mathlib.Core.Path.{_≡_};
 ghost use Prim.Native.Nat.{_+_, _≤_, min};
 ghost use lib.ListN.{length, drop};
 ghost use Rattle.grammar.specs.Text.{Text, b};
+ghost use Rattle.grammar.specs.Limits.{most-text-bytes, most-entry-bytes, most-length};
 ghost use Rattle.grammar.specs.Grammar.{reading, ended, function-or-data};
 ghost use Rattle.store.specs.Stack.{Stack};
 ghost use Rattle.parser.specs.Holds.{mem, Ready, Reads, keep};
@@ -69,7 +70,7 @@ fn template_function(
     from: usize,
     to: usize,
 ) -> Read
-    requires { ⌜ (Ready (now s) (mem (now text) (now store) (now ends)) p) × ((n ≤ 16384) × ((n ≤ p .top) × ((from ≤ to) × (to ≤ length (now s))))) ⌝ }
+    requires { ⌜ (Ready (now s) (mem (now text) (now store) (now ends)) p) × ((n ≤ most-text-bytes) × ((n ≤ p .top) × ((from ≤ to) × (to ≤ length (now s))))) ⌝ }
     ensures { λ r. ⌜ GoesOn with-returned (now (s .entry))
         (mem (now (text .entry)) (now (store .entry)) (now (ends .entry))) (mem (now (text .exit)) (now (store .exit)) (now (ends .exit))) p n from to r ⌝ }
 {
@@ -115,7 +116,7 @@ fn function(
 
 // Whether the parameters, of n bytes, are a void alone at the end of the symbol.
 fn lone_void(s: &[u8], text: &[u8], p: Parser, n: usize, count: usize) -> bool
-    requires { ⌜ (Stack (now text) (p .top)) × ((p .at ≤ length (now s)) × (min n 32768 ≤ p .top)) ⌝ }
+    requires { ⌜ (Stack (now text) (p .top)) × ((p .at ≤ length (now s)) × (min n most-entry-bytes ≤ p .top)) ⌝ }
     ensures { λ r. ⌜ LoneVoid (now (s .entry)) (now (text .entry)) p n count r ⌝ }
 {
     if count != 1 {
@@ -133,7 +134,7 @@ fn lone_void(s: &[u8], text: &[u8], p: Parser, n: usize, count: usize) -> bool
 
 // A text of n bytes is returned with what the qualifiers print.
 fn qualified(s: &[u8], text: &mut [u8], p: Parser, n: usize, from: usize, to: usize) -> Read
-    requires { ⌜ (Stack (now text) (p .top)) × ((n ≤ 65536) × ((from ≤ to) × (to ≤ length (now s)))) ⌝ }
+    requires { ⌜ (Stack (now text) (p .top)) × ((n ≤ most-length) × ((from ≤ to) × (to ≤ length (now s)))) ⌝ }
     ensures { λ r. ⌜ Qualifies (now (s .entry)) (now (text .entry)) (now (text .exit)) p n from to r ⌝ }
 {
     let mut next = p;

@@ -13,6 +13,7 @@ ghost use mathlib.Core.List.{[]};
 ghost use Prim.Native.Nat.{_≤_};
 ghost use lib.ListN.{length};
 ghost use Rattle.grammar.specs.Text.{b, starts};
+ghost use Rattle.grammar.specs.Limits.{most-text-bytes};
 ghost use Rattle.grammar.specs.Reader.{start};
 ghost use Rattle.grammar.specs.Grammar.{reading, ⟨encoding⟩};
 ghost use Rattle.parser.specs.Holds.{mem, window, keep};
@@ -20,7 +21,7 @@ ghost use Rattle.encoding.specs.Encodings.{Labels, Fresh, Encodes, Least
 
 // <encoding>; what GTt and GV leave unread is dropped
 pub fn mangled_name(s: &[u8], text: &mut [u8], store: &mut [u8], ends: &mut [u16]) -> Read
-    requires { ⌜ (length (now s) ≤ 16384) × Least (mem (now text) (now store) (now ends)) ⌝ }
+    requires { ⌜ (length (now s) ≤ most-text-bytes) × Least (mem (now text) (now store) (now ends)) ⌝ }
     ensures { λ r. ⌜ Encodes (keep 0) (now (s .entry)) [] (mem (now (text .exit)) (now (store .exit)) (now (ends .exit))) r (reading ⟨encoding⟩ (start (now (s .entry)))) ⌝ }
 {
     let mut at: usize = 0;
@@ -44,7 +45,7 @@ pub fn mangled_name(s: &[u8], text: &mut [u8], store: &mut [u8], ends: &mut [u16
 
 // an encoding that does not begin with GTt
 fn encoding(s: &[u8], text: &mut [u8], store: &mut [u8], ends: &mut [u16], p: Parser) -> Read
-    requires { ⌜ (length (now s) ≤ 16384) × ((starts (now s) (b "GTt") ≡ false) × Fresh (mem (now text) (now store) (now ends)) p) ⌝ }
+    requires { ⌜ (length (now s) ≤ most-text-bytes) × ((starts (now s) (b "GTt") ≡ false) × Fresh (mem (now text) (now store) (now ends)) p) ⌝ }
     ensures { λ r. ⌜ Encodes (keep 0) (now (s .entry)) (window (mem (now (text .entry)) (now (store .entry)) (now (ends .entry))) p)
         (mem (now (text .exit)) (now (store .exit)) (now (ends .exit))) r (reading ⟨encoding⟩ (start (now (s .entry)))) ⌝ }
 {
@@ -77,7 +78,7 @@ fn label(s: &[u8]) -> Picked
 
 // GV <object name>
 fn guard_variable(s: &[u8], text: &mut [u8], store: &mut [u8], ends: &mut [u16], p: Parser) -> Read
-    requires { ⌜ (length (now s) ≤ 16384) × ((starts (now s) (b "GV") ≡ true) × Fresh (mem (now text) (now store) (now ends)) p) ⌝ }
+    requires { ⌜ (length (now s) ≤ most-text-bytes) × ((starts (now s) (b "GV") ≡ true) × Fresh (mem (now text) (now store) (now ends)) p) ⌝ }
     ensures { λ r. ⌜ Encodes (keep 0) (now (s .entry)) (window (mem (now (text .entry)) (now (store .entry)) (now (ends .entry))) p)
         (mem (now (text .exit)) (now (store .exit)) (now (ends .exit))) r (reading ⟨encoding⟩ (start (now (s .entry)))) ⌝ }
 {

@@ -5,6 +5,7 @@ use Prim.Native.Nat.{ℕ}
 use lib.ListN.{length, drop}
 use lib.Dec.{eqb, leb, ltb}
 use Rattle.grammar.specs.Text.{Text, if_then_else_, choose, each}
+use Rattle.grammar.specs.Limits.{least-text, least-store, least-ends}
 use Rattle.grammar.specs.Tables.{_⇒_}
 use Rattle.grammar.specs.Reader.{Result, ok, refused, start, find}
 use Rattle.grammar.specs.Grammar.{⟨encoding⟩, reading, ended, slot}
@@ -40,9 +41,6 @@ front limit t answer =
 unfoldable pub demangle : ℕ → Text → Answer
 demangle limit t = front limit t mangled-name
 
-abbrev pub most-symbol-bytes : ℕ
-most-symbol-bytes = 4096
-
 -- ---------------------------------------------------------------- the entry for names, with its slices
 
 -- the lengths of the slices that a caller lends: the output and the three work slices
@@ -51,16 +49,6 @@ pub record Lent : Type 0 where
   pub text : ℕ
   pub store : ℕ
   pub ends : ℕ
-
--- the least lengths of the work slices, in their elements
-abbrev pub least-text : ℕ
-least-text = 51200
-
-abbrev pub least-store : ℕ
-least-store = 65536
-
-abbrev pub least-ends : ℕ
-least-ends = 2048
 
 unfoldable pub work-fits : Lent → Bool
 work-fits l = leb least-text (l .text) && leb least-store (l .store) && leb least-ends (l .ends)

@@ -8,6 +8,7 @@ use Prim.Native.String.{String}
 use lib.ListN.{length, drop}
 use lib.Dec.{leb, ltb}
 use Rattle.grammar.specs.Text.{Text, b, if_then_else_, choose, same, starts, run, past}
+use Rattle.grammar.specs.Limits.{most-open, most-entries, most-text-bytes, most-entry-bytes}
 use Rattle.grammar.specs.Tables.{Row, _⇒_, Table}
 
 -- the Rust's `Parser`, its place given by the bytes that are left
@@ -80,18 +81,6 @@ unfoldable pub set-templated : Bool → Reader (Unit {0})
 set-templated q s = ok tt (record { rest = s .rest; subs = s .subs; args = s .args; depth = s .depth; cv = s .cv; templated = q })
 
 -- ---------------------------------------------------------------- limits
-
-abbrev pub most-open : ℕ
-most-open = 96
-
-abbrev pub most-entries : ℕ
-most-entries = 1024
-
-abbrev pub most-entry-bytes : ℕ
-most-entry-bytes = 32768
-
-abbrev pub most-text-bytes : ℕ
-most-text-bytes = 16384
 
 unfoldable pub bytes-of : List Text → ℕ
 bytes-of [] = 0

@@ -3,10 +3,11 @@ use mathlib.Core.List.{[], _∷_}
 use Prim.Native.Nat.{ℕ, _+_, _-_}
 use lib.Dec.{eqb, ltb}
 use Rattle.grammar.specs.Text.{Text, if_then_else_}
+use Rattle.grammar.specs.Limits.{most-symbol-bytes}
 use Rattle.listing.specs.Listing.{line-feed, lines}
 
 abbrev pub most-kept : ℕ
-most-kept = 4097
+most-kept = most-symbol-bytes + 1
 
 -- what is kept of a text, where n bytes are kept of the line that it goes on with
 unfoldable pub cut-lines : ℕ → Text → Text

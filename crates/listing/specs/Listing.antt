@@ -7,7 +7,8 @@ use Prim.Native.Char.{code}
 use lib.ListN.{length, drop}
 use lib.Dec.{eqb, leb}
 use Rattle.grammar.specs.Text.{Text, if_then_else_, decimal}
-use Rattle.grammar.specs.Names.{Answer, named, refusal, demangle, most-symbol-bytes, number-of, length-of, least-text, least-store, least-ends}
+use Rattle.grammar.specs.Limits.{most-symbol-bytes, most-text-bytes, least-text, least-store, least-ends}
+use Rattle.grammar.specs.Names.{Answer, named, refusal, demangle, number-of, length-of}
 use Rattle.catalogue.specs.Answer.{normal-symbol, least-normal-ends}
 use Rattle.store.specs.Stack.{zeros}
 use Rattle.demangle.specs.Outcome.{Slices}
@@ -72,7 +73,7 @@ fitting kind room (s ∷ ss) =
 -- ---------------------------------------------------------------- the entry for listings, with its slices
 
 abbrev pub least-name : ℕ
-least-name = 16384
+least-name = most-text-bytes
 
 -- the entry for normal symbols needs more of `ends`
 abbrev pub least-ends-of : Kind → ℕ

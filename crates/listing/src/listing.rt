@@ -7,6 +7,7 @@ use demangle::symbol;
 use grammar::numbers;
 use grammar::text;
 use normalize::entry::normalize_uncleared;
+use parser::state::Parser;
 use store::stack;
 ghost use mathlib.Core.Path.{_≡_};
 ghost use Prim.Native.Nat.{_≤_, _<_};
@@ -20,7 +21,7 @@ ghost use Rattle.listing.specs.Kinds.{LongFor};
 ghost use Rattle.listing.specs.Entry.{taken-lines};
 
 // The least length of the slice for a name or a normal symbol; those of the others are the entries'.
-pub const NAME: usize = 16384;
+pub const NAME: usize = Parser::TEXT;
 
 // What is listed of a symbol: its name, or its normal symbol.
 pub enum Kind {

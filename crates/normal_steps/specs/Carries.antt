@@ -9,12 +9,14 @@ use Prim.Native.Char.{code}
 use lib.Dec.{ltb}
 use lib.ListN.{length, drop}
 use Rattle.grammar.specs.Text.{Text}
+use Rattle.grammar.specs.Limits.{most-symbol-bytes}
 use Rattle.store.specs.Table.{Front}
 use Rattle.catalogue.specs.Bytes.{all}
 use Rattle.catalogue.specs.Spelling.{name-bytes}
 use Rattle.normal_walk.specs.Walk.{name, literal, lit-bytes}
 use Rattle.normal_nodes.specs.Nodes.{Node, node, Notes, Noter, Got, got, bad, firsts, with, when, put, go-to, noted, counted, number-of, tag-of, may-stand}
 use Rattle.normal_nodes.specs.Nodes.{lit-node, sub-node, arg-node, wrap-node, enter}
+use Rattle.normal_steps.specs.Limits.{out-length}
 use Rattle.normal_steps.specs.Parts.{part}
 use Rattle.normal_steps.specs.Regions.{Regions}
 use Rattle.normal_steps.specs.States.{written-to}
@@ -77,7 +79,7 @@ small d = ltb d most-number
 
 -- the state and the slices hold what is kept
 pub record Carries (s : Text) (ws : Work) (p : Writer) (σ : Notes) : Type 0 where
-  pub source : length s ≤ 4096
+  pub source : length s ≤ most-symbol-bytes
   pub place : p .at ≤ length s
   pub rest : σ .rest ≡ drop (p .at) s
   pub rows : List Row
@@ -88,7 +90,7 @@ pub record Carries (s : Text) (ws : Work) (p : Writer) (σ : Notes) : Type 0 whe
   pub table-count : p .table ≡ length (σ .table)
   pub firsts-count : p .firsts ≡ length (firsts (σ .table))
   pub numbers : all small (σ .table) ≡ true
-  pub out-is : Front 65536 (σ .out) (ws .out)
+  pub out-is : Front out-length (σ .out) (ws .out)
   pub out-count : p .out ≡ length (σ .out)
   pub args-count : p .args ≡ σ .args
   pub few-nodes : p .nodes ≤ p .at

@@ -1,3 +1,4 @@
+pub mod Limits
 pub mod Parts
 pub mod Alphabets
 pub mod Answers

@@ -11,8 +11,10 @@ ghost use Prim.Native.Nat.{_+_, _-_, _*_, _≤_, _<_};
 ghost use lib.Dec.{eqb};
 ghost use lib.ListN.{length, take, getD, getElem?};
 ghost use Rattle.grammar.specs.Text.{Text};
+ghost use Rattle.grammar.specs.Limits.{most-symbol-bytes};
 ghost use Rattle.catalogue.specs.Spelling.{name-bytes};
 ghost use Rattle.normal_nodes.specs.Nodes.{Notes, node, same-node, note-last-is, settled, pushed};
+ghost use Rattle.normal_steps.specs.Limits.{most-note};
 ghost use Rattle.normal_steps.specs.Parts.{part};
 ghost use Rattle.normal_steps.specs.Seeks.{Sought};
 ghost use Rattle.normal_steps.specs.Carries.{Work, work, notes-to, Carries, Ready, ReadyNotes, Tag, Room, Steps, Does, Puts, Inside, node-in, nodes-in};
@@ -41,7 +43,7 @@ pub fn put_part(out: &mut [u8], p: Writer, s: &[u8], from: usize, to: usize) -> 
 
 // A part of the symbol is written as a source name.
 pub fn put_name(out: &mut [u8], p: Writer, s: &[u8], from: usize, to: usize) -> Writer
-    requires { ⌜ (from ≤ to) × ((to ≤ length (now s)) × ((to - from ≤ 4096)
+    requires { ⌜ (from ≤ to) × ((to ≤ length (now s)) × ((to - from ≤ most-symbol-bytes)
         × (p .out + length (name-bytes (part (now s) from to)) ≤ length (now out)))) ⌝ }
     ensures { λ r. ⌜ Puts (name-bytes (part (now (s .entry)) from to)) (now (out .entry)) (now (out .exit)) p r ⌝ }
 {
@@ -186,7 +188,7 @@ pub fn note(
     from: usize,
     to: usize,
 ) -> Told
-    requires { ⌜ ((tag < 65536) × (of < 65536)) × (((from ≤ to) × (to ≤ length (now s)))
+    requires { ⌜ ((tag < most-note) × (of < most-note)) × (((from ≤ to) × (to ≤ length (now s)))
         × ((Room 1 0 0 p) × ReadyNotes (now s) (now notes) p)) ⌝ }
     ensures { λ r. ⌜ ((ws : Work) → Steps 1 0 0 (p .out) (notes-node (node tag of (part (now (s .entry)) from to)))
         (now (s .entry)) (notes-to ws (now (notes .entry))) (notes-to ws (now (notes .exit))) p r) ⌝ }

@@ -1,4 +1,5 @@
 // The state of the writing of a normal symbol, by value, and what a step answers.
+use parser::state::Parser;
 ghost use mathlib.Core.Path.{_≡_};
 ghost use Rattle.normal_steps.specs.States.{begun-at, moved-to, written-to, noted-to, entered-to, counted-to};
 
@@ -25,13 +26,13 @@ pub enum Told {
 
 impl Writer {
     // Where the parts of the slice `notes` begin, and its length.
-    pub const TABLE: usize = 16384;
+    pub const TABLE: usize = 4 * Parser::SYMBOL;
 
-    pub const FIRSTS: usize = 20480;
+    pub const FIRSTS: usize = Writer::TABLE + Parser::SYMBOL;
 
-    pub const NOTES: usize = 24576;
+    pub const NOTES: usize = Writer::FIRSTS + Parser::SYMBOL;
 
-    pub const OUT: usize = 65536;
+    pub const OUT: usize = 16 * Parser::SYMBOL;
 
     // The number of the first node.
     pub const LEAST: usize = 256;

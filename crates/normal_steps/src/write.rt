@@ -5,6 +5,7 @@ ghost use mathlib.Core.Path.{_≡_};
 ghost use Prim.Native.Nat.{suc, _+_, _-_, _≤_, _<_};
 ghost use lib.ListN.{length};
 ghost use Rattle.grammar.specs.Text.{decimal};
+ghost use Rattle.grammar.specs.Limits.{most-symbol-bytes};
 ghost use Rattle.catalogue.specs.Spelling.{digit-of, ref-bytes, name-bytes};
 ghost use Rattle.normal_steps.specs.Parts.{part};
 ghost use Rattle.normal_steps.specs.WrittenAt.{WrittenAt};
@@ -23,7 +24,7 @@ fn digit_of(d: usize) -> u8
 
 // The reference to entry i.
 pub fn write_reference(out: &mut [u8], at: usize, i: usize) -> usize
-    requires { ⌜ (i ≤ 4096) × (at + length (ref-bytes i) ≤ length (now out)) ⌝ }
+    requires { ⌜ (i ≤ most-symbol-bytes) × (at + length (ref-bytes i) ≤ length (now out)) ⌝ }
     ensures { λ r. ⌜ WrittenAt (now (out .entry)) (now (out .exit)) at r (ref-bytes i) ⌝ }
 {
     out[at] = b'S';
@@ -79,7 +80,7 @@ fn write_decimal(out: &mut [u8], at: usize, n: usize) -> usize
 
 // The length of an identifier and its bytes.
 pub fn write_name(out: &mut [u8], at: usize, s: &[u8], from: usize, to: usize) -> usize
-    requires { ⌜ (from ≤ to) × ((to ≤ length (now s)) × ((to - from ≤ 4096)
+    requires { ⌜ (from ≤ to) × ((to ≤ length (now s)) × ((to - from ≤ most-symbol-bytes)
         × (at + length (name-bytes (part (now s) from to)) ≤ length (now out)))) ⌝ }
     ensures { λ r. ⌜ WrittenAt (now (out .entry)) (now (out .exit)) at r (name-bytes (part (now (s .entry)) from to)) ⌝ }
 {

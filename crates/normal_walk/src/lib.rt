@@ -2,7 +2,7 @@
 // The code here is the most bytes that a reference has, of the entries that a symbol has room for.
 ghost use Prim.Native.Nat.{ℕ, _≤_};
 ghost use lib.ListN.{length};
-ghost use Rattle.grammar.specs.Names.{most-symbol-bytes};
+ghost use Rattle.grammar.specs.Limits.{most-symbol-bytes};
 ghost use Rattle.catalogue.specs.Spelling.{ref-bytes};
 
 pub fn most_reference() -> usize

@@ -10,8 +10,11 @@ use normal_steps::words::Named;
 ghost use mathlib.Core.Path.{_≡_};
 ghost use Prim.Native.Nat.{_≤_};
 ghost use lib.ListN.{length};
+ghost use Rattle.grammar.specs.Limits.{most-symbol-bytes};
 ghost use Rattle.store.specs.Table.{Front};
+ghost use Rattle.catalogue.specs.Answer.{least-normal-ends};
 ghost use Rattle.normal_nodes.specs.Nodes.{note-symbol};
+ghost use Rattle.normal_steps.specs.Limits.{out-length};
 ghost use Rattle.normal_steps.specs.States.{begun-at};
 ghost use Rattle.normal_steps.specs.Carries.{work, Ready};
 ghost use Rattle.normal_writer.specs.Writes.{Plain, Scoped, Functions, Types, Writes};
@@ -30,8 +33,8 @@ pub enum Headed {
 
 // "_Z", "_ZN" or "_ZNK" is written, and taken.
 fn begin(out: &mut [u8], word: &[u8]) -> Writer
-    requires { ⌜ (length (now word) ≤ 4) × (length (now out) ≡ 65536) ⌝ }
-    ensures { λ r. ⌜ (r ≡ begun-at (length (now (word .entry))) (length (now (word .entry)))) × Front 65536 (now (word .entry)) (now (out .exit)) ⌝ }
+    requires { ⌜ (length (now word) ≤ 4) × (length (now out) ≡ out-length) ⌝ }
+    ensures { λ r. ⌜ (r ≡ begun-at (length (now (word .entry))) (length (now (word .entry)))) × Front out-length (now (word .entry)) (now (out .exit)) ⌝ }
 {
     bytes::copy(out, 0, word);
     let n = word.len();
@@ -40,7 +43,7 @@ fn begin(out: &mut [u8], word: &[u8]) -> Writer
 
 // <source-name>
 fn plain(s: &[u8], out: &mut [u8]) -> Headed
-    requires { ⌜ (length (now s) ≤ 4096) × (length (now out) ≡ 65536) ⌝ }
+    requires { ⌜ (length (now s) ≤ most-symbol-bytes) × (length (now out) ≡ out-length) ⌝ }
     ensures { λ r. ⌜ Plain (now (s .entry)) (now (out .exit)) r ⌝ }
 {
     let Named::At(from, to) = words::source_name(s, 2) else {
@@ -52,8 +55,8 @@ fn plain(s: &[u8], out: &mut [u8]) -> Headed
 
 // <parts> E behind N or NK, without arguments at the end
 fn scoped(s: &[u8], out: &mut [u8], notes: &mut [u16], word: &[u8], constant: bool) -> Headed
-    requires { ⌜ ((length (now s) ≤ 4096) × ((2 ≤ length (now word)) × ((length (now word) ≤ 4) × (length (now word) ≤ length (now s)))))
-        × ((length (now out) ≡ 65536) × (length (now notes) ≡ 24576)) ⌝ }
+    requires { ⌜ ((length (now s) ≤ most-symbol-bytes) × ((2 ≤ length (now word)) × ((length (now word) ≤ 4) × (length (now word) ≤ length (now s)))))
+        × ((length (now out) ≡ out-length) × (length (now notes) ≡ least-normal-ends)) ⌝ }
     ensures { λ r. ⌜ Scoped (now (word .entry)) constant (now (s .entry)) (work (now (out .exit)) (now (notes .exit))) r ⌝ }
 {
     let begun = begin(out, word);
@@ -68,7 +71,7 @@ fn scoped(s: &[u8], out: &mut [u8], notes: &mut [u16], word: &[u8], constant: bo
 
 // <name> ::= <source-name> | N [K] <parts> E
 fn function(s: &[u8], out: &mut [u8], notes: &mut [u16]) -> Headed
-    requires { ⌜ (length (now s) ≤ 4096) × ((length (now out) ≡ 65536) × (length (now notes) ≡ 24576)) ⌝ }
+    requires { ⌜ (length (now s) ≤ most-symbol-bytes) × ((length (now out) ≡ out-length) × (length (now notes) ≡ least-normal-ends)) ⌝ }
     ensures { λ r. ⌜ Functions (now (s .entry)) (work (now (out .exit)) (now (notes .exit))) r ⌝ }
 {
     if !bytes::starts_with(s, 2, b"N") {
@@ -100,7 +103,7 @@ fn types(s: &[u8], out: &mut [u8], notes: &mut [u16], p: Writer) -> Finished
 
 // <encoding> ::= <name> [<type>+]; at most 1,024 arguments
 pub fn write_symbol(s: &[u8], out: &mut [u8], notes: &mut [u16]) -> Finished
-    requires { ⌜ (length (now s) ≤ 4096) × ((length (now out) ≡ 65536) × (length (now notes) ≡ 24576)) ⌝ }
+    requires { ⌜ (length (now s) ≤ most-symbol-bytes) × ((length (now out) ≡ out-length) × (length (now notes) ≡ least-normal-ends)) ⌝ }
     ensures { λ r. ⌜ Writes (now (s .entry)) (work (now (out .exit)) (now (notes .exit))) r (note-symbol (now (s .entry))) ⌝ }
 {
     if !bytes::starts_with(s, 0, b"_Z") {
@@ -117,7 +120,7 @@ pub fn write_symbol(s: &[u8], out: &mut [u8], notes: &mut [u16]) -> Finished
     let Finished::Symbol(q) = types(s, out, notes, p) else {
         return Finished::Bad;
     };
-    if 1024 < q.args {
+    if catalogue::ARGUMENTS < q.args {
         return Finished::Bad;
     }
     Finished::Symbol(q)

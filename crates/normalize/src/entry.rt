@@ -7,21 +7,24 @@ use grammar::text as bytes;
 use normal_steps::state::Writer;
 use normal_writer::symbol as writing;
 use normal_writer::symbol::Finished;
+use parser::state::Parser;
 use store::stack;
 ghost use mathlib.Core.List.{[]};
 ghost use mathlib.Core.Option.{some};
 ghost use mathlib.Core.Path.{_≡_};
 ghost use Prim.Native.Nat.{_≤_};
 ghost use lib.ListN.{length, take};
-ghost use Rattle.grammar.specs.Names.{demangle, most-symbol-bytes, number-of, within};
+ghost use Rattle.grammar.specs.Limits.{most-symbol-bytes};
+ghost use Rattle.grammar.specs.Names.{demangle, number-of, within};
 ghost use Rattle.catalogue.specs.Answer.{normal-told, normal-answer, least-normal-ends};
 ghost use Rattle.demangle.specs.Outcome.{slices, lent, number-in, Long};
 ghost use Rattle.demangle.specs.Printed.{Tells};
+ghost use Rattle.normal_steps.specs.Limits.{out-length};
 ghost use Rattle.normalize.specs.Outcome.{Normalizes};
 ghost use Rattle.normalize.specs.Parts.{accepted-answer};
 
 // The least length of `ends`; those of `text` and `store` are symbol::TEXT and symbol::STORE.
-pub const ENDS: usize = 24576;
+pub const ENDS: usize = Writer::NOTES;
 
 // The normal symbol of the symbol, into `out`. Work slices of any lengths and contents.
 pub fn normalize(
@@ -71,7 +74,7 @@ fn accepted(s: &[u8], text: &mut [u8], store: &mut [u8], ends: &mut [u16]) -> u8
     requires { ⌜ Long least-normal-ends (slices [] (now text) (now store) (now ends)) ⌝ }
     ensures { λ r. ⌜ r ≡ number-of (demangle most-symbol-bytes (now (s .entry))) ⌝ }
 {
-    let mut name = [0u8; 16384];
+    let mut name = [0u8; Parser::TEXT];
     number(reading::demangle_uncleared(s, &mut name, text, store, ends))
 }
 
@@ -86,7 +89,7 @@ fn number(got: Answer) -> u8
 
 // The normal symbol of an accepted symbol. It is written in `store` first: `text` may be too short for it.
 fn write_within(s: &[u8], out: &mut [u8], store: &mut [u8], ends: &mut [u16]) -> Answer
-    requires { ⌜ (length (now s) ≤ 4096) × ((65536 ≤ length (now store)) × (24576 ≤ length (now ends))) ⌝ }
+    requires { ⌜ (length (now s) ≤ most-symbol-bytes) × ((out-length ≤ length (now store)) × (least-normal-ends ≤ length (now ends))) ⌝ }
     ensures { λ r. ⌜ Tells (accepted-answer (length (now (out .entry))) (now (s .entry))) (now (out .entry)) (now (out .exit)) r ⌝ }
 {
     write(
@@ -98,7 +101,7 @@ fn write_within(s: &[u8], out: &mut [u8], store: &mut [u8], ends: &mut [u16]) ->
 }
 
 fn write(s: &[u8], out: &mut [u8], store: &mut [u8], notes: &mut [u16]) -> Answer
-    requires { ⌜ (length (now s) ≤ 4096) × ((length (now store) ≡ 65536) × (length (now notes) ≡ 24576)) ⌝ }
+    requires { ⌜ (length (now s) ≤ most-symbol-bytes) × ((length (now store) ≡ out-length) × (length (now notes) ≡ least-normal-ends)) ⌝ }
     ensures { λ r. ⌜ Tells (accepted-answer (length (now (out .entry))) (now (s .entry))) (now (out .entry)) (now (out .exit)) r ⌝ }
 {
     let Finished::Symbol(p) = writing::write_symbol(s, store, notes) else {
@@ -112,7 +115,7 @@ fn print(out: &mut [u8], text: &[u8], n: usize) -> Answer
     requires { ⌜ n ≤ length (now text) ⌝ }
     ensures { λ r. ⌜ Tells (within (length (now (out .entry))) (normal-told (some (take n (now (text .entry)))))) (now (out .entry)) (now (out .exit)) r ⌝ }
 {
-    if 4096 < n {
+    if Parser::SYMBOL < n {
         return Answer::Refused(13);
     }
     if out.len() < n {

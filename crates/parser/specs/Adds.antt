@@ -4,6 +4,7 @@ use mathlib.Core.Path.{_≡_}
 use Prim.Native.Nat.{_+_}
 use lib.ListN.{take}
 use Rattle.grammar.specs.Text.{Text}
+use Rattle.grammar.specs.Limits.{kept-bytes}
 use Rattle.store.specs.Stack.{Stack, Tail}
 use Rattle.parser.specs.declared.state.Parser.{Parser}
 use Rattle.parser.specs.States.{raised-to}
@@ -12,4 +13,4 @@ use Rattle.parser.specs.States.{raised-to}
 pub record Adds (text text' : Text) (p p' : Parser) (t : Text) : Type 0 where
   pub same : p' ≡ raised-to p (p' .top)
   pub stack : Stack text' (p' .top)
-  pub tail : Tail 34816 (take (p' .top) text') (take (p .top) text ++ t)
+  pub tail : Tail kept-bytes (take (p' .top) text') (take (p .top) text ++ t)

@@ -4,6 +4,7 @@ use mathlib.Core.List.{List, [], _∷_, _++_}
 use mathlib.Core.Path.{_≡_}
 use Prim.Native.Nat.{ℕ, _+_, _≤_, _<_}
 use Rattle.grammar.specs.Text.{Text}
+use Rattle.grammar.specs.Limits.{most-entries, most-entry-bytes}
 use Rattle.grammar.specs.Reader.{State}
 use Rattle.store.specs.Table.{Entries}
 
@@ -16,8 +17,8 @@ with-args l σ = record { rest = σ .rest; subs = σ .subs; args = l; depth = σ
 
 -- whether a table of c texts, of b bytes, has room for one of n bytes more
 pub record Room (c b n : ℕ) (q : Bool) : Type 0 where
-  pub yes : q ≡ true → (c < 1024) × (b + n ≤ 32768)
-  pub no : q ≡ false → c < 1024 → b + n ≤ 32768 → ⊥
+  pub yes : q ≡ true → (c < most-entries) × (b + n ≤ most-entry-bytes)
+  pub no : q ≡ false → c < most-entries → b + n ≤ most-entry-bytes → ⊥
 
 -- the text w, of n bytes, became the next entry of the table, if there was room
 pub record Grows (c b n : ℕ) (w : Text) (store ends store' ends' : List ℕ) (q : Bool) : Type 0 where

@@ -5,6 +5,7 @@ use Prim.Native.Nat.{ℕ, _+_, _*_, _-_, _≤_, min}
 use lib.Dec.{leb}
 use lib.ListN.{length, take, drop}
 use Rattle.grammar.specs.Text.{Text, if_then_else_, each}
+use Rattle.grammar.specs.Limits.{most-open, most-entries, most-text-bytes, most-entry-bytes, most-length, kept-bytes}
 use Rattle.grammar.specs.Reader.{State, Result, ok, refused, Reader}
 use Rattle.grammar.specs.Grammar.{qualifier}
 use Rattle.store.specs.Stack.{Stack, Tail, Put, Cut}
@@ -25,16 +26,16 @@ mem text store ends = record { text = text; store = store; ends = ends }
 
 -- the substitutions' halves of `store` and `ends`, and those of the template arguments
 unfoldable pub low-bytes : List ℕ → List ℕ
-low-bytes l = take 32768 l
+low-bytes l = take most-entry-bytes l
 
 unfoldable pub high-bytes : List ℕ → List ℕ
-high-bytes l = drop 32768 l
+high-bytes l = drop most-entry-bytes l
 
 unfoldable pub low-ends : List ℕ → List ℕ
-low-ends l = take 1024 l
+low-ends l = take most-entries l
 
 unfoldable pub high-ends : List ℕ → List ℕ
-high-ends l = drop 1024 l
+high-ends l = drop most-entries l
 
 abbrev pub window : Memory → Parser → Text
 window m p = take (p .top) (m .text)
@@ -45,11 +46,11 @@ part s from to = take (to - from) (drop from s)
 
 -- the state and the slices hold the grammar's state
 pub record Holds (s : Text) (m : Memory) (p : Parser) (σ : State) : Type 0 where
-  pub source : length s ≤ 16384
+  pub source : length s ≤ most-text-bytes
   pub place : p .at ≤ length s
   pub rest : σ .rest ≡ drop (p .at) s
   pub depth : σ .depth ≡ p .depth
-  pub deep : p .depth ≤ 96
+  pub deep : p .depth ≤ most-open
   pub text : Stack (m .text) (p .top)
   pub subs : Entries (σ .subs) (low-bytes (m .store)) (low-ends (m .ends)) (p .subs .count) (p .subs .bytes)
   pub args : Entries (σ .args) (high-bytes (m .store)) (high-ends (m .ends)) (p .args .count) (p .args .bytes)
@@ -61,16 +62,17 @@ pub record Holds (s : Text) (m : Memory) (p : Parser) (σ : State) : Type 0 wher
 abbrev pub Ready : Text → Memory → Parser → Type 0
 Ready s m p = (σ : State) × Holds s m p σ
 
--- how many of the newest bytes below a text a reading at a depth leaves: a literal inside may drop 18 bytes at each depth
+-- how many of the newest bytes a reading at a depth leaves at least. A literal drops its type, of at most 18 bytes, and a type opens a depth: the
+-- deepest reading, one below the last that can be entered, leaves all that a full stack keeps, and each above it 18 bytes less
 abbrev pub keep : ℕ → ℕ
-keep d = 33064 + 18 * d
+keep d = kept-bytes - 18 * (most-open + 1) + 18 * d
 
 -- the text t, of n bytes, was read at depth d and is the newest on the stack, above the base; the place is now at least `from`
 pub record Wrote (k d : ℕ) (s base : Text) (from : ℕ) (m : Memory) (p : Parser) (n : ℕ) (t : Text) (σ : State) : Type 0 where
   pub holds : Holds s m p σ
   pub tail : Tail k (window m p) (base ++ t)
   pub size : n ≡ length t
-  pub short : length t ≤ 16384
+  pub short : length t ≤ most-text-bytes
   pub level : p .depth ≡ d
   pub more : from ≤ p .at
 
@@ -78,11 +80,11 @@ pub record Wrote (k d : ℕ) (s base : Text) (from : ℕ) (m : Memory) (p : Pars
 pub record Stands (k d : ℕ) (s base : Text) (from : ℕ) (m : Memory) (p : Parser) (n : ℕ) (t : Text) (σ : State) : Type 0 where
   pub holds : Holds s m p σ
   pub tail : Tail k (window m p) (base ++ t)
-  pub size : n ≡ min (length t) 65536
+  pub size : n ≡ min (length t) most-length
   pub level : p .depth ≡ d
   pub more : from ≤ p .at
-  pub least : 32768 ≤ k
-  pub most : k ≤ 34816
+  pub least : most-entry-bytes ≤ k
+  pub most : k ≤ kept-bytes
 
 -- the code's answer is the grammar's
 pub data Refines (k d : ℕ) (s base : Text) (from : ℕ) (m : Memory) : Read → Result Text → Type 0 where
@@ -105,7 +107,7 @@ pub record Cuts (text text' : Text) (p p' : Parser) (k n : ℕ) : Type 0 where
 
 -- a text of n bytes returned
 unfoldable pub given-of : Parser → ℕ → Read
-given-of p n = if leb n 16384 then read p n else Refused 11
+given-of p n = if leb n most-text-bytes then read p n else Refused 11
 
 -- a push of the code is one of the grammar, and leaves the stack and the place
 pub data Pushes (s : Text) (m : Memory) (n : ℕ) (p : Parser) : Read → Result (Unit {0}) → Type 0 where

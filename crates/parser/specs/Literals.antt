@@ -3,6 +3,7 @@ use mathlib.Core.List.{List, _++_}
 use Prim.Native.Nat.{ℕ, _+_, _-_, _≤_}
 use lib.ListN.{length, drop}
 use Rattle.grammar.specs.Text.{Text, b, if_then_else_, same, starts}
+use Rattle.grammar.specs.Limits.{most-text-bytes, most-entry-bytes}
 use Rattle.grammar.specs.Reader.{State, give}
 use Rattle.store.specs.Stack.{Stack}
 use Rattle.parser.specs.declared.state.Parser.{Parser}
@@ -35,12 +36,12 @@ pub record Encloses (text text' : Text) (p p' : Parser) (n : ℕ) : Type 0 where
   pub stack : Stack text' (p' .top)
   pub stands :
       {k d : ℕ} {s base : Text} {from : ℕ} {store ends : List ℕ} {t : Text} {σ : State} →
-      length t ≤ 16384 → Stands k d s base from (mem text store ends) p n t σ →
+      length t ≤ most-text-bytes → Stands k d s base from (mem text store ends) p n t σ →
       Stands k d s base from (mem text' store ends) p' (n + 2) (b "(" ++ t ++ b ")") σ
 
 -- the newest text t, of at most so many bytes, was replaced by another, which is the answer
 abbrev pub Gives : Text → Text → Text → Parser → ℕ → Read → ℕ → (Text → Text) → Type 0
 Gives s text text' p n r most f =
     (store ends : List ℕ) (k d : ℕ) (base : Text) (from : ℕ) (t : Text) (σ : State) →
-    Stands (k + 18) d s base from (mem text store ends) p n t σ → length t ≤ most → 32768 ≤ k →
+    Stands (k + 18) d s base from (mem text store ends) p n t σ → length t ≤ most → most-entry-bytes ≤ k →
     Refines k d s base from (mem text' store ends) r (give (f t) σ)

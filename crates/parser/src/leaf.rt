@@ -5,6 +5,7 @@ ghost use Prim.Native.Nat.{_+_, _-_, _≤_};
 ghost use lib.Dec.{eqb};
 ghost use lib.ListN.{length, drop};
 ghost use Rattle.grammar.specs.Text.{b, if_then_else_, holds, run, digit};
+ghost use Rattle.grammar.specs.Limits.{most-text-bytes};
 ghost use Rattle.grammar.specs.Grammar.{digit-ahead, structor-ahead, std-ahead, open-after};
 ghost use Rattle.store.specs.Stack.{newest};
 ghost use Rattle.parser.specs.Leaves.{qualifies, Skips, Classed};
@@ -33,7 +34,7 @@ pub enum Skipped {
 
 // How many expressions are open behind a byte: X opens one, E closes one.
 fn opened(c: u8, d: usize) -> usize
-    requires { ⌜ (1 ≤ d) × (d ≤ 65536) ⌝ }
+    requires { ⌜ (1 ≤ d) × (d ≤ most-text-bytes) ⌝ }
     ensures { λ r. ⌜ r ≡ open-after c d ⌝ }
 {
     if c == b'X' {
@@ -47,7 +48,7 @@ fn opened(c: u8, d: usize) -> usize
 
 // The place behind the E that closes an expression.
 pub fn expression(s: &[u8], at: usize) -> Skipped
-    requires { ⌜ (at ≤ length (now s)) × (length (now s) ≤ 16384) ⌝ }
+    requires { ⌜ (at ≤ length (now s)) × (length (now s) ≤ most-text-bytes) ⌝ }
     ensures { λ r. ⌜ Skips (now (s .entry)) at r ⌝ }
 {
     let mut end = at;

@@ -4,6 +4,7 @@ ghost use mathlib.Core.List.{_++_};
 ghost use Prim.Native.Nat.{_≤_};
 ghost use lib.ListN.{length};
 ghost use Rattle.grammar.specs.Text.{b, same};
+ghost use Rattle.grammar.specs.Limits.{most-text-bytes};
 ghost use Rattle.grammar.specs.Grammar.{literal};
 ghost use Rattle.store.specs.Stack.{Stack, newest};
 ghost use Rattle.parser.specs.Holds.{part};
@@ -52,7 +53,7 @@ pub fn suffix(text: &[u8], top: usize, n: usize) -> Kind
 
 // The value, with - for n in front.
 pub fn value(s: &[u8], text: &mut [u8], p: Parser, from: usize, to: usize) -> Parser
-    requires { ⌜ (Stack (now text) (p .top)) × ((from ≤ to) × ((to ≤ length (now s)) × (length (now s) ≤ 16384))) ⌝ }
+    requires { ⌜ (Stack (now text) (p .top)) × ((from ≤ to) × ((to ≤ length (now s)) × (length (now s) ≤ most-text-bytes))) ⌝ }
     ensures { λ r. ⌜ Adds (now (text .entry)) (now (text .exit)) p r (signed (part (now (s .entry)) from to)) ⌝ }
 {
     if to <= from {
@@ -67,7 +68,7 @@ pub fn value(s: &[u8], text: &mut [u8], p: Parser, from: usize, to: usize) -> Pa
 
 // The newest n bytes in parentheses: they are put again behind (, and the old ones go.
 fn enclosed(text: &mut [u8], p: Parser, n: usize) -> Parser
-    requires { ⌜ (Stack (now text) (p .top)) × ((n ≤ p .top) × (n ≤ 16384)) ⌝ }
+    requires { ⌜ (Stack (now text) (p .top)) × ((n ≤ p .top) × (n ≤ most-text-bytes)) ⌝ }
     ensures { λ r. ⌜ Encloses (now (text .entry)) (now (text .exit)) p r n ⌝ }
 {
     let size = n + 1;
@@ -79,9 +80,9 @@ fn enclosed(text: &mut [u8], p: Parser, n: usize) -> Parser
 
 // The type in parentheses, and the value.
 fn cast(s: &[u8], text: &mut [u8], p: Parser, n: usize, from: usize, to: usize) -> Read
-    requires { ⌜ (Stack (now text) (p .top)) × ((n ≤ p .top) × ((n ≤ 16384)
-        × ((from ≤ to) × ((to ≤ length (now s)) × (length (now s) ≤ 16384))))) ⌝ }
-    ensures { λ r. ⌜ Gives (now (s .entry)) (now (text .entry)) (now (text .exit)) p n r 16384
+    requires { ⌜ (Stack (now text) (p .top)) × ((n ≤ p .top) × ((n ≤ most-text-bytes)
+        × ((from ≤ to) × ((to ≤ length (now s)) × (length (now s) ≤ most-text-bytes))))) ⌝ }
+    ensures { λ r. ⌜ Gives (now (s .entry)) (now (text .entry)) (now (text .exit)) p n r most-text-bytes
         (λ t. b "(" ++ t ++ b ")" ++ signed (part (now (s .entry)) from to)) ⌝ }
 {
     let close = enclosed(text, p, n);
@@ -101,8 +102,8 @@ fn suffixed(
     a: usize,
     e: usize,
 ) -> Read
-    requires { ⌜ (Stack (now text) (p .top)) × ((n ≤ p .top) × ((n ≤ 16384)
-        × ((from ≤ to) × ((to ≤ length (now s)) × ((length (now s) ≤ 16384) × ((a ≤ e) × (e ≤ 3))))))) ⌝ }
+    requires { ⌜ (Stack (now text) (p .top)) × ((n ≤ p .top) × ((n ≤ most-text-bytes)
+        × ((from ≤ to) × ((to ≤ length (now s)) × ((length (now s) ≤ most-text-bytes) × ((a ≤ e) × (e ≤ 3))))))) ⌝ }
     ensures { λ r. ⌜ Gives (now (s .entry)) (now (text .entry)) (now (text .exit)) p n r 18
         (λ t. signed (part (now (s .entry)) from to) ++ part (b "ull") a e) ⌝ }
 {
@@ -127,8 +128,8 @@ fn one(s: &[u8], from: usize, to: usize) -> bool
 
 // true or false, without the type.
 fn truth(s: &[u8], text: &mut [u8], p: Parser, n: usize, from: usize, to: usize) -> Read
-    requires { ⌜ (Stack (now text) (p .top)) × ((n ≤ p .top) × ((n ≤ 16384)
-        × ((from ≤ to) × ((to ≤ length (now s)) × (length (now s) ≤ 16384))))) ⌝ }
+    requires { ⌜ (Stack (now text) (p .top)) × ((n ≤ p .top) × ((n ≤ most-text-bytes)
+        × ((from ≤ to) × ((to ≤ length (now s)) × (length (now s) ≤ most-text-bytes))))) ⌝ }
     ensures { λ r. ⌜ Gives (now (s .entry)) (now (text .entry)) (now (text .exit)) p n r 18
         (λ t. truth-of (part (now (s .entry)) from to)) ⌝ }
 {
@@ -141,9 +142,9 @@ fn truth(s: &[u8], text: &mut [u8], p: Parser, n: usize, from: usize, to: usize)
 
 // The newest n bytes are the type's text, and the value stands from `from` to `to`.
 pub fn literal(s: &[u8], text: &mut [u8], p: Parser, n: usize, from: usize, to: usize) -> Read
-    requires { ⌜ (Stack (now text) (p .top)) × ((n ≤ p .top) × ((n ≤ 16384)
-        × ((from ≤ to) × ((to ≤ length (now s)) × (length (now s) ≤ 16384))))) ⌝ }
-    ensures { λ r. ⌜ Gives (now (s .entry)) (now (text .entry)) (now (text .exit)) p n r 16384
+    requires { ⌜ (Stack (now text) (p .top)) × ((n ≤ p .top) × ((n ≤ most-text-bytes)
+        × ((from ≤ to) × ((to ≤ length (now s)) × (length (now s) ≤ most-text-bytes))))) ⌝ }
+    ensures { λ r. ⌜ Gives (now (s .entry)) (now (text .entry)) (now (text .exit)) p n r most-text-bytes
         (λ t. literal t (part (now (s .entry)) from to)) ⌝ }
 {
     let top = p.top;

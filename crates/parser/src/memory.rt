@@ -5,6 +5,7 @@ ghost use mathlib.Core.List.{List, [], _++_};
 ghost use Prim.Native.Nat.{ℕ, _+_, _-_, _≤_, _<_, min};
 ghost use lib.ListN.{length, take, drop, getD, getElem?};
 ghost use Rattle.grammar.specs.Text.{Text, b, choose, same};
+ghost use Rattle.grammar.specs.Limits.{most-text-bytes, most-entry-bytes, most-length, kept-bytes};
 ghost use Rattle.grammar.specs.Reader.{State, Reader, push-sub, push-arg, recorded, give, refuse};
 ghost use Rattle.grammar.specs.Grammar.{last};
 ghost use Rattle.grammar.specs.Words.{Inside, spelled};
@@ -23,15 +24,19 @@ use store::table;
 
 // The lengths of two texts together, as far as it matters.
 pub fn sum(a: usize, b: usize) -> usize
-    requires { ⌜ (a ≤ 65536) × (b ≤ 65536) ⌝ }
-    ensures { λ r. ⌜ r ≡ min (a + b) 65536 ⌝ }
+    requires { ⌜ (a ≤ most-length) × (b ≤ most-length) ⌝ }
+    ensures { λ r. ⌜ r ≡ min (a + b) most-length ⌝ }
 {
     let n = a + b;
-    if n < 65536 { n } else { 65536 }
+    if n < Parser::LENGTH {
+        n
+    } else {
+        Parser::LENGTH
+    }
 }
 
 pub fn put(text: &mut [u8], p: Parser, word: &[u8]) -> Parser
-    requires { ⌜ (Stack (now text) (p .top)) × (length (now word) ≤ 16384) ⌝ }
+    requires { ⌜ (Stack (now text) (p .top)) × (length (now word) ≤ most-text-bytes) ⌝ }
     ensures { λ r. ⌜ Puts (now (text .entry)) (now (text .exit)) p r (now (word .entry)) ⌝ }
 {
     let top = p.top;
@@ -39,7 +44,7 @@ pub fn put(text: &mut [u8], p: Parser, word: &[u8]) -> Parser
 }
 
 pub fn put_part(s: &[u8], text: &mut [u8], p: Parser, from: usize, to: usize) -> Parser
-    requires { ⌜ (Stack (now text) (p .top)) × ((from ≤ to) × ((to ≤ length (now s)) × (to ≤ from + 16384))) ⌝ }
+    requires { ⌜ (Stack (now text) (p .top)) × ((from ≤ to) × ((to ≤ length (now s)) × (to ≤ from + most-text-bytes))) ⌝ }
     ensures { λ r. ⌜ Puts (now (text .entry)) (now (text .exit)) p r (part (now (s .entry)) from to) ⌝ }
 {
     let top = p.top;
@@ -59,7 +64,7 @@ pub fn put_word(text: &mut [u8], p: Parser, w: Word) -> Parser
 
 // The n bytes that stand d bytes below the top, once more.
 pub fn again(text: &mut [u8], p: Parser, d: usize, n: usize) -> Parser
-    requires { ⌜ (Stack (now text) (p .top)) × ((n ≤ d) × ((d ≤ p .top) × ((d ≤ 34816) × (n ≤ 16384)))) ⌝ }
+    requires { ⌜ (Stack (now text) (p .top)) × ((n ≤ d) × ((d ≤ p .top) × ((d ≤ kept-bytes) × (n ≤ most-text-bytes)))) ⌝ }
     ensures { λ r. ⌜ Puts (now (text .entry)) (now (text .exit)) p r (take n (drop (p .top - d) (now (text .entry)))) ⌝ }
 {
     let top = p.top;
@@ -78,7 +83,7 @@ pub fn cut(text: &mut [u8], p: Parser, k: usize, n: usize) -> Parser
 
 // The c bytes below the newest m go behind them, with a space between.
 pub fn turned(text: &mut [u8], p: Parser, c: usize, m: usize) -> Parser
-    requires { ⌜ (Stack (now text) (p .top)) × ((c ≤ 16384) × ((m ≤ 16384) × (c + m ≤ p .top))) ⌝ }
+    requires { ⌜ (Stack (now text) (p .top)) × ((c ≤ most-text-bytes) × ((m ≤ most-text-bytes) × (c + m ≤ p .top))) ⌝ }
     ensures { λ r. ⌜ ((s store ends : Text) (σ : State) → Holds s (mem (now (text .entry)) store ends) p σ → Holds s (mem (now (text .exit)) store ends) r σ)
         × (((k d : ℕ) (s base : Text) (from : ℕ) (store ends x y : Text) (σ : State) → length x ≡ c → length y ≡ m
         → Stands k d s base from (mem (now (text .entry)) store ends) p (c + m) (x ++ y) σ
@@ -104,7 +109,7 @@ pub fn given(p: Parser, n: usize) -> Read
 
 // Whether a table has room for a text of n bytes.
 fn has_room(table: Table, n: usize) -> bool
-    requires { ⌜ table .bytes ≤ 32768 ⌝ }
+    requires { ⌜ table .bytes ≤ most-entry-bytes ⌝ }
     ensures { λ r. ⌜ Room (table .count) (table .bytes) n r ⌝ }
 {
     if Parser::ENTRIES <= table.count {
@@ -115,7 +120,7 @@ fn has_room(table: Table, n: usize) -> bool
 
 // The newest n bytes become the next entry of a table, if it has room for them.
 fn push(text: &[u8], top: usize, store: &mut [u8], ends: &mut [u16], table: Table, n: usize) -> bool
-    requires { ⌜ (Sized (now store) (now ends)) × ((table .bytes ≤ 32768) × ((top ≤ length (now text)) × (min n 32768 ≤ top))) ⌝ }
+    requires { ⌜ (Sized (now store) (now ends)) × ((table .bytes ≤ most-entry-bytes) × ((top ≤ length (now text)) × (min n most-entry-bytes ≤ top))) ⌝ }
     ensures { λ r. ⌜ Grows (table .count) (table .bytes) n (lent (now (text .entry)) top n)
         (now (store .entry)) (now (ends .entry)) (now (store .exit)) (now (ends .exit)) r ⌝ }
 {
@@ -131,14 +136,21 @@ fn push(text: &[u8], top: usize, store: &mut [u8], ends: &mut [u16], table: Tabl
 
 // The newest n bytes become an entry: 9 where it does not fit.
 pub fn push_sub(text: &[u8], store: &mut [u8], ends: &mut [u16], p: Parser, n: usize) -> Read
-    requires { ⌜ ((s : Text) × Ready s (mem (now text) (now store) (now ends)) p) × (min n 32768 ≤ p .top) ⌝ }
+    requires { ⌜ ((s : Text) × Ready s (mem (now text) (now store) (now ends)) p) × (min n most-entry-bytes ≤ p .top) ⌝ }
     ensures { λ r. ⌜ ((k d : ℕ) (s base : Text) (from : ℕ) (t : Text) (σ : State)
         → Stands k d s base from (mem (now (text .entry)) (now (store .entry)) (now (ends .entry))) p n t σ
         → Pushes s (mem (now (text .entry)) (now (store .exit)) (now (ends .exit))) n (subs-to p (p .subs .count + 1) (p .subs .bytes + n)) r (push-sub t σ)) ⌝ }
 {
     let subs = p.subs;
     let top = p.top;
-    if !push(text, top, &mut store[..32768], &mut ends[..1024], subs, n) {
+    if !push(
+        text,
+        top,
+        &mut store[..Parser::BYTES],
+        &mut ends[..Parser::ENTRIES],
+        subs,
+        n,
+    ) {
         return Read::Refused(9);
     }
     Read::Text(p.with_subs(subs.count + 1, subs.bytes + n), n)
@@ -146,14 +158,21 @@ pub fn push_sub(text: &[u8], store: &mut [u8], ends: &mut [u16], p: Parser, n: u
 
 // The newest n bytes become a template argument: 10 where it does not fit.
 pub fn push_arg(text: &[u8], store: &mut [u8], ends: &mut [u16], p: Parser, n: usize) -> Read
-    requires { ⌜ ((s : Text) × Ready s (mem (now text) (now store) (now ends)) p) × (min n 32768 ≤ p .top) ⌝ }
+    requires { ⌜ ((s : Text) × Ready s (mem (now text) (now store) (now ends)) p) × (min n most-entry-bytes ≤ p .top) ⌝ }
     ensures { λ r. ⌜ ((k d : ℕ) (s base : Text) (from : ℕ) (t : Text) (σ : State)
         → Stands k d s base from (mem (now (text .entry)) (now (store .entry)) (now (ends .entry))) p n t σ
         → Pushes s (mem (now (text .entry)) (now (store .exit)) (now (ends .exit))) n (args-to p (p .args .count + 1) (p .args .bytes + n)) r (push-arg t σ)) ⌝ }
 {
     let args = p.args;
     let top = p.top;
-    if !push(text, top, &mut store[32768..], &mut ends[1024..], args, n) {
+    if !push(
+        text,
+        top,
+        &mut store[Parser::BYTES..],
+        &mut ends[Parser::ENTRIES..],
+        args,
+        n,
+    ) {
         return Read::Refused(10);
     }
     Read::Text(p.with_args(args.count + 1, args.bytes + n), n)
@@ -161,7 +180,7 @@ pub fn push_arg(text: &[u8], store: &mut [u8], ends: &mut [u16], p: Parser, n: u
 
 // The text becomes an entry and is returned.
 pub fn recorded(text: &[u8], store: &mut [u8], ends: &mut [u16], p: Parser, n: usize) -> Read
-    requires { ⌜ ((s : Text) × Ready s (mem (now text) (now store) (now ends)) p) × (min n 32768 ≤ p .top) ⌝ }
+    requires { ⌜ ((s : Text) × Ready s (mem (now text) (now store) (now ends)) p) × (min n most-entry-bytes ≤ p .top) ⌝ }
     ensures { λ r. ⌜ ((k d : ℕ) (s base : Text) (from : ℕ) (t : Text) (σ : State)
         → Stands k d s base from (mem (now (text .entry)) (now (store .entry)) (now (ends .entry))) p n t σ
         → Refines k d s base from (mem (now (text .entry)) (now (store .exit)) (now (ends .exit))) r (recorded t σ)) ⌝ }
@@ -175,9 +194,9 @@ pub fn recorded(text: &[u8], store: &mut [u8], ends: &mut [u16], p: Parser, n: u
 
 // A text of n bytes, which is too long to be returned: 9 where it would not even be an entry, else 11.
 pub fn too_long(p: Parser, n: usize) -> Read
-    requires { ⌜ p .subs .bytes ≤ 32768 ⌝ }
+    requires { ⌜ p .subs .bytes ≤ most-entry-bytes ⌝ }
     ensures { λ r. ⌜ ((k d : ℕ) (s base : Text) (from : ℕ) (m m' : Memory) (t : Text) (σ : State)
-        → Holds s m p σ → n ≡ min (length t) 65536 → 16384 < n → Refines k d s base from m' r (recorded t σ)) ⌝ }
+        → Holds s m p σ → n ≡ min (length t) most-length → most-text-bytes < n → Refines k d s base from m' r (recorded t σ)) ⌝ }
 {
     let subs = p.subs;
     if has_room(subs, n) {
@@ -197,7 +216,7 @@ pub fn clear_args(p: Parser) -> Parser
 fn entry(text: &mut [u8], store: &[u8], ends: &[u16], p: Parser, k: usize) -> Read
     requires { ⌜ (Stack (now text) (p .top)) × ((l : List Text) × ((count : ℕ) × ((bytes : ℕ) × ((Entries l (now store) (now ends) count bytes) × (k < count))))) ⌝ }
     ensures { λ r. ⌜ ((s bytes places : Text) (l : List Text) (c b : ℕ) → Entries l (now (store .entry)) (now (ends .entry)) c b → k < c
-        → Reads (give (getD l k [])) 34816 (p .at) s (mem (now (text .entry)) bytes places) (mem (now (text .exit)) bytes places) p r) ⌝ }
+        → Reads (give (getD l k [])) kept-bytes (p .at) s (mem (now (text .entry)) bytes places) (mem (now (text .exit)) bytes places) p r) ⌝ }
 {
     let place = table::place_of(ends, k);
     let from = place.from;
@@ -212,7 +231,7 @@ fn entry(text: &mut [u8], store: &[u8], ends: &[u16], p: Parser, k: usize) -> Re
 // Entry k of the substitutions onto the stack: 7 where there is none.
 pub fn recall(text: &mut [u8], store: &[u8], ends: &[u16], p: Parser, k: usize) -> Read
     requires { ⌜ ((s : Text) × Ready s (mem (now text) (now store) (now ends)) p) ⌝ }
-    ensures { λ r. ⌜ ((s : Text) → Reads (λ σ. choose (getElem? (σ .subs) k) give (refuse 7) σ) 34816 (p .at) s
+    ensures { λ r. ⌜ ((s : Text) → Reads (λ σ. choose (getElem? (σ .subs) k) give (refuse 7) σ) kept-bytes (p .at) s
         (mem (now (text .entry)) (now (store .entry)) (now (ends .entry)))
         (mem (now (text .exit)) (now (store .entry)) (now (ends .entry))) p r) ⌝ }
 {
@@ -220,17 +239,29 @@ pub fn recall(text: &mut [u8], store: &[u8], ends: &[u16], p: Parser, k: usize) 
     if subs.count <= k {
         return Read::Refused(7);
     }
-    entry(text, &store[..32768], &ends[..1024], p, k)
+    entry(
+        text,
+        &store[..Parser::BYTES],
+        &ends[..Parser::ENTRIES],
+        p,
+        k,
+    )
 }
 
 // Template argument k, which there is, onto the stack.
 pub fn recall_arg(text: &mut [u8], store: &[u8], ends: &[u16], p: Parser, k: usize) -> Read
     requires { ⌜ ((s : Text) × Ready s (mem (now text) (now store) (now ends)) p) × (k < p .args .count) ⌝ }
-    ensures { λ r. ⌜ ((s : Text) (f : Reader Text) → Reads (λ σ. choose (getElem? (σ .args) k) give f σ) 34816 (p .at) s
+    ensures { λ r. ⌜ ((s : Text) (f : Reader Text) → Reads (λ σ. choose (getElem? (σ .args) k) give f σ) kept-bytes (p .at) s
         (mem (now (text .entry)) (now (store .entry)) (now (ends .entry)))
         (mem (now (text .exit)) (now (store .entry)) (now (ends .entry))) p r) ⌝ }
 {
-    entry(text, &store[32768..], &ends[1024..], p, k)
+    entry(
+        text,
+        &store[Parser::BYTES..],
+        &ends[Parser::ENTRIES..],
+        p,
+        k,
+    )
 }
 
 // Whether the newest n bytes are the newest entry.
@@ -238,19 +269,19 @@ pub fn newest_entry(text: &[u8], store: &[u8], ends: &[u16], p: Parser, n: usize
     requires { ⌜ ((s : Text) × Ready s (mem (now text) (now store) (now ends)) p) × (n ≤ p .top) ⌝ }
     ensures { λ r. ⌜ ((k d : ℕ) (s base : Text) (from : ℕ) (t : Text) (σ : State)
         → Stands k d s base from (mem (now (text .entry)) (now (store .entry)) (now (ends .entry))) p n t σ
-        → length t ≤ 16384 → r ≡ choose (last (σ .subs)) (same t) false) ⌝ }
+        → length t ≤ most-text-bytes → r ≡ choose (last (σ .subs)) (same t) false) ⌝ }
 {
     let subs = p.subs;
     let count = subs.count;
     if count == 0 {
         return false;
     }
-    let place = table::place_of(&ends[..1024], count - 1);
+    let place = table::place_of(&ends[..Parser::ENTRIES], count - 1);
     let from = place.from;
     if place.to - from != n {
         return false;
     }
     let top = p.top;
     let low = top - n;
-    stack::same_long_part(text, low, &store[..32768], from, n)
+    stack::same_long_part(text, low, &store[..Parser::BYTES], from, n)
 }

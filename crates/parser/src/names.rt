@@ -4,6 +4,7 @@ ghost use mathlib.Core.List.{List, _∷_};
 ghost use Prim.Native.Nat.{ℕ, _+_, _≤_};
 ghost use lib.ListN.{length, getElem?};
 ghost use Rattle.grammar.specs.Text.{Text, choose, decimal};
+ghost use Rattle.grammar.specs.Limits.{most-text-bytes, kept-bytes};
 ghost use Rattle.grammar.specs.Reader.{give};
 ghost use Rattle.grammar.specs.Words.{Inside, spelled};
 ghost use Rattle.grammar.specs.Grammar.{⟨source-name⟩, ⟨template-param⟩, ⟨substitution⟩, unnamed-type-name, reading};
@@ -29,7 +30,7 @@ pub enum Found {
 
 // The identifier behind its length.
 pub fn identifier(s: &[u8], at: usize) -> Found
-    requires { ⌜ (at ≤ length (now s)) × (length (now s) ≤ 16384) ⌝ }
+    requires { ⌜ (at ≤ length (now s)) × (length (now s) ≤ most-text-bytes) ⌝ }
     ensures { λ r. ⌜ r ≡ identified (now (s .entry)) at ⌝ }
 {
     let length = numbers::decimal(s, at);
@@ -62,8 +63,8 @@ fn close_tags(text: &mut [u8], p: Parser, tags: usize) -> Parser
 // <source-name> ::= <positive length number> <identifier>
 // <abi-tags> ::= B <source-name>
 pub fn source_name(s: &[u8], text: &mut [u8], p: Parser) -> Read
-    requires { ⌜ (p .at ≤ length (now s)) × ((length (now s) ≤ 16384) × Stack (now text) (p .top)) ⌝ }
-    ensures { λ r. ⌜ ((store ends : List ℕ) → Reads (reading ⟨source-name⟩) 34816 (p .at + 1) (now (s .entry))
+    requires { ⌜ (p .at ≤ length (now s)) × ((length (now s) ≤ most-text-bytes) × Stack (now text) (p .top)) ⌝ }
+    ensures { λ r. ⌜ ((store ends : List ℕ) → Reads (reading ⟨source-name⟩) kept-bytes (p .at + 1) (now (s .entry))
         (mem (now (text .entry)) store ends) (mem (now (text .exit)) store ends) p r) ⌝ }
 {
     let mut next = p;
@@ -90,7 +91,7 @@ pub fn source_name(s: &[u8], text: &mut [u8], p: Parser) -> Read
 // <substitution> ::= St | Sa | .. | S_ | S <seq-id> _
 pub fn substitution(s: &[u8], text: &mut [u8], store: &[u8], ends: &[u16], p: Parser) -> Read
     requires { ⌜ Ready (now s) (mem (now text) (now store) (now ends)) p ⌝ }
-    ensures { λ r. ⌜ Reads (reading ⟨substitution⟩) 34816 (p .at + 1) (now (s .entry))
+    ensures { λ r. ⌜ Reads (reading ⟨substitution⟩) kept-bytes (p .at + 1) (now (s .entry))
         (mem (now (text .entry)) (now (store .entry)) (now (ends .entry)))
         (mem (now (text .exit)) (now (store .entry)) (now (ends .entry))) p r ⌝ }
 {
@@ -112,7 +113,7 @@ pub fn substitution(s: &[u8], text: &mut [u8], store: &[u8], ends: &[u16], p: Pa
 // S_ | S <seq-id> _, behind S
 fn old_entry(s: &[u8], text: &mut [u8], store: &[u8], ends: &[u16], p: Parser) -> Read
     requires { ⌜ Ready (now s) (mem (now text) (now store) (now ends)) p ⌝ }
-    ensures { λ r. ⌜ Reads entry-at 34816 (p .at) (now (s .entry))
+    ensures { λ r. ⌜ Reads entry-at kept-bytes (p .at) (now (s .entry))
         (mem (now (text .entry)) (now (store .entry)) (now (ends .entry)))
         (mem (now (text .exit)) (now (store .entry)) (now (ends .entry))) p r ⌝ }
 {
@@ -136,7 +137,7 @@ fn old_entry(s: &[u8], text: &mut [u8], store: &[u8], ends: &[u16], p: Parser) -
 // A word of a table.
 pub fn word(text: &mut [u8], p: Parser, w: codes::Word) -> Read
     requires { ⌜ (Stack (now text) (p .top)) × Inside w ⌝ }
-    ensures { λ r. ⌜ ((s store ends : List ℕ) → Reads (give (spelled w)) 34816 (p .at) s
+    ensures { λ r. ⌜ ((s store ends : List ℕ) → Reads (give (spelled w)) kept-bytes (p .at) s
         (mem (now (text .entry)) store ends) (mem (now (text .exit)) store ends) p r) ⌝ }
 {
     let n = w.to - w.from;
@@ -146,7 +147,7 @@ pub fn word(text: &mut [u8], p: Parser, w: codes::Word) -> Read
 // <template-param> ::= T_ | T <number> _
 pub fn template_param(s: &[u8], text: &mut [u8], store: &[u8], ends: &[u16], p: Parser) -> Read
     requires { ⌜ Ready (now s) (mem (now text) (now store) (now ends)) p ⌝ }
-    ensures { λ r. ⌜ Reads (reading ⟨template-param⟩) 34816 (p .at + 1) (now (s .entry))
+    ensures { λ r. ⌜ Reads (reading ⟨template-param⟩) kept-bytes (p .at + 1) (now (s .entry))
         (mem (now (text .entry)) (now (store .entry)) (now (ends .entry)))
         (mem (now (text .exit)) (now (store .entry)) (now (ends .entry))) p r ⌝ }
 {
@@ -174,7 +175,7 @@ pub fn template_param(s: &[u8], text: &mut [u8], store: &[u8], ends: &[u16], p: 
 // Template argument i, or T and i.
 pub fn argument(text: &mut [u8], store: &[u8], ends: &[u16], p: Parser, i: u64) -> Read
     requires { ⌜ ((s : Text) × Ready s (mem (now text) (now store) (now ends)) p) ⌝ }
-    ensures { λ r. ⌜ ((s : Text) → Reads (λ σ. choose (getElem? (σ .args) i) give (give (84 ∷ decimal 20 i)) σ) 34816 (p .at) s
+    ensures { λ r. ⌜ ((s : Text) → Reads (λ σ. choose (getElem? (σ .args) i) give (give (84 ∷ decimal 20 i)) σ) kept-bytes (p .at) s
         (mem (now (text .entry)) (now (store .entry)) (now (ends .entry)))
         (mem (now (text .exit)) (now (store .entry)) (now (ends .entry))) p r) ⌝ }
 {
@@ -188,7 +189,7 @@ pub fn argument(text: &mut [u8], store: &[u8], ends: &[u16], p: Parser, i: u64) 
 // T and the number in decimal.
 pub fn number(text: &mut [u8], p: Parser, i: u64) -> Read
     requires { ⌜ Stack (now text) (p .top) ⌝ }
-    ensures { λ r. ⌜ ((s store ends : List ℕ) → Reads (give (84 ∷ decimal 20 i)) 34816 (p .at) s
+    ensures { λ r. ⌜ ((s store ends : List ℕ) → Reads (give (84 ∷ decimal 20 i)) kept-bytes (p .at) s
         (mem (now (text .entry)) store ends) (mem (now (text .exit)) store ends) p r) ⌝ }
 {
     let mut digits = [0u8; 21];
@@ -203,7 +204,7 @@ pub fn number(text: &mut [u8], p: Parser, i: u64) -> Read
 // <closure-type-name> ::= Ul <lambda-sig> E [<number>] _, behind U
 pub fn unnamed_type_name(s: &[u8], text: &mut [u8], p: Parser) -> Read
     requires { ⌜ Stack (now text) (p .top) ⌝ }
-    ensures { λ r. ⌜ ((store ends : List ℕ) → Reads unnamed-type-name 34816 (p .at) (now (s .entry))
+    ensures { λ r. ⌜ ((store ends : List ℕ) → Reads unnamed-type-name kept-bytes (p .at) (now (s .entry))
         (mem (now (text .entry)) store ends) (mem (now (text .exit)) store ends) p r) ⌝ }
 {
     let at = p.at;

@@ -2,6 +2,7 @@
 ghost use mathlib.Core.Path.{_≡_};
 ghost use Prim.Native.Nat.{_+_, _<_};
 ghost use lib.ListN.{drop};
+ghost use Rattle.grammar.specs.Limits.{most-open};
 ghost use Rattle.parser.specs.States.{fresh, peeked, taken, deeper, at-depth, moved-to, raised-to, subs-to, args-to, cv-to, templated-to};
 
 // How much of a table is used.
@@ -62,6 +63,9 @@ impl Parser {
 
     pub const BYTES: usize = 32768;
 
+    // The length of a text is counted up to this.
+    pub const LENGTH: usize = 2 * Parser::BYTES;
+
     pub fn new() -> Self
         ensures { λ r. ⌜ r ≡ fresh ⌝ }
     {
@@ -101,7 +105,7 @@ impl Parser {
     }
 
     pub fn enter(mut self) -> Self
-        requires { ⌜ self .depth < 96 ⌝ }
+        requires { ⌜ self .depth < most-open ⌝ }
         ensures { λ r. ⌜ r ≡ deeper self ⌝ }
     {
         self.depth = self.depth + 1;

@@ -5,6 +5,7 @@ ghost use mathlib.Core.Option.{some};
 ghost use Prim.Native.Nat.{ℕ, _+_, _-_, _*_, _≤_, min};
 ghost use lib.ListN.{length};
 ghost use Rattle.grammar.specs.Text.{Text, b, if_then_else_, holds};
+ghost use Rattle.grammar.specs.Limits.{most-text-bytes, most-length, kept-bytes};
 ghost use Rattle.grammar.specs.Tables.{d-letters, wrappers};
 ghost use Rattle.grammar.specs.Reader.{State, by-code, find, word-for, give, recorded, refuse};
 ghost use Rattle.grammar.specs.Grammar.{slot, at-slots};
@@ -26,7 +27,7 @@ pub fn builtin_d(s: &[u8], text: &mut [u8], p: Parser) -> Read
     requires { ⌜ ((store : Text) × ((ends : Text) × Ready (now s) (mem (now text) store ends) p)) ⌝ }
     ensures { λ r. ⌜ ((store ends rest : Text) (σ : State) → σ .rest ≡ 68 ∷ rest
         → Holds (now (s .entry)) (mem (now (text .entry)) store ends) p σ
-        → Refines 34816 (p .depth) (now (s .entry)) (window (mem (now (text .entry)) store ends) p) (p .at + 2)
+        → Refines kept-bytes (p .depth) (now (s .entry)) (window (mem (now (text .entry)) store ends) p) (p .at + 2)
         (mem (now (text .exit)) store ends) r (by-code d-letters (λ w. give (b w)) (refuse 4) σ)) ⌝ }
 {
     let at = p.at + 1;
@@ -43,17 +44,21 @@ pub fn builtin_d(s: &[u8], text: &mut [u8], p: Parser) -> Read
 
 // The length of a text of n bytes with so many more at each of its slots, as far as it matters.
 pub fn woven(n: usize, slots: usize, each: usize) -> usize
-    requires { ⌜ (n ≤ 65536) × ((slots ≤ 65536) × (each ≤ 65536)) ⌝ }
-    ensures { λ r. ⌜ r ≡ min (n + slots * each) 65536 ⌝ }
+    requires { ⌜ (n ≤ most-length) × ((slots ≤ most-length) × (each ≤ most-length)) ⌝ }
+    ensures { λ r. ⌜ r ≡ min (n + slots * each) most-length ⌝ }
 {
     let more = slots * each;
     let size = n + more;
-    if size < 65536 { size } else { 65536 }
+    if size < Parser::LENGTH {
+        size
+    } else {
+        Parser::LENGTH
+    }
 }
 
 // A wrapper put at each slot of the newest n bytes, or behind them: an entry.
 pub fn wrap(text: &mut [u8], store: &mut [u8], ends: &mut [u16], p: Parser, n: usize, c: u8) -> Read
-    requires { ⌜ ((s : Text) × Ready s (mem (now text) (now store) (now ends)) p) × ((n ≤ p .top) × (n ≤ 16384)) ⌝ }
+    requires { ⌜ ((s : Text) × Ready s (mem (now text) (now store) (now ends)) p) × ((n ≤ p .top) × (n ≤ most-text-bytes)) ⌝ }
     ensures { λ r. ⌜ ((k d : ℕ) (s base : Text) (from : ℕ) (t : Text) (σ : State) (u : Wrapper)
         → ((rest : Text) → find wrappers (c ∷ rest) ≡ some (u, rest))
         → Stands k d s base from (mem (now (text .entry)) (now (store .entry)) (now (ends .entry))) p n t σ
@@ -79,7 +84,7 @@ pub fn wrap(text: &mut [u8], store: &mut [u8], ends: &mut [u16], p: Parser, n: u
 // Puts the newest n bytes on the top once more, with the word in front of each slot.
 fn weave_word(text: &mut [u8], p: Parser, n: usize, w: Word) -> Parser
     requires { ⌜ (Stack (now text) (p .top)) × ((Inside w) × ((w .to - w .from ≤ 9) × ((n ≤ p .top)
-        × (n + slots-in (newest (now text) (p .top) n) * (w .to - w .from) ≤ 16384)))) ⌝ }
+        × (n + slots-in (newest (now text) (p .top) n) * (w .to - w .from) ≤ most-text-bytes)))) ⌝ }
     ensures { λ r. ⌜ Puts (now (text .entry)) (now (text .exit)) p r (at-slots (spelled w) (newest (now (text .entry)) (p .top) n)) ⌝ }
 {
     let top = p.top;
@@ -100,7 +105,7 @@ pub fn wrap_slots(
     slots: usize,
     c: u8,
 ) -> Read
-    requires { ⌜ ((s : Text) × Ready s (mem (now text) (now store) (now ends)) p) × ((n ≤ p .top) × ((n ≤ 16384)
+    requires { ⌜ ((s : Text) × Ready s (mem (now text) (now store) (now ends)) p) × ((n ≤ p .top) × ((n ≤ most-text-bytes)
         × ((slots ≤ n) × (slots ≡ slots-in (newest (now text) (p .top) n))))) ⌝ }
     ensures { λ r. ⌜ ((k d : ℕ) (s base : Text) (from : ℕ) (t : Text) (σ : State) (w : Text)
         → word-for at-slot (c ∷ []) ≡ some w
@@ -123,7 +128,7 @@ pub fn wrap_slots(
 
 // The newest m bytes are a member, the c below them its class: the member, and the class behind it.
 fn class_behind(text: &mut [u8], p: Parser, c: usize, m: usize) -> Parser
-    requires { ⌜ (Stack (now text) (p .top)) × ((c ≤ 16384) × ((m ≤ 16384) × (c + m ≤ p .top))) ⌝ }
+    requires { ⌜ (Stack (now text) (p .top)) × ((c ≤ most-text-bytes) × ((m ≤ most-text-bytes) × (c + m ≤ p .top))) ⌝ }
     ensures { λ r. ⌜ (m + c + 4 ≤ r .top) × (((s store ends : Text) (σ : State)
         → Holds s (mem (now (text .entry)) store ends) p σ → Holds s (mem (now (text .exit)) store ends) r σ)
         × ((k d : ℕ) (s base : Text) (from : ℕ) (store ends x y : Text) (σ : State) → length x ≡ c → length y ≡ m
@@ -143,7 +148,7 @@ pub fn wrap_member(
     c: usize,
     m: usize,
 ) -> Read
-    requires { ⌜ ((s : Text) × Ready s (mem (now text) (now store) (now ends)) p) × ((c ≤ 16384) × ((m ≤ 16384) × (c + m ≤ p .top))) ⌝ }
+    requires { ⌜ ((s : Text) × Ready s (mem (now text) (now store) (now ends)) p) × ((c ≤ most-text-bytes) × ((m ≤ most-text-bytes) × (c + m ≤ p .top))) ⌝ }
     ensures { λ r. ⌜ ((k d : ℕ) (s base : Text) (from : ℕ) (x y : Text) (σ : State) → length x ≡ c → length y ≡ m
         → Stands k d s base from (mem (now (text .entry)) (now (store .entry)) (now (ends .entry))) p (c + m) (x ++ y) σ
         → Refines k d s base from (mem (now (text .exit)) (now (store .exit)) (now (ends .exit))) r

@@ -5,6 +5,7 @@ use mathlib.Core.Path.{_≡_}
 use Prim.Native.Nat.{ℕ, _+_, _≤_}
 use Prim.Native.String.{String}
 use Rattle.grammar.specs.Text.{Text}
+use Rattle.grammar.specs.Limits.{most-entry-bytes}
 use lib.ListN.{length}
 use Rattle.grammar.specs.Tables.{wrappers}
 use Rattle.grammar.specs.Reader.{State, Reader, find}
@@ -23,5 +24,5 @@ ReadsWrapped c s m m' p r = (u : String × String) → Wraps c u → Reads (wrap
 -- a name, or a type, of x bytes with its arguments
 abbrev pub Instance : (Text → Reader Text) → ℕ → Text → Memory → Memory → Parser → Read → Type 0
 Instance f x s m m' p r =
-    (base : Text) (from : ℕ) (t : Text) (σ : State) → Stands (keep (p .depth)) (p .depth) s base from m p x t σ → length t ≤ 32768 →
+    (base : Text) (from : ℕ) (t : Text) (σ : State) → Stands (keep (p .depth)) (p .depth) s base from m p x t σ → length t ≤ most-entry-bytes →
     Refines (keep (p .depth)) (p .depth) s base (p .at + 1) m' r (f t σ)

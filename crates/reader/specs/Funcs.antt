@@ -4,6 +4,7 @@ use mathlib.Core.Path.{_≡_}
 use Prim.Native.Nat.{ℕ, _+_, min}
 use lib.ListN.{length}
 use Rattle.grammar.specs.Text.{Text, b, if_then_else_, join}
+use Rattle.grammar.specs.Limits.{most-length}
 use Rattle.grammar.specs.Reader.{State, recorded}
 use Rattle.grammar.specs.Grammar.{slot, only-void}
 use Rattle.parser.specs.Holds.{Memory, Stands, Refines, keep}
@@ -22,6 +23,6 @@ opening = 32 ∷ 40 ∷ 1 ∷ 41 ∷ 40 ∷ []
 abbrev pub FuncEnd : Memory → Memory → Parser → ℕ → ℕ → ℕ → Read → Type 0
 FuncEnd m m' p r n count x =
     (s base : Text) (from : ℕ) (t : Text) (ts : List Text) (σ : State) →
-    Stands (keep (p .depth + 1)) (p .depth) s base from m p (min (r + (5 + n)) 65536) (t ++ (opening ++ join (b ", ") ts)) σ →
-    r ≡ length t → n ≡ min (length (join (b ", ") ts)) 65536 → count ≡ length ts →
+    Stands (keep (p .depth + 1)) (p .depth) s base from m p (min (r + (5 + n)) most-length) (t ++ (opening ++ join (b ", ") ts)) σ →
+    r ≡ length t → n ≡ min (length (join (b ", ") ts)) most-length → count ≡ length ts →
     Refines (keep (p .depth)) (p .depth) s base from m' x (recorded (function-text t ts) σ)

@@ -7,6 +7,7 @@ use Prim.Native.Char.{code}
 use lib.Dec.{eqb, ltb}
 use lib.ListN.{length}
 use Rattle.grammar.specs.Text.{Text, b, choose, join, if_then_else_}
+use Rattle.grammar.specs.Limits.{most-entry-bytes, most-length}
 use Rattle.grammar.specs.Reader.{State, Result, ok, refused, Reader, while, one-more}
 use Rattle.grammar.specs.Grammar.{reading, Production, ⟨type⟩, ⟨template-param⟩, ⟨unqualified-name⟩, ended, last}
 use Rattle.grammar.specs.Grammar as g
@@ -62,7 +63,7 @@ unlisted-of (read p n) = items-as.Listed p n 0
 -- two texts that no entry tells apart: they are the same, or both are too long to be one
 pub data Alike (u t : Text) : Type 0 where
   same-text : u ≡ t → Alike u t
-  both-long : 32768 < length u → 32768 < length t → Alike u t
+  both-long : most-entry-bytes < length u → most-entry-bytes < length t → Alike u t
 
 -- the parts of a nested name stand on the stack with :: between them, or, where they are too long to be an entry, a text
 -- that is too long as well
@@ -70,7 +71,7 @@ pub record Parted (k d : ℕ) (s base : Text) (from : ℕ) (m : Memory) (p : Par
   pub shown : Text
   pub stands : Stands k d s base from m p (q .n) shown σ
   pub alike : Alike shown (join (b "::") (ps .texts))
-  pub final : length (join (b "::") (ps .texts)) ≤ 32768 → q .last ≡ length (choose (last (ps .texts)) (λ x. x) [])
+  pub final : length (join (b "::") (ps .texts)) ≤ most-entry-bytes → q .last ≡ length (choose (last (ps .texts)) (λ x. x) [])
   pub within : q .last ≤ q .n
   pub count : q .count ≡ min (length (ps .texts)) 1
   pub structor : q .structor ≡ ps .structor
@@ -122,7 +123,7 @@ Separates text text' p q r = Puts text text' p r (before-part (q .count))
 
 -- the parts with one of so many bytes more
 abbrev pub longer-of : Parts → ℕ → Parts
-longer-of q m = record { n = min (q .n + (2 * min (q .count) 1 + m)) 65536; last = m; count = 1; structor = q .structor }
+longer-of q m = record { n = min (q .n + (2 * min (q .count) 1 + m)) most-length; last = m; count = 1; structor = q .structor }
 
 -- the production that a part beginning with c is
 unfoldable pub part-of : ℕ → Production

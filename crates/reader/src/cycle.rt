@@ -34,6 +34,7 @@ ghost use mathlib.Core.Path.{_≡_};
 ghost use mathlib.Core.List.{List, _∷_};
 ghost use Prim.Native.Nat.{ℕ, _+_, _-_, _≤_, _<_, min};
 ghost use lib.ListN.{drop};
+ghost use Rattle.grammar.specs.Limits.{most-entry-bytes, most-length};
 ghost use Rattle.grammar.specs.Grammar.{reading, ⟨type⟩, ⟨template-args⟩, ⟨template-arg⟩, ⟨expr-primary⟩, ⟨name⟩, ⟨nested-name⟩, ⟨unqualified-name⟩};
 ghost use Rattle.grammar.specs.Grammar.{⟨operator-name⟩, type-inner, array-type, function-type, pointer-to-member-type, nested-type, class-type, name-inner};
 ghost use Rattle.grammar.specs.Grammar.{unscoped-name, std-ahead, std-name, local-name, local-encoding, prefix, prefix-args, pack};
@@ -52,7 +53,7 @@ fn instance(
     x: usize,
     named: bool,
 ) -> Read
-    requires { ⌜ (Ready (now s) (mem (now text) (now store) (now ends)) p) × ((x ≤ 32768) × (x ≤ p .top)) ⌝ }
+    requires { ⌜ (Ready (now s) (mem (now text) (now store) (now ends)) p) × ((x ≤ most-entry-bytes) × (x ≤ p .top)) ⌝ }
     ensures { λ r. ⌜ Instance (instance-of named) x (now (s .entry))
         (mem (now (text .entry)) (now (store .entry)) (now (ends .entry))) (mem (now (text .exit)) (now (store .exit)) (now (ends .exit))) p r ⌝ }
 {
@@ -240,7 +241,7 @@ fn px(
     parts: Parts,
     c: u8,
 ) -> Prefix
-    requires { ⌜ (Ready (now s) (mem (now text) (now store) (now ends)) p) × ((parts .n ≤ 65536) × ((parts .last ≤ parts .n) × (min (parts .n) 32768 ≤ p .top))) ⌝ }
+    requires { ⌜ (Ready (now s) (mem (now text) (now store) (now ends)) p) × ((parts .n ≤ most-length) × ((parts .last ≤ parts .n) × (min (parts .n) most-entry-bytes ≤ p .top))) ⌝ }
     ensures { λ r. ⌜ ((t : List ℕ) → drop (p .at) (now (s .entry)) ≡ c ∷ t → ReadsPart (prefix reading) (now (s .entry))
         (mem (now (text .entry)) (now (store .entry)) (now (ends .entry))) (mem (now (text .exit)) (now (store .exit)) (now (ends .exit))) p parts r) ⌝ }
 {
@@ -271,7 +272,7 @@ fn px_arg(
     p: Parser,
     parts: Parts,
 ) -> Prefix
-    requires { ⌜ (Ready (now s) (mem (now text) (now store) (now ends)) p) × ((parts .n ≤ 65536) × ((parts .last ≤ parts .n) × (min (parts .n) 32768 ≤ p .top))) ⌝ }
+    requires { ⌜ (Ready (now s) (mem (now text) (now store) (now ends)) p) × ((parts .n ≤ most-length) × ((parts .last ≤ parts .n) × (min (parts .n) most-entry-bytes ≤ p .top))) ⌝ }
     ensures { λ r. ⌜ ReadsPart (prefix-args reading) (now (s .entry))
         (mem (now (text .entry)) (now (store .entry)) (now (ends .entry))) (mem (now (text .exit)) (now (store .exit)) (now (ends .exit))) p parts r ⌝ }
 {
@@ -311,7 +312,7 @@ fn px_new(
     parts: Parts,
     c: u8,
 ) -> Prefix
-    requires { ⌜ (Ready (now s) (mem (now text) (now store) (now ends)) p) × ((parts .n ≤ 65536) × ((parts .last ≤ parts .n) × (min (parts .n) 32768 ≤ p .top))) ⌝ }
+    requires { ⌜ (Ready (now s) (mem (now text) (now store) (now ends)) p) × ((parts .n ≤ most-length) × ((parts .last ≤ parts .n) × (min (parts .n) most-entry-bytes ≤ p .top))) ⌝ }
     ensures { λ r. ⌜ ReadsNewPart c (now (s .entry))
         (mem (now (text .entry)) (now (store .entry)) (now (ends .entry))) (mem (now (text .exit)) (now (store .exit)) (now (ends .exit))) p parts r ⌝ }
 {

@@ -8,6 +8,7 @@ ghost use mathlib.Core.Path.{_≡_};
 ghost use mathlib.Core.List.{List};
 ghost use Prim.Native.Nat.{ℕ, _+_, _-_, _≤_, _<_, min};
 ghost use lib.ListN.{length};
+ghost use Rattle.grammar.specs.Limits.{most-text-bytes, most-entry-bytes, most-length};
 ghost use Rattle.store.specs.Stack.{Stack};
 ghost use Rattle.parser.specs.Holds.{mem, Ready, Puts};
 ghost use Rattle.reader.specs.Funcs.{FuncEnd};
@@ -109,7 +110,7 @@ pub fn separated(text: &mut [u8], p: Parser, parts: Parts) -> Parser
 
 // The parts with one of m bytes more.
 pub fn longer(parts: Parts, m: usize) -> Parts
-    requires { ⌜ (m ≤ 65534) × (parts .n ≤ 65536) ⌝ }
+    requires { ⌜ (m + 2 ≤ most-length) × (parts .n ≤ most-length) ⌝ }
     ensures { λ r. ⌜ r ≡ longer-of parts m ⌝ }
 {
     let n = parts.n;
@@ -190,7 +191,7 @@ fn tilde_size(c: u8) -> usize
 
 // No more than can be put at once.
 fn shorter(n: usize) -> usize
-    ensures { λ r. ⌜ r ≡ min n 16384 ⌝ }
+    ensures { λ r. ⌜ r ≡ min n most-text-bytes ⌝ }
 {
     if Parser::TEXT < n { Parser::TEXT } else { n }
 }
@@ -198,7 +199,7 @@ fn shorter(n: usize) -> usize
 // <ctor-dtor-name>, at C or D: the class again behind the parts so far. Of parts that are too long to be an entry, or
 // become so, no more is asked than that.
 pub fn ctor_dtor(text: &mut [u8], p: Parser, parts: Parts, c: u8) -> Prefix
-    requires { ⌜ ((s store ends : List ℕ) × Ready s (mem (now text) store ends) p) × ((parts .n ≤ 65536) × ((parts .last ≤ parts .n) × (min (parts .n) 32768 ≤ p .top))) ⌝ }
+    requires { ⌜ ((s store ends : List ℕ) × Ready s (mem (now text) store ends) p) × ((parts .n ≤ most-length) × ((parts .last ≤ parts .n) × (min (parts .n) most-entry-bytes ≤ p .top))) ⌝ }
     ensures { λ r. ⌜ CtorDtor c (now (text .entry)) (now (text .exit)) p parts r ⌝ }
 {
     let at = p.at;
@@ -245,7 +246,7 @@ pub fn func_end(
     n: usize,
     count: usize,
 ) -> Read
-    requires { ⌜ ((s : List ℕ) × Ready s (mem (now text) (now store) (now ends)) p) × ((r ≤ 16384) × ((n ≤ 65536) × (min (r + (5 + n)) 32768 ≤ p .top))) ⌝ }
+    requires { ⌜ ((s : List ℕ) × Ready s (mem (now text) (now store) (now ends)) p) × ((r ≤ most-text-bytes) × ((n ≤ most-length) × (min (r + (5 + n)) most-entry-bytes ≤ p .top))) ⌝ }
     ensures { λ x. ⌜ FuncEnd (mem (now (text .entry)) (now (store .entry)) (now (ends .entry))) (mem (now (text .exit)) (now (store .exit)) (now (ends .exit))) p r n count x ⌝ }
 {
     let top = p.top;

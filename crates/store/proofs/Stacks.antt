@@ -6,23 +6,24 @@ use native.Mathlib.Omega.{arith}
 use lib.ListN.{length, take, drop, getD, set, length-append, length-drop, length-set}
 use lib.Seq.{paste, take-paste, length-paste, length-take-le, take-at, take-all, take-length, take-take, drop-drop, set-split, append-snoc, getD-take, getD-drop}
 use Rattle.grammar.specs.Text.{Text}
+use Rattle.grammar.specs.Limits.{kept-bytes, stack-bytes}
 use Rattle.grammar.specs.Grammar.{at-slots}
-use Rattle.store.specs.Stack.{kept-bytes, Stack, Put, Cut, Room, Grown, slots-in, at-slot, newest, below-newest}
+use Rattle.store.specs.Stack.{Stack, Put, Cut, Room, Grown, slots-in, at-slot, newest, below-newest}
 use Rattle.store.specs.laws.Lists.{drop-take, part-of}
 use Rattle.store.specs.laws.Tails.{top-size}
 use Rattle.store.specs.laws.Slots.{at-slot-yes, at-slot-no, at-slots-none, at-slots-more, at-slots-part, length-at-slots}
 
-grown-at : {T T' : Text} {top : ℕ} (t : Text) (r : ℕ) → length T' ≡ 51200 → take r T' ≡ take top T ++ t → r ≡ top + length t → r ≤ 51200 → Grown T T' top r t
+grown-at : {T T' : Text} {top : ℕ} (t : Text) (r : ℕ) → length T' ≡ stack-bytes → take r T' ≡ take top T ++ t → r ≡ top + length t → r ≤ stack-bytes → Grown T T' top r t
 grown-at t r s e f g = record { top-is = f; is = e; stack = record { size = s; most = g } }
 
-pub grown-paste : {T T' : Text} {top : ℕ} (s : Text) (n : ℕ) → Stack T top → T' ≡ paste T top s n → n ≤ length s → top + n ≤ 51200 → Grown T T' top (top + n) (take n s)
+pub grown-paste : {T T' : Text} {top : ℕ} (s : Text) (n : ℕ) → Stack T top → T' ≡ paste T top s n → n ≤ length s → top + n ≤ stack-bytes → Grown T T' top (top + n) (take n s)
 grown-paste {T} {T'} {top} s n h e l g =
     grown-at (take n s) (top + n)
     (ap length e ∙ length-paste T top s n (omega (arith, h .size)) l ∙ h .size)
     (ap (take (top + n)) e ∙ take-paste T top s n (omega (arith, h .size)) l)
     (omega (arith, length-take-le n s l)) g
 
-pub grown-set : {T : Text} {top : ℕ} (x : ℕ) → Stack T top → top < 51200 → Grown T (set T top x) top (top + 1) (x ∷ [])
+pub grown-set : {T : Text} {top : ℕ} (x : ℕ) → Stack T top → top < stack-bytes → Grown T (set T top x) top (top + 1) (x ∷ [])
 grown-set {T} {top} x h g =
     grown-at (x ∷ []) (top + 1) (length-set T top x ∙ h .size)
     (ap (take (top + 1)) (set-split T top x (omega (arith, h .size)) ∙ sym (append-snoc (take top T) x (drop (suc top) T)))
@@ -45,7 +46,7 @@ grown-front {T} {T'} {top} {r} t h g =
 
 -- ---- room
 
-pub room-here : {T : Text} {top size : ℕ} → Stack T top → top + size ≤ 51200 → Room T T top top size
+pub room-here : {T : Text} {top size : ℕ} → Stack T top → top + size ≤ stack-bytes → Room T T top top size
 room-here {T} {top} h l = record {
   below = omega arith;
   long = omega arith;
@@ -54,7 +55,7 @@ room-here {T} {top} h l = record {
   stack = h;
 }
 
-pub room-cut : {T T' : Text} {top r k : ℕ} (n size : ℕ) → Cut T T' top r k n → n ≡ kept-bytes → k ≡ top - n → n ≤ top → n + size ≤ 51200 → Room T T' top r size
+pub room-cut : {T T' : Text} {top r k : ℕ} (n size : ℕ) → Cut T T' top r k n → n ≡ kept-bytes → k ≡ top - n → n ≤ top → n + size ≤ stack-bytes → Room T T' top r size
 room-cut {T} {T'} {top} {r} {k} n size h e f l m = record {
   below = omega (arith, h .top-is);
   long = omega (arith, h .top-is);
@@ -130,23 +131,23 @@ pub grown-none : {T : Text} {top : ℕ} → Stack T top → Grown T T top top []
 grown-none {T} {top} h = record { top-is = omega arith; is = sym (append-nil (take top T)); stack = h }
 
 module _ {T : Text} {top : ℕ} (low d : ℕ) (word : Text) (x : ℕ) (h : Stack T top) (l : low + d ≤ top)
-    (f : top + length (at-slot (take d (drop low T) ++ word) x) ≤ 51200) where
+    (f : top + length (at-slot (take d (drop low T) ++ word) x) ≤ stack-bytes) where
   part-size : length (take d (drop low T)) ≡ d
   part-size = length-take-le d (drop low T) (simp length-drop (omega (arith, h .size, h .most)))
 
-  pub slot-room : x ≡ 1 → top + d + length word + 1 ≤ 51200
+  pub slot-room : x ≡ 1 → top + d + length word + 1 ≤ stack-bytes
   slot-room e =
       let i : length (at-slot (take d (drop low T) ++ word) x) ≡ d + length word + 1 =
       ap length (at-slot-yes (take d (drop low T) ++ word) x e) ∙ length-append (take d (drop low T) ++ word) (x ∷ []) ∙ ap (λ (k : ℕ). k + 1) (length-append (take d (drop low T)) word ∙ ap (λ (k : ℕ). k + length word) part-size) in
       omega arith
 
-  pub byte-room : (x ≡ 1 → ⊥) → top + 1 ≤ 51200
+  pub byte-room : (x ≡ 1 → ⊥) → top + 1 ≤ stack-bytes
   byte-room e = let i : length (at-slot (take d (drop low T) ++ word) x) ≡ 1 = ap length (at-slot-no (take d (drop low T) ++ word) x e) in omega arith
 
   pub slot-put : {T₁ T₂ : Text} → x ≡ 1 → T₁ ≡ paste T top (drop low T) d → T₂ ≡ paste T₁ (top + d) word (length word)
       → Grown T (set T₂ (top + d + length word) x) top (top + d + length word + 1) (at-slot (take d (drop low T) ++ word) x)
   slot-put {T₁} {T₂} e e₁ e₂ =
-      let r : top + d + length word + 1 ≤ 51200 = slot-room e in
+      let r : top + d + length word + 1 ≤ stack-bytes = slot-room e in
       let g : Grown T T₁ top (top + d) (take d (drop low T)) = grown-paste (drop low T) d h e₁ (simp length-drop (omega (arith, h .size, h .most))) (omega arith) in
       let i : Grown T₁ T₂ (top + d) (top + d + length word) word = rw take-length at (grown-paste word (length word) (g .stack) e₂ (omega arith) (omega arith)) in
       let j : Grown T₂ (set T₂ (top + d + length word) x) (top + d + length word) (top + d + length word + 1) (x ∷ []) = grown-set x (i .stack) (omega arith) in
@@ -200,8 +201,8 @@ module _ {T : Text} {top : ℕ} (n d : ℕ) (word : Text) (h : Stack T top) (l :
     more-is : at-slots e (take (i + 1) t) ≡ at-slots e (take i t) ++ at-slot e (getD t i 0)
     more-is = at-slots-more e t i (omega (arith, newest-size))
 
-    pub piece-fits : top + length (at-slots (below-newest T top n d ++ word) (newest T top n)) ≤ 51200
-        → at + length (at-slot (take d (drop (top - n - d) T') ++ word) (getD T' (top - n + i) 0)) ≤ 51200
+    pub piece-fits : top + length (at-slots (below-newest T top n d ++ word) (newest T top n)) ≤ stack-bytes
+        → at + length (at-slot (take d (drop (top - n - d) T') ++ word) (getD T' (top - n + i) 0)) ≤ stack-bytes
     piece-fits f =
         rw piece-is
         (omega (arith, g .top-is, ap length more-is ∙ length-append (at-slots e (take i t)) (at-slot e (getD t i 0)), at-slots-part e t (i + 1)))
@@ -227,7 +228,7 @@ module _ {T T₁ : Text} {top at size : ℕ} (n d : ℕ) (c : Stack T top) (h : 
   woven-is word = ap₂ (λ (x y : Text). at-slots (x ++ word) y) room-below room-newest
 
   pub weave-fits : (word : Text) → size ≡ n + slots-in (newest T top n) * (d + length word)
-      → at + length (at-slots (below-newest T₁ at n d ++ word) (newest T₁ at n)) ≤ 51200
+      → at + length (at-slots (below-newest T₁ at n d ++ word) (newest T₁ at n)) ≤ stack-bytes
   weave-fits word e = omega (arith, e, h .room, ap length (woven-is word) ∙ weave-size n d word c l)
 
   pub weave-put : {T₂ : Text} {r : ℕ} (word : Text) → Grown T₁ T₂ at r (at-slots (below-newest T₁ at n d ++ word) (newest T₁ at n))

@@ -5,20 +5,14 @@ use Prim.Native.Nat.{ℕ, _+_, _-_, _≤_, min}
 use lib.ListN.{length, take, drop, replicate}
 use lib.Dec.{eqb}
 use Rattle.grammar.specs.Text.{Text, if_then_else_}
+use Rattle.grammar.specs.Limits.{kept-bytes, stack-bytes}
 
 unfoldable pub zeros : ℕ → Text
 zeros n = replicate n 0
 
 pub record Stack (text : Text) (top : ℕ) : Type 0 where
-  pub size : length text ≡ 51200
-  pub most : top ≤ 51200
-
--- a full stack keeps so many of its newest bytes, and so many can be put on it at once
-abbrev pub kept-bytes : ℕ
-kept-bytes = 34816
-
-abbrev pub most-put : ℕ
-most-put = 51200 - kept-bytes
+  pub size : length text ≡ stack-bytes
+  pub most : top ≤ stack-bytes
 
 -- w is `full` without its oldest bytes; its newest k bytes, at least, are there
 pub record Tail (k : ℕ) (w full : Text) : Type 0 where
@@ -43,7 +37,7 @@ pub record Cut (text text' : Text) (top top' k n : ℕ) : Type 0 where
 pub record Room (text text' : Text) (top top' size : ℕ) : Type 0 where
   pub below : top' ≤ top
   pub long : min top kept-bytes ≤ top'
-  pub room : top' + size ≤ 51200
+  pub room : top' + size ≤ stack-bytes
   pub is : take top' text' ≡ drop (top - top') (take top text)
   pub stack : Stack text' top'
 

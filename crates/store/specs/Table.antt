@@ -5,6 +5,7 @@ use mathlib.Core.List.{List, [], _∷_, _++_}
 use Prim.Native.Nat.{ℕ, _+_, _-_, _≤_}
 use lib.ListN.{length, take, drop, getD}
 use Rattle.grammar.specs.Text.{Text}
+use Rattle.grammar.specs.Limits.{most-entries, most-entry-bytes}
 use Rattle.grammar.specs.Reader.{bytes-of}
 
 -- of the n numbers of a slice, w stands in front; what is behind it may be anything
@@ -23,20 +24,20 @@ ends-from n [] = []
 ends-from n (t ∷ ts) = (n + length t) ∷ ends-from (n + length t) ts
 
 pub record Entries (l : List Text) (store ends : List ℕ) (count bytes : ℕ) : Type 0 where
-  pub store-is : Front 32768 (concat l) store
-  pub ends-is : Front 1024 (ends-from 0 l) ends
+  pub store-is : Front most-entry-bytes (concat l) store
+  pub ends-is : Front most-entries (ends-from 0 l) ends
   pub count-is : count ≡ length l
   pub bytes-is : bytes ≡ bytes-of l
-  pub most : count ≤ 1024
-  pub room : bytes ≤ 32768
+  pub most : count ≤ most-entries
+  pub room : bytes ≤ most-entry-bytes
 
 -- the two slices are as long as a table's
 pub record Sized (store ends : List ℕ) : Type 0 where
-  pub store-size : length store ≡ 32768
-  pub ends-size : length ends ≡ 1024
+  pub store-size : length store ≡ most-entry-bytes
+  pub ends-size : length ends ≡ most-entries
 
 -- text k stands from `from` to `to`
 pub record Placed (l : List Text) (store : List ℕ) (k from to : ℕ) : Type 0 where
   pub size : to ≡ from + length (getD l k [])
-  pub within : to ≤ 32768
+  pub within : to ≤ most-entry-bytes
   pub is : take (to - from) (drop from store) ≡ getD l k []

@@ -9,8 +9,12 @@ ghost use Prim.Native.Nat.{_+_, _-_, _*_, _≤_};
 ghost use lib.ListN.{length, take, drop};
 ghost use lib.Seq.{paste};
 ghost use Rattle.grammar.specs.Text.{same};
+ghost use Rattle.grammar.specs.Limits.{most-text-bytes, kept-bytes, stack-bytes};
 ghost use Rattle.grammar.specs.Grammar.{at-slots};
-ghost use Rattle.store.specs.Stack.{kept-bytes, most-put, zeros, Stack, Put, Cut, Room, Grown, slots-in, at-slot, newest, below-newest};
+ghost use Rattle.store.specs.Stack.{zeros, Stack, Put, Cut, Room, Grown, slots-in, at-slot, newest, below-newest};
+
+// The length of the stack.
+pub const LENGTH: usize = 51200;
 
 // How many of its newest bytes a full stack keeps.
 const KEPT: usize = 34816;
@@ -60,10 +64,10 @@ pub fn cut(text: &mut [u8], top: usize, k: usize, n: usize) -> usize
 
 // Room for so many bytes.
 pub fn room(text: &mut [u8], top: usize, size: usize) -> usize
-    requires { ⌜ (Stack (now text) top) × (size ≤ most-put) ⌝ }
+    requires { ⌜ (Stack (now text) top) × (size ≤ most-text-bytes) ⌝ }
     ensures { λ r. ⌜ Room (now (text .entry)) (now (text .exit)) top r size ⌝ }
 {
-    if size <= 51200 - top {
+    if size <= LENGTH - top {
         return top;
     }
     let k = top - KEPT;
@@ -72,7 +76,7 @@ pub fn room(text: &mut [u8], top: usize, size: usize) -> usize
 
 // Puts `word` on the top.
 pub fn put(text: &mut [u8], top: usize, word: &[u8]) -> usize
-    requires { ⌜ (Stack (now text) top) × (length (now word) ≤ most-put) ⌝ }
+    requires { ⌜ (Stack (now text) top) × (length (now word) ≤ most-text-bytes) ⌝ }
     ensures { λ r. ⌜ Put (now (text .entry)) (now (text .exit)) top r (now (word .entry)) ⌝ }
 {
     let at = room(text, top, word.len());
@@ -82,7 +86,7 @@ pub fn put(text: &mut [u8], top: usize, word: &[u8]) -> usize
 
 // Puts src[from..to] on the top.
 pub fn put_part(text: &mut [u8], top: usize, src: &[u8], from: usize, to: usize) -> usize
-    requires { ⌜ (Stack (now text) top) × ((from ≤ to) × ((to ≤ length (now src)) × (to - from ≤ most-put))) ⌝ }
+    requires { ⌜ (Stack (now text) top) × ((from ≤ to) × ((to ≤ length (now src)) × (to - from ≤ most-text-bytes))) ⌝ }
     ensures { λ r. ⌜ Put (now (text .entry)) (now (text .exit)) top r (take (to - from) (drop from (now (src .entry)))) ⌝ }
 {
     let n = to - from;
@@ -93,7 +97,7 @@ pub fn put_part(text: &mut [u8], top: usize, src: &[u8], from: usize, to: usize)
 
 // Puts the n bytes at `from` on the top once more.
 pub fn again(text: &mut [u8], top: usize, from: usize, n: usize) -> usize
-    requires { ⌜ (Stack (now text) top) × ((from + n ≤ top) × ((top ≤ from + kept-bytes) × (n ≤ most-put))) ⌝ }
+    requires { ⌜ (Stack (now text) top) × ((from + n ≤ top) × ((top ≤ from + kept-bytes) × (n ≤ most-text-bytes))) ⌝ }
     ensures { λ r. ⌜ Put (now (text .entry)) (now (text .exit)) top r (take n (drop from (now (text .entry)))) ⌝ }
 {
     let back = top - from;
@@ -151,7 +155,7 @@ pub fn slots(text: &[u8], from: usize, to: usize) -> usize
 // Puts the byte x on the top, and before a slot the d bytes at `low` and the word.
 fn piece(text: &mut [u8], top: usize, low: usize, d: usize, word: &[u8], x: u8) -> usize
     requires { ⌜ (Stack (now text) top) × ((low + d ≤ top)
-        × (top + length (at-slot (take d (drop low (now text)) ++ now word) x) ≤ 51200)) ⌝ }
+        × (top + length (at-slot (take d (drop low (now text)) ++ now word) x) ≤ stack-bytes)) ⌝ }
     ensures { λ r. ⌜ Grown (now (text .entry)) (now (text .exit)) top r
         (at-slot (take d (drop low (now (text .entry))) ++ now (word .entry)) x) ⌝ }
 {
@@ -170,7 +174,7 @@ fn piece(text: &mut [u8], top: usize, low: usize, d: usize, word: &[u8], x: u8) 
 // Puts the newest n bytes on the top once more, with the d bytes below them and the word in front of each slot.
 fn pieces(text: &mut [u8], top: usize, n: usize, d: usize, word: &[u8]) -> usize
     requires { ⌜ (Stack (now text) top) × ((d + n ≤ top)
-        × (top + length (at-slots (below-newest (now text) top n d ++ now word) (newest (now text) top n)) ≤ 51200)) ⌝ }
+        × (top + length (at-slots (below-newest (now text) top n d ++ now word) (newest (now text) top n)) ≤ stack-bytes)) ⌝ }
     ensures { λ r. ⌜ Grown (now (text .entry)) (now (text .exit)) top r
         (at-slots (below-newest (now (text .entry)) top n d ++ now (word .entry)) (newest (now (text .entry)) top n)) ⌝ }
 {
@@ -188,8 +192,8 @@ fn pieces(text: &mut [u8], top: usize, n: usize, d: usize, word: &[u8]) -> usize
 
 // The same, and room is made for it first.
 pub fn weave(text: &mut [u8], top: usize, n: usize, d: usize, word: &[u8]) -> usize
-    requires { ⌜ (Stack (now text) top) × ((d + n ≤ top) × ((d + n ≤ kept-bytes) × ((length (now word) ≤ 16384)
-        × (n + slots-in (newest (now text) top n) * (d + length (now word)) ≤ 16384)))) ⌝ }
+    requires { ⌜ (Stack (now text) top) × ((d + n ≤ top) × ((d + n ≤ kept-bytes) × ((length (now word) ≤ most-text-bytes)
+        × (n + slots-in (newest (now text) top n) * (d + length (now word)) ≤ most-text-bytes)))) ⌝ }
     ensures { λ r. ⌜ Put (now (text .entry)) (now (text .exit)) top r
         (at-slots (below-newest (now (text .entry)) top n d ++ now (word .entry)) (newest (now (text .entry)) top n)) ⌝ }
 {

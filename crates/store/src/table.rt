@@ -6,6 +6,7 @@ ghost use mathlib.Core.List.{List, [], _∷_, _++_};
 ghost use Prim.Native.Nat.{ℕ, _+_, _-_, _≤_, _<_};
 ghost use lib.ListN.{length, take, drop};
 ghost use Rattle.grammar.specs.Text.{Text};
+ghost use Rattle.grammar.specs.Limits.{most-entries, most-entry-bytes};
 ghost use Rattle.grammar.specs.Reader.{bytes-of};
 ghost use Rattle.store.specs.Table.{Front, Entries, Sized, Placed, ends-from};
 
@@ -25,7 +26,7 @@ pub fn push(
     from: usize,
     to: usize,
 )
-    requires { ⌜ (Sized (now store) (now ends)) × ((count < 1024) × ((from ≤ to) × ((to ≤ length (now text)) × (bytes + (to - from) ≤ 32768)))) ⌝ }
+    requires { ⌜ (Sized (now store) (now ends)) × ((count < most-entries) × ((from ≤ to) × ((to ≤ length (now text)) × (bytes + (to - from) ≤ most-entry-bytes)))) ⌝ }
     ensures { λ _. ⌜ ((l : List Text) → Entries l (now (store .entry)) (now (ends .entry)) count bytes
         → Entries (l ++ (take (to - from) (drop from (now (text .entry))) ∷ [])) (now (store .exit)) (now (ends .exit)) (count + 1) (bytes + (to - from))) ⌝ }
 {

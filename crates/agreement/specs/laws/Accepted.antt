@@ -9,7 +9,8 @@ use lib.ListN.{length}
 use lib.Dec.{ltb}
 use borrow.Author.Tests.{le-ltb}
 use Rattle.grammar.specs.Text.{Text, b, if_then_else_, choose, same, starts}
-use Rattle.grammar.specs.Reader.{State, Result, ok, refused, start, find, most-open, most-text-bytes}
+use Rattle.grammar.specs.Limits.{most-open, most-text-bytes}
+use Rattle.grammar.specs.Reader.{State, Result, ok, refused, start, find}
 use Rattle.grammar.specs.Grammar.{⟨encoding⟩, reading, ended}
 use Rattle.grammar.specs.Names.{named, refusal, demangle, front, mangled-name, finished, high}
 use Rattle.catalogue.specs.Tree.{Ty, Enc, print-enc}

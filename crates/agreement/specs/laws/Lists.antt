@@ -8,8 +8,9 @@ use native.Mathlib.Omega.{arith}
 use lib.ListN.{length, length-append}
 use lib.Dec.{eqb}
 use Rattle.grammar.specs.Text.{Text, b, if_then_else_, choose, same, starts, holds, digit}
+use Rattle.grammar.specs.Limits.{most-open, most-text-bytes}
 use Rattle.grammar.specs.Tables.{_⇒_, letters, suffixes}
-use Rattle.grammar.specs.Reader.{State, ok, Reader, onto, every, go-to, steps, word-for, push-arg, fits, most-open, most-text-bytes}
+use Rattle.grammar.specs.Reader.{State, ok, Reader, onto, every, go-to, steps, word-for, push-arg, fits}
 use Rattle.grammar.specs.Grammar as g
 use Rattle.grammar.specs.Grammar.{⟨template-args⟩, ⟨template-arg⟩, production, reading}
 use Rattle.catalogue.specs.Bytes.{all, first, and-left, and-right, and-both}

@@ -9,7 +9,8 @@ use lib.ListN.{length, length-append}
 use lib.Dec.{ltb}
 use borrow.Author.Tests.{ltb-true, lt-ltb}
 use Rattle.grammar.specs.Text.{Text, b, if_then_else_, starts, join, each, digit, digit-value}
-use Rattle.grammar.specs.Reader.{State, Result, ok, Reader, onto, refuse, entered, find, set-depth, most-open}
+use Rattle.grammar.specs.Limits.{most-open}
+use Rattle.grammar.specs.Reader.{State, Result, ok, Reader, onto, refuse, entered, find, set-depth}
 use Rattle.grammar.specs.Grammar as g
 use Rattle.grammar.specs.Grammar.{⟨name⟩, production, reading}
 use Rattle.catalogue.specs.Bytes.{first}

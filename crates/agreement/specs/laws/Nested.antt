@@ -8,8 +8,9 @@ use Prim.Native.Char.{code}
 use native.Mathlib.Omega.{arith}
 use lib.ListN.{length, length-append, getElem?}
 use Rattle.grammar.specs.Text.{Text, b, if_then_else_, choose, same, starts, holds, join, each, digit, digit-value}
+use Rattle.grammar.specs.Limits.{most-open, most-text-bytes}
 use Rattle.grammar.specs.Reader.{State, ok, Reader, onto, return, refuse, give, need, eat, every, go-to, steps, while, up-to-E, see, push-sub, set-args}
-use Rattle.grammar.specs.Reader.{set-cv, set-templated, bytes-of, most-open, most-text-bytes}
+use Rattle.grammar.specs.Reader.{set-cv, set-templated, bytes-of}
 use Rattle.grammar.specs.Grammar as g
 use Rattle.grammar.specs.Grammar.{⟨template-args⟩, ⟨nested-name⟩, production, reading, Parts, last, onto-last}
 use Rattle.grammar.specs.laws.Fuel.{reading-is}

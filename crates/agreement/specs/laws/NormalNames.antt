@@ -8,7 +8,8 @@ use Prim.Native.Nat.{ℕ, _+_, _≤_}
 use native.Mathlib.Omega.{arith}
 use lib.ListN.{length}
 use Rattle.grammar.specs.Text.{Text}
-use Rattle.grammar.specs.Names.{named, demangle, most-symbol-bytes}
+use Rattle.grammar.specs.Limits.{most-symbol-bytes}
+use Rattle.grammar.specs.Names.{named, demangle}
 use Rattle.catalogue.specs.Tree.{print-enc}
 use Rattle.catalogue.specs.Class.{resolve-sym, count-sym, Catalogue}
 use Rattle.catalogue.specs.Normal.{normal-sym, after-sym, write, normal-of}

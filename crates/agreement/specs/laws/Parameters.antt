@@ -6,8 +6,9 @@ use Prim.Native.Nat.{ℕ, _+_, _≤_, _<_, max}
 use native.Mathlib.Omega.{arith}
 use lib.ListN.{length, length-append}
 use Rattle.grammar.specs.Text.{Text, b, if_then_else_, choose, same, holds, join}
+use Rattle.grammar.specs.Limits.{most-open}
 use Rattle.grammar.specs.Tables.{letters}
-use Rattle.grammar.specs.Reader.{Result, Reader, onto, steps, word-for, most-open}
+use Rattle.grammar.specs.Reader.{Result, Reader, onto, steps, word-for}
 use Rattle.grammar.specs.Grammar.{⟨type⟩, reading, ended, only-void}
 use Rattle.catalogue.specs.Bytes.{first, and-left, and-right}
 use Rattle.catalogue.specs.laws.Bytes.{not-true}

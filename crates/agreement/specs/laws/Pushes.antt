@@ -6,7 +6,8 @@ use Prim.Native.Nat.{ℕ, _+_, _≤_}
 use native.Mathlib.Omega.{arith}
 use lib.ListN.{length}
 use Rattle.grammar.specs.Text.{Text, if_then_else_, choose, same}
-use Rattle.grammar.specs.Reader.{State, Reader, onto, return, push-sub, recorded, bytes-of, most-open, most-text-bytes}
+use Rattle.grammar.specs.Limits.{most-open, most-text-bytes}
+use Rattle.grammar.specs.Reader.{State, Reader, onto, return, push-sub, recorded, bytes-of}
 use Rattle.grammar.specs.Grammar.{last}
 use Rattle.catalogue.specs.Bytes.{same-eq, same-yes}
 use Rattle.catalogue.specs.Tree.{Ty, Args, app, print, same-ty, same-ty-eq, same-ty-yes}

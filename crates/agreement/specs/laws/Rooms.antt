@@ -9,7 +9,8 @@ use lib.ListN.{length, getElem?}
 use lib.Dec.{leb}
 use borrow.Author.Tests.{le-leb, leb-true}
 use Rattle.grammar.specs.Text.{Text, if_then_else_}
-use Rattle.grammar.specs.Reader.{fits, bytes-of, most-open, most-entries, most-entry-bytes, most-text-bytes}
+use Rattle.grammar.specs.Limits.{most-open, most-entries, most-text-bytes, most-entry-bytes}
+use Rattle.grammar.specs.Reader.{fits, bytes-of}
 use Rattle.catalogue.specs.Bytes.{and-left, and-right, and-both}
 use Rattle.catalogue.specs.Tree.{Ty, Args, wrap, root, sub, app, print, is-bare, is-class, single}
 use Rattle.catalogue.specs.Spelling.{Sp, Pre, SpArgs, s-letter, s-wrap, s-ref, plain, templ, retempl, nest-sub, nest-app, s-lit, p-ref, p-root, p-sub, p-app, s-one, s-also}

@@ -9,8 +9,9 @@ use Prim.Native.String.{String}
 use native.Mathlib.Omega.{arith}
 use lib.Dec.{eqb}
 use Rattle.grammar.specs.Text.{Text, b, if_then_else_, choose, same, starts, holds, digit, digit-value}
+use Rattle.grammar.specs.Limits.{most-open}
 use Rattle.grammar.specs.Tables.{Row, _⇒_, letters, d-letters, wrappers}
-use Rattle.grammar.specs.Reader.{State, Reader, onto, give, find, at-code, most-open, word-for}
+use Rattle.grammar.specs.Reader.{State, Reader, onto, give, find, at-code, word-for}
 use Rattle.grammar.specs.Grammar as g
 use Rattle.grammar.specs.Grammar.{⟨type⟩, ⟨template-arg⟩, ⟨template-param⟩, ⟨expr-primary⟩, ⟨unqualified-name⟩, production, reading, Parts}
 use borrow.Author.Tests.{ne-eqb}

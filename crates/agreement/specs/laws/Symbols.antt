@@ -9,8 +9,9 @@ use native.Mathlib.Omega.{arith}
 use lib.ListN.{length, length-append}
 use lib.Dec.{eqb}
 use Rattle.grammar.specs.Text.{Text, b, if_then_else_, choose, same, join, each, digit, digit-value}
+use Rattle.grammar.specs.Limits.{most-open, most-entries, most-text-bytes, most-entry-bytes}
 use Rattle.grammar.specs.Tables.{labels, qualifiers, letters}
-use Rattle.grammar.specs.Reader.{bytes-of, State, ok, Reader, onto, return, give, while, set-cv, word-for, most-open, most-entries, most-entry-bytes, most-text-bytes}
+use Rattle.grammar.specs.Reader.{bytes-of, State, ok, Reader, onto, return, give, while, set-cv, word-for}
 use Rattle.grammar.specs.Grammar as g
 use Rattle.grammar.specs.Grammar.{⟨encoding⟩, ⟨name⟩, ⟨type⟩, production, reading, ended, only-void}
 use Rattle.catalogue.specs.Bytes.{first}

@@ -12,9 +12,10 @@ use lib.ListN.{length}
 use lib.Dec.{eqb, leb, ltb}
 use borrow.Author.Tests.{ltb-true, lt-ltb, le-leb, leb-true, eq-eqb}
 use Rattle.grammar.specs.Text.{Text, b, if_then_else_, choose, starts, same}
+use Rattle.grammar.specs.Limits.{most-open, most-text-bytes}
 use Rattle.grammar.specs.Tables.{Row}
 use Rattle.grammar.specs.Reader.{State, Result, ok, refused, Reader, onto, refuse, return, fits, push-sub, push-arg, give, recorded, entered, go-to, set-subs}
-use Rattle.grammar.specs.Reader.{set-args, set-depth, find, by-code, at-code, eat, need, steps, while, up-to-E, most-open, most-text-bytes}
+use Rattle.grammar.specs.Reader.{set-args, set-depth, find, by-code, at-code, eat, need, steps, while, up-to-E}
 use Rattle.grammar.specs.Grammar.{Production, production, reading}
 use Rattle.grammar.specs.laws.Fuel.{reading-is}
 

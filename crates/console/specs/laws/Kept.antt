@@ -7,7 +7,7 @@ use native.Mathlib.Omega.{arith}
 use borrow.Author.Tests.{eq-eqb}
 use lib.ListN.{length, take, drop, getD, set, length-set, drop-of-length-le}
 use lib.Seq.{drop-cons, drop-drop, take-length, take-suc-set, paste, length-paste, take-paste}
-use Rattle.listing.specs.Cut.{cut-lines, column}
+use Rattle.listing.specs.Cut.{cut-lines, column, most-kept}
 use Rattle.listing.specs.laws.Cut.{cut-feed, line-front}
 use Rattle.listing.specs.Lines.{before-feed, feed-from}
 use Rattle.listing.specs.laws.Lines.{feed-there, feed-front}
@@ -26,7 +26,7 @@ puts {k} {part} {lines} {lines'} {end} w e a c h p r q = record {
   size = ap length p ∙ length-paste lines end w (length w) h (omega arith);
 }
 
-pub begin : (chunk lines : List ℕ) (used : ℕ) → used ≤ 4097 → used + length chunk ≤ length lines → Begun chunk lines lines used used 0 0
+pub begin : (chunk lines : List ℕ) (used : ℕ) → used ≤ most-kept → used + length chunk ≤ length lines → Begun chunk lines lines used used 0 0
 begin chunk lines used h k = record {
   passed = omega arith;
   order = omega arith;
@@ -51,7 +51,7 @@ module _ {chunk lines lines' : List ℕ} {used end start i : ℕ} (w : Begun chu
       }
 
   -- the bytes up to the next line feed
-  pub begun-part : {feed r : ℕ} {lines'' : List ℕ} → feed ≡ feed-from chunk i → feed ≤ length chunk → Puts (4097 - (end - start)) (take (feed - i) (drop i chunk)) lines' lines'' end r
+  pub begun-part : {feed r : ℕ} {lines'' : List ℕ} → feed ≡ feed-from chunk i → feed ≤ length chunk → Puts (most-kept - (end - start)) (take (feed - i) (drop i chunk)) lines' lines'' end r
       → Begun chunk lines lines'' used r start feed
   begun-part {feed} {r} {lines''} e l p =
       let n : ℕ = end - start in
@@ -59,9 +59,9 @@ module _ {chunk lines lines' : List ℕ} {used end start i : ℕ} (w : Begun chu
       let f = line-front n (drop i chunk) in
       let part : take (feed - i) (drop i chunk) ≡ s = ap (λ (j : ℕ). take j (drop i chunk)) {x = feed - i} {y = length s} (omega arith) ∙ feed-front (drop i chunk) in
       let size : length (take (feed - i) (drop i chunk)) ≡ feed - i = ap length part ∙ omega arith in
-      let u : List ℕ = take (4097 - n) s in
-      let put : take r lines'' ≡ take end lines' ++ u = p .is ∙ ap (λ (t : List ℕ). take end lines' ++ take (4097 - n) t) part in
-      let z : n + length u ≡ r - start = omega (arith, w .order, p .ends, ap (λ (t : List ℕ). length (take (4097 - n) t)) part) in
+      let u : List ℕ = take (most-kept - n) s in
+      let put : take r lines'' ≡ take end lines' ++ u = p .is ∙ ap (λ (t : List ℕ). take end lines' ++ take (most-kept - n) t) part in
+      let z : n + length u ≡ r - start = omega (arith, w .order, p .ends, ap (λ (t : List ℕ). length (take (most-kept - n) t)) part) in
       let d : drop (length s) (drop i chunk) ≡ drop feed chunk = drop-drop (length s) i chunk ∙ ap (λ (j : ℕ). drop j chunk) (sym e) in
       record {
         passed = l;

@@ -10,8 +10,9 @@ use lib.Dec.{eqb}
 use lib.ListN.{length, drop, getD, drop-of-length-le}
 use lib.Seq.{drop-cons}
 use Rattle.grammar.specs.Text.{Text, b, if_then_else_, choose, starts}
+use Rattle.grammar.specs.Limits.{most-symbol-bytes}
 use Rattle.grammar.specs.Reader.{find}
-use Rattle.grammar.specs.Names.{front, high, most-symbol-bytes}
+use Rattle.grammar.specs.Names.{front, high}
 use Rattle.demangle.specs.declared.symbol.Front.the-variants.{Behind, Refused}
 use Rattle.demangle.specs.Symbols.{Fronts}
 
@@ -53,23 +54,23 @@ starts-long (x ∷ s) (y ∷ w) e = omega (arith, starts-long s w (both-true (eq
 module _ (s : Text) where
   pub front-1 : most-symbol-bytes < length s → Fronts s (Refused 1)
   unfolding front if_then_else_
-  front-1 h = record { is = λ f. rw (lt-ltb 4096 (length s) h); inside = tt }
+  front-1 h = record { is = λ f. rw (lt-ltb most-symbol-bytes (length s) h); inside = tt }
 
   module _ (h : length s ≤ most-symbol-bytes) where
     pub front-2 : high s ≡ true → Fronts s (Refused 2)
     unfolding front if_then_else_
-    front-2 g = record { is = λ f. rw (le-ltb 4096 (length s) h, g); inside = tt }
+    front-2 g = record { is = λ f. rw (le-ltb most-symbol-bytes (length s) h, g); inside = tt }
 
     module _ (g : high s ≡ false) where
       pub front-z : starts s (b "_Z") ≡ true → Fronts s (Behind 2)
       unfolding front find b choose if_then_else_
-      front-z e = record { is = λ f. rw (le-ltb 4096 (length s) h, g, e); inside = (starts-long s (b "_Z") e, h) }
+      front-z e = record { is = λ f. rw (le-ltb most-symbol-bytes (length s) h, g, e); inside = (starts-long s (b "_Z") e, h) }
 
       module _ (e : starts s (b "_Z") ≡ false) where
         pub front-zz : starts s (b "__Z") ≡ true → Fronts s (Behind 3)
         unfolding front find b choose if_then_else_
-        front-zz k = record { is = λ f. rw (le-ltb 4096 (length s) h, g, e, k); inside = (starts-long s (b "__Z") k, h) }
+        front-zz k = record { is = λ f. rw (le-ltb most-symbol-bytes (length s) h, g, e, k); inside = (starts-long s (b "__Z") k, h) }
 
         pub front-3 : starts s (b "__Z") ≡ false → Fronts s (Refused 3)
         unfolding front find b choose if_then_else_
-        front-3 k = record { is = λ f. rw (le-ltb 4096 (length s) h, g, e, k); inside = tt }
+        front-3 k = record { is = λ f. rw (le-ltb most-symbol-bytes (length s) h, g, e, k); inside = tt }

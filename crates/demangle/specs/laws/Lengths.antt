@@ -10,24 +10,25 @@ use borrow.Author.Tests.{le-leb, leb-true}
 use lib.Dec.{eqb, leb}
 use lib.ListN.{length}
 use Rattle.grammar.specs.Text.{Text, if_then_else_, choose, each}
+use Rattle.grammar.specs.Limits.{most-symbol-bytes, most-text-bytes}
 use Rattle.grammar.specs.Tables.{labels}
 use Rattle.grammar.specs.Reader.{State, Result, ok, refused, Reader, onto, refuse, give, find, by-code, start}
 use Rattle.grammar.specs.Grammar.{Production, ⟨encoding⟩, reading, encoding, function-or-data, production, ended, slot}
 use Rattle.grammar.specs.laws.Fuel.{reading-is}
-use Rattle.grammar.specs.Names.{Answer, named, refusal, without-slots, finished, mangled-name, front, demangle, most-symbol-bytes, work-fits, within, answer, length-of}
+use Rattle.grammar.specs.Names.{Answer, named, refusal, without-slots, finished, mangled-name, front, demangle, work-fits, within, answer, length-of}
 use Rattle.demangle.specs.Outcome.{Slices, lent}
 
 -- ---------------------------------------------------------------- an encoding's text
 
 data Short : Result Text → Type 0 where
-  short : {t : Text} {s : State} → length t ≤ 16384 → Short (ok t s)
+  short : {t : Text} {s : State} → length t ≤ most-text-bytes → Short (ok t s)
   none-read : {r : ℕ} → Short (refused r)
 
 give-short : (t : Text) (s : State) → Short (give t s)
 unfolding give if_then_else_
-give-short t s = go (leb (length t) 16384) refl where
-  go : (q : Bool) → leb (length t) 16384 ≡ q → Short (if_then_else_ {A = Reader Text} q (λ u. ok t u) (refuse 11) s)
-  go true e = short (leb-true (length t) 16384 e)
+give-short t s = go (leb (length t) most-text-bytes) refl where
+  go : (q : Bool) → leb (length t) most-text-bytes ≡ q → Short (if_then_else_ {A = Reader Text} q (λ u. ok t u) (refuse 11) s)
+  go true e = short (leb-true (length t) most-text-bytes e)
   go false e = none-read
 
 onto-short : {A : Type 0} (q : Result A) (f : A → Reader Text) → ((x : A) (s : State) → Short (f x s)) → Short (onto f q)
@@ -87,7 +88,7 @@ fewer (x ∷ t) = go (eqb x slot) (fewer t) where
   go false h = omega arith
 
 data Fits : Answer → Type 0 where
-  fits : {t : Text} → length t ≤ 16384 → Fits (named t)
+  fits : {t : Text} → length t ≤ most-text-bytes → Fits (named t)
   no-name : {r : ℕ} → Fits (refusal r)
 
 finished-fits : (r : Result Text) → Short r → Fits (finished r)
@@ -116,12 +117,12 @@ demangle-fits : (limit : ℕ) (t : Text) → Fits (demangle limit t)
 unfolding demangle front
 demangle-fits limit t = if-fits _ _ _ no-name (if-fits _ _ _ no-name (choose-fits _ _ _ (λ r. mangled-fits (r .1)) no-name))
 
-short-length : (a : Answer) → Fits a → length-of a ≤ 16384
+short-length : (a : Answer) → Fits a → length-of a ≤ most-text-bytes
 unfolding length-of
 short-length (named t) (fits h) = h
 short-length (refusal r) no-name = omega arith
 
-pub short-answer : (s : Text) → length-of (demangle most-symbol-bytes s) ≤ 16384
+pub short-answer : (s : Text) → length-of (demangle most-symbol-bytes s) ≤ most-text-bytes
 short-answer s = short-length (demangle most-symbol-bytes s) (demangle-fits most-symbol-bytes s)
 
 -- ---------------------------------------------------------------- the entry for names
@@ -131,7 +132,7 @@ unfolding within length-of if_then_else_
 within-is n (named t) h = rw (le-leb (length t) n h)
 within-is n (refusal r) h = refl
 
-pub answer-is : (l : Slices) (s : Text) → 16384 ≤ length (l .out) → work-fits (lent l) ≡ true → answer most-symbol-bytes (lent l) s ≡ demangle most-symbol-bytes s
+pub answer-is : (l : Slices) (s : Text) → most-text-bytes ≤ length (l .out) → work-fits (lent l) ≡ true → answer most-symbol-bytes (lent l) s ≡ demangle most-symbol-bytes s
 unfolding answer demangle if_then_else_
 answer-is l s h k = ap (front most-symbol-bytes s) (λ i u. step u i) where
   step : (u : Text) → (if work-fits (lent l) then within (length (l .out)) (mangled-name u) else refusal 14) ≡ mangled-name u

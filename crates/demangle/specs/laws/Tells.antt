@@ -16,7 +16,7 @@ use Rattle.store.specs.laws.Tails.{newest-lent}
 use Rattle.parser.specs.declared.state.Parser.{Parser}
 use Rattle.parser.specs.declared.state.Read.{Read}
 use Rattle.parser.specs.declared.state.Read.the-variants.{Text as read, Refused as unread}
-use Rattle.parser.specs.Holds.{Memory, mem}
+use Rattle.parser.specs.Holds.{Memory, mem, keep}
 use Rattle.demangle.specs.declared.entry.Answer as told
 use Rattle.demangle.specs.declared.entry.Answer.the-variants.{Name, Refused}
 use Rattle.encoding.specs.Encodings.{Prints, Encodes, encodes, refuses}
@@ -56,7 +56,7 @@ module _ (n : ℕ) (t : Text) (σ : State) where
 pub newest-length : (text : Text) (top n : ℕ) {k : ℕ} → n ≤ top → top ≤ length text → k ≡ slots-in (lent text top n) → n - k ≡ length (without-slots (lent text top n))
 newest-length text top n a b e = omega (arith, e, slotless-length (lent text top n), length-take-le (top - (top - n)) (drop (top - n) text) (simp length-drop (omega arith)))
 
-module _ {s text store ends : Text} {p : Parser} {n : ℕ} {t : Text} {σ : State} (h : Prints 33064 s [] (mem text store ends) p n t σ) where
+module _ {s text store ends : Text} {p : Parser} {n : ℕ} {t : Text} {σ : State} (h : Prints (keep 0) s [] (mem text store ends) p n t σ) where
   newest : (n ≤ p .top) × (lent text (p .top) n ≡ t)
   newest = newest-lent [] t (h .text) (h .tail) (h .size) (omega (arith, h .short))
 

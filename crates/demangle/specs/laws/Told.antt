@@ -6,7 +6,8 @@ use borrow.Author.Tests.{le-leb, leb-true}
 use lib.Dec.{leb}
 use lib.ListN.{length, drop}
 use Rattle.grammar.specs.Text.{Text, if_then_else_}
-use Rattle.grammar.specs.Names.{front, most-symbol-bytes, answer, work-fits, within, mangled-name, least-text, least-store, least-ends}
+use Rattle.grammar.specs.Limits.{most-symbol-bytes, least-text, least-store, least-ends}
+use Rattle.grammar.specs.Names.{front, answer, work-fits, within, mangled-name}
 use Rattle.grammar.specs.Names as n
 use Rattle.store.specs.Stack.{zeros}
 use Rattle.demangle.specs.declared.entry.Answer.{Answer}
@@ -47,7 +48,7 @@ module _ {s : Text} {f : Front} (h : Fronts s f) where
   front-refuses l e g = front-tells _ (l .out) e g
 
   module _ {k : ℕ} (e : f ≡ front-as.Behind k) where
-    pub front-inside : (k ≤ length s) × (length s ≤ 4096)
+    pub front-inside : (k ≤ length s) × (length s ≤ most-symbol-bytes)
     front-inside = subst (Front-inside s) e (h .inside)
 
     pub front-short : (l : Slices) → fit least-ends l ≡ false → Tells (answer most-symbol-bytes (lent l) s) (l .out) (l .out) (Refused 14)

@@ -7,6 +7,7 @@ use borrow.Author.Tests.{le-leb, lt-leb, leb-true, leb-false}
 use lib.Dec.{leb}
 use lib.ListN.{length}
 use Rattle.grammar.specs.Text.{Text, if_then_else_}
+use Rattle.grammar.specs.Limits.{most-text-bytes, most-length}
 use Rattle.grammar.specs.Reader.{State, Result, ok, refused, Reader, onto, give}
 use Rattle.store.specs.laws.Tails.{weaken}
 use Rattle.parser.specs.declared.state.Parser.{Parser}
@@ -40,9 +41,9 @@ module _ {k : ℕ} {s base : Text} {m : Memory} where
       told : {f : Result Text} → Refines j d s' base' from m' (Refused i) f → Encodes k s base m (Refused i) (onto g f)
       told holds.refuses = refuses
 
-  pub encodes-given : {p : Parser} {n : ℕ} {t : Text} {σ : State} {v : Read} → v ≡ given-of p n → n ≡ min (length t) 65536 → (length t ≤ 16384 → Prints k s base m p n t σ) → Encodes k s base m v (give t σ)
+  pub encodes-given : {p : Parser} {n : ℕ} {t : Text} {σ : State} {v : Read} → v ≡ given-of p n → n ≡ min (length t) most-length → (length t ≤ most-text-bytes → Prints k s base m p n t σ) → Encodes k s base m v (give t σ)
   unfolding given-of give if_then_else_
-  encodes-given {p} {n} {t} {σ} {v} e z h = subst (λ (x : Read). Encodes k s base m x (give t σ)) (sym e) (go (leb n 16384) refl)
+  encodes-given {p} {n} {t} {σ} {v} e z h = subst (λ (x : Read). Encodes k s base m x (give t σ)) (sym e) (go (leb n most-text-bytes) refl)
     where
       given : Bool → Read
       given q = if q then read p n else Refused 11
@@ -50,13 +51,13 @@ module _ {k : ℕ} {s base : Text} {m : Memory} where
       told : Bool → State → Result Text
       told q = if q then (λ u. ok t u) else (λ u. refused 11)
 
-      go : (q : Bool) → leb n 16384 ≡ q → Encodes k s base m (given q) (told (leb (length t) 16384) σ)
+      go : (q : Bool) → leb n most-text-bytes ≡ q → Encodes k s base m (given q) (told (leb (length t) most-text-bytes) σ)
       go true f =
-          let l : length t ≤ 16384 = omega (arith, leb-true n 16384 f) in
-          encodes-by (ap (λ (q : Bool). told q σ) (le-leb (length t) 16384 l)) (encodes (h l))
+          let l : length t ≤ most-text-bytes = omega (arith, leb-true n most-text-bytes f) in
+          encodes-by (ap (λ (q : Bool). told q σ) (le-leb (length t) most-text-bytes l)) (encodes (h l))
       go false f =
-          let l : 16384 < length t = omega (arith, leb-false n 16384 f) in
-          encodes-by (ap (λ (q : Bool). told q σ) (lt-leb (length t) 16384 l)) refuses
+          let l : most-text-bytes < length t = omega (arith, leb-false n most-text-bytes f) in
+          encodes-by (ap (λ (q : Bool). told q σ) (lt-leb (length t) most-text-bytes l)) refuses
 
 module _ {k : ℕ} {s base : Text} {m : Memory} where
   pub refusal : {j : ℕ} {f : Result Text} → Encodes k s base m (Refused j) f → f ≡ refused j

@@ -9,6 +9,7 @@ use lib.Dec.{eqb, leb}
 use lib.ListN.{length, take, drop, length-append, length-drop}
 use lib.Seq.{drop-drop, length-take-le}
 use Rattle.grammar.specs.Text.{Text, b, starts}
+use Rattle.grammar.specs.Limits.{most-entries, most-text-bytes, most-entry-bytes, most-length, kept-bytes}
 use Rattle.grammar.specs.Reader.{Result, ok, refused, onto, give, start}
 use Rattle.grammar.specs.Grammar.{reading, ⟨encoding⟩}
 use Rattle.store.specs.Stack.{Stack, Tail}
@@ -37,8 +38,8 @@ module _ {m : Memory} (h : Least m) where
   least-subs : Entries [] (low-bytes (m .store)) (low-ends (m .ends)) 0 0
   unfolding low-bytes low-ends
   least-subs = no-entries (record {
-    store-size = length-take-le 32768 (m .store) (omega (arith, h .store));
-    ends-size = length-take-le 1024 (m .ends) (omega (arith, h .ends));
+    store-size = length-take-le most-entry-bytes (m .store) (omega (arith, h .store));
+    ends-size = length-take-le most-entries (m .ends) (omega (arith, h .ends));
   })
 
   least-args : Entries [] (high-bytes (m .store)) (high-ends (m .ends)) 0 0
@@ -51,14 +52,14 @@ module _ {m : Memory} (h : Least m) where
 after-both : (w x : Text) (r : Result Text) → onto (after w) (onto (after x) r) ≡ onto (after (w ++ x)) r
 unfolding onto
 after-both w x (refused r) = refl
-after-both w x (ok t σ) = go (leb (length (x ++ t)) 16384) refl
+after-both w x (ok t σ) = go (leb (length (x ++ t)) most-text-bytes) refl
   where
-    go : (q : Bool) → leb (length (x ++ t)) 16384 ≡ q → onto (after w) (give (x ++ t) (start [])) ≡ give ((w ++ x) ++ t) (start [])
+    go : (q : Bool) → leb (length (x ++ t)) most-text-bytes ≡ q → onto (after w) (give (x ++ t) (start [])) ≡ give ((w ++ x) ++ t) (start [])
     go true e =
-        ap (onto (after w)) (give-short (x ++ t) (start []) (leb-true (length (x ++ t)) 16384 e))
+        ap (onto (after w)) (give-short (x ++ t) (start []) (leb-true (length (x ++ t)) most-text-bytes e))
         ∙ ap (λ (u : Text). give u (start [])) (sym (append-assoc w x t))
     go false e =
-        let l : 16384 < length (x ++ t) = leb-false (length (x ++ t)) 16384 e in
+        let l : most-text-bytes < length (x ++ t) = leb-false (length (x ++ t)) most-text-bytes e in
         ap (onto (after w)) (give-long (x ++ t) (start []) l)
         ∙ sym (give-long ((w ++ x) ++ t) (start []) (omega (arith, ap length (append-assoc w x t), length-append w (x ++ t))))
 
@@ -68,7 +69,7 @@ after-both w x (ok t σ) = go (leb (length (x ++ t)) 16384) refl
 pub record Clones (s text₀ text : Text) (p₀ p : Parser) (n at : ℕ) : Type 0 where
   pub words : Text
   pub place : at ≤ length s
-  pub size-is : n ≡ min (length words) 65536
+  pub size-is : n ≡ min (length words) most-length
   pub adds : Adds text₀ text p₀ p words
   pub none : at ≡ 0 → words ≡ []
   pub is : (at ≡ 0 → ⊥) → reading ⟨encoding⟩ (start s) ≡ onto (after words) (reading ⟨encoding⟩ (start (drop at s)))
@@ -99,7 +100,7 @@ module _ {s text₀ text : Text} {p₀ p : Parser} {n at : ℕ} (c : Clones s te
             ∙ ap (λ (w : Text). onto (after (w ++ clone)) (reading ⟨encoding⟩ (start (drop (at + 3) s)))) (sym (c .none z))
         go false f = c .is (eqb-false at 0 f) ∙ ap (onto (after (c .words))) next-is ∙ after-both (c .words) clone (reading ⟨encoding⟩ (start (drop (at + 3) s)))
 
-    pub clones-more : {text' : Text} {p' : Parser} {n' : ℕ} → Puts text text' p p' clone → n' ≡ min (n + 22) 65536 → Clones s text₀ text' p₀ p' n' (at + 3)
+    pub clones-more : {text' : Text} {p' : Parser} {n' : ℕ} → Puts text text' p p' clone → n' ≡ min (n + 22) most-length → Clones s text₀ text' p₀ p' n' (at + 3)
     clones-more u z = record {
       words = c .words ++ clone;
       place = clone-fits;
@@ -118,8 +119,8 @@ module _ {s text₀ text : Text} {p₀ p : Parser} {n at : ℕ} (c : Clones s te
       args = least-args h;
     }
 
-    clones-tail : Tail 34816 (take (p .top) text) ([] ++ c .words)
-    clones-tail = subst (λ (q : Parser). Tail 34816 (take (p .top) text) (take (q .top) text₀ ++ c .words)) z (c .adds .tail)
+    clones-tail : Tail kept-bytes (take (p .top) text) ([] ++ c .words)
+    clones-tail = subst (λ (q : Parser). Tail kept-bytes (take (p .top) text) (take (q .top) text₀ ++ c .words)) z (c .adds .tail)
 
     no-clones : at ≡ 0 → take (p .top) text ≡ []
     no-clones e = clones-tail .is ∙ ap (drop (clones-tail .lost)) (c .none e) ∙ rest-none [] (clones-tail .lost) (omega arith)
@@ -150,7 +151,7 @@ module _ {s text₀ text : Text} {p₀ p : Parser} {n at : ℕ} (c : Clones s te
       pub clones-got : {next : Parser} {j : ℕ} → r ≡ read next j → Answered (keep 0) part (take (p .top) text) m next j (reading ⟨encoding⟩ (start part))
       clones-got e = answered (subst (λ (v : Read). Encodes (keep 0) part (take (p .top) text) m v (reading ⟨encoding⟩ (start part))) e f)
 
-      pub clones-given : {next end : Parser} {j k : ℕ} {v : Read} → (at ≡ 0 → ⊥) → r ≡ read next j → end ≡ moved-to next (length s) → k ≡ min (n + j) 65536 → v ≡ given-of end k → Encodes (keep 0) s [] m v (reading ⟨encoding⟩ (start s))
+      pub clones-given : {next end : Parser} {j k : ℕ} {v : Read} → (at ≡ 0 → ⊥) → r ≡ read next j → end ≡ moved-to next (length s) → k ≡ min (n + j) most-length → v ≡ given-of end k → Encodes (keep 0) s [] m v (reading ⟨encoding⟩ (start s))
       unfolding onto
       clones-given {next} {end} {j} {k} {v} h e y x g =
           let a = clones-got e in

@@ -26,6 +26,7 @@ use Rattle.grammar.specs.laws.Places.{rest-none}
 use Rattle.parser.specs.Holds.{mem, part, Refines, Puts, given-of}
 use Rattle.parser.specs.laws.Holds.{given-refines}
 use Rattle.grammar.specs.laws.Text.{same-not}
+use Rattle.grammar.specs.Limits.{most-length}
 use Rattle.parser.specs.Adds.{Adds}
 use Rattle.parser.specs.laws.Adds.{adds-none, adds-more, stands-more}
 use Rattle.parser.specs.laws.Wraps.{newest-text, picked-at, picked-none}
@@ -109,10 +110,10 @@ qualified-more s from at l h =
 pub record Qualifying (s text₀ text : Text) (p next : Parser) (n from to size at : ℕ) : Type 0 where
   pub low : from ≤ at
   pub high : at ≤ to
-  pub size-is : size ≡ min (n + length (qualified-by s from at)) 65536
+  pub size-is : size ≡ min (n + length (qualified-by s from at)) most-length
   pub adds : Adds text₀ text p next (qualified-by s from at)
 
-pub qualifying-start : {text : Text} {p : Parser} (s : Text) {n from to : ℕ} → Stack text (p .top) → n ≤ 65536 → from ≤ to → Qualifying s text text p p n from to n from
+pub qualifying-start : {text : Text} {p : Parser} (s : Text) {n from to : ℕ} → Stack text (p .top) → n ≤ most-length → from ≤ to → Qualifying s text text p p n from to n from
 qualifying-start {text} {p} s {n} {from} {to} c l h =
     let e = qualified-none s from in
     record { low = omega arith; high = h; size-is = omega (arith, ap length e); adds = rw e (adds-none c) }
@@ -120,7 +121,7 @@ qualifying-start {text} {p} s {n} {from} {to} c l h =
 module _ {s text₀ text : Text} {p next : Parser} {n from to size at : ℕ} (i : Qualifying s text₀ text p next n from to size at) where
   module _ (l : at < to) (h : to ≤ length s) {r : Picked} (g : Picks qualifiers (getD s at 0 ∷ []) r) where
     pub qualifying-word : {w : Word} {text' : Text} {next' : Parser} {size' : ℕ} → r ≡ At w → length (spelled w) ≡ w .to - w .from
-        → Puts text text' next next' (spelled w) → size' ≡ min (size + (w .to - w .from)) 65536 → Qualifying s text₀ text' p next' n from to size' (at + 1)
+        → Puts text text' next next' (spelled w) → size' ≡ min (size + (w .to - w .from)) most-length → Qualifying s text₀ text' p next' n from to size' (at + 1)
     unfolding qualifier choose
     qualifying-word {w} e z u j =
         let f : qualifier (getD s at 0) ≡ spelled w = ap (λ (o : Option Text). choose o (λ x. x) []) (picked-at g e .0) in
@@ -143,5 +144,5 @@ module _ {s text₀ text : Text} {p next : Parser} {n from to size at : ℕ} (i 
   qualifying-done {r} l e k d base fr store ends t σ h =
       let x : at ≡ to = omega (arith, i .high) in
       let a : Adds text₀ text p next (qualified-by s from to) = rw x at (i .adds) in
-      let z : min (length (t ++ qualified-by s from to)) 65536 ≡ size = omega (arith, i .size-is, h .size, length-append t (qualified-by s from to), ap (λ (j : ℕ). length (qualified-by s from j)) x) in
+      let z : min (length (t ++ qualified-by s from to)) most-length ≡ size = omega (arith, i .size-is, h .size, length-append t (qualified-by s from to), ap (λ (j : ℕ). length (qualified-by s from j)) x) in
       subst (λ (v : Read). Refines k d s base fr (mem text store ends) v (give (t ++ qualified-by s from to) σ)) (ap (given-of next) z ∙ sym e) (given-refines (stands-more a h))

@@ -10,6 +10,7 @@ use Rattle.grammar.specs.Text.{Text, b, if_then_else_, same, join}
 use Rattle.grammar.specs.Reader.{State, Result, ok, Reader, onto, give, while, one-more}
 use Rattle.grammar.specs.Grammar.{reading, ⟨type⟩, ended, only-void, bare-function-type}
 use Rattle.grammar.specs.laws.Text.{both, same→eq}
+use Rattle.grammar.specs.Limits.{most-text-bytes, most-entry-bytes, most-length}
 use Rattle.store.specs.Stack.{Tail, Cut}
 use Rattle.store.specs.laws.Tails.{dropped, size, top-size}
 use Rattle.parser.specs.declared.state.Parser.{Parser}
@@ -83,7 +84,7 @@ module _ {s text text₁ text₂ store ends store₂ ends₂ : Text} {p o : Pars
     pub list : Counted (keep (o .depth + 1)) (o .depth) s (window (mem text₁ store ends) o) (o .at) (mem text₂ store₂ ends₂) last m count (parameters σ)
     list = counted i (f σ (holds-puts u h))
 
-    pub list-least : min m 32768 ≤ last .top
+    pub list-least : min m most-entry-bytes ≤ last .top
     list-least = stands-least (list .stands)
 
     pub list-void : {q : Bool} → LoneVoid s text₂ last m count q → q ≡ (only-void (list .said) && same (list .state .rest) [])
@@ -122,7 +123,7 @@ module _ {s text text₁ text₂ store ends store₂ ends₂ : Text} {p o : Pars
       opened : Stands (keep (p .depth + 1)) (p .depth) s base at (mem text₁ store ends) o (n + 1) (t ++ b "(") σ
       opened = stands-puts h u (omega (arith, h .size, one-more-byte t))
 
-      whole : Stands (keep (p .depth + 1)) (p .depth) s base at (mem text₂ store₂ ends₂) last (min (n + 1 + m) 65536) ((t ++ b "(") ++ words) (found .state)
+      whole : Stands (keep (p .depth + 1)) (p .depth) s base at (mem text₂ store₂ ends₂) last (min (n + 1 + m) most-length) ((t ++ b "(") ++ words) (found .state)
       whole = stands-joined opened (found .stands) (omega (arith, ap (λ (x : Parser). x .depth) (u .same))) (omega (arith, opened .more))
 
       -- a void alone is removed again
@@ -157,15 +158,15 @@ module _ {s text text₁ text₂ store ends store₂ ends₂ : Text} {p o : Pars
         void-given y g = by void-is (g _ _ _ _ _ _ _ _ (stands-puts bare-stands y (omega (arith, opened .size, closing-byte (t ++ b "(")))))
 
       module _ (x : LoneVoid s text₂ last m count false) where
-        pub list-long : {m' : Memory} → 16384 < m → Opened m' (Refused 11)
+        pub list-long : {m' : Memory} → most-text-bytes < m → Opened m' (Refused 11)
         unfolding onto if_then_else_
         list-long y = by (shown-is x ∙ ap (onto closing) (give-long words (found .state) (omega (arith, found .stands .size)))) refuses
 
-        list-is : m ≤ 16384 → with-parameters t (qualified-by s from to) σ ≡ give ((((t ++ b "(") ++ words) ++ b ")") ++ qualified-by s from to) (found .state)
+        list-is : m ≤ most-text-bytes → with-parameters t (qualified-by s from to) σ ≡ give ((((t ++ b "(") ++ words) ++ b ")") ++ qualified-by s from to) (found .state)
         unfolding onto if_then_else_
         list-is y = shown-is x ∙ ap (onto closing) (give-short words (found .state) (omega (arith, found .stands .size)))
 
-        pub list-given : {text₃ text₄ : Text} {close : Parser} {v : Read} → m ≤ 16384 → Puts text₂ text₃ last close (b ")") → Qualifies s text₃ text₄ close (n + m + 2) from to v → Opened (mem text₄ store₂ ends₂) v
+        pub list-given : {text₃ text₄ : Text} {close : Parser} {v : Read} → m ≤ most-text-bytes → Puts text₂ text₃ last close (b ")") → Qualifies s text₃ text₄ close (n + m + 2) from to v → Opened (mem text₄ store₂ ends₂) v
         list-given y w g =
             by (list-is y) (less (omega arith) (g _ _ _ _ _ _ _ _ (stands-puts whole w (omega (arith, whole .size, closing-byte ((t ++ b "(") ++ words))))))
 
@@ -189,10 +190,10 @@ module _ {s text store ends text₁ store₁ ends₁ : Text} {p : Parser} {r : R
     pub returned : Got (keep (p .depth + 1)) (p .depth) s (window (mem text store ends) p) (p .at + 1) (mem text₁ store₁ ends₁) last m (reading ⟨type⟩ σ)
     returned = got e (f σ h)
 
-    pub returned-short : m ≤ 16384
+    pub returned-short : m ≤ most-text-bytes
     returned-short = omega (arith, returned .wrote .size, returned .wrote .short)
 
-    pub returned-room : (n : ℕ) → n ≤ p .top → n ≤ 16384 → n + m ≤ last .top
+    pub returned-room : (n : ℕ) → n ≤ p .top → n ≤ most-text-bytes → n + m ≤ last .top
     returned-room n i j =
         let w = returned .wrote in
         omega (arith, w .size, w .short, w .tail .most, size (w .tail), top-size (w .holds .text), top-size (h .text), length-append (window (mem text store ends) p) (returned .said))
@@ -202,13 +203,13 @@ module _ {s text store ends text₁ store₁ ends₁ : Text} {p : Parser} {r : R
     type-refused e = refused-on (λ x. with-parameters (x ++ b " " ++ t) (qualified-by s from to)) e (f σ (h .holds))
 
     pub type-returned :
-        {last turned : Parser} {m : ℕ} {text₂ : Text} {m' : Memory} {v : Read} → n ≤ 16384 → r ≡ read last m → Turns text₁ text₂ last n m turned →
+        {last turned : Parser} {m : ℕ} {text₂ : Text} {m' : Memory} {v : Read} → n ≤ most-text-bytes → r ≡ read last m → Turns text₁ text₂ last n m turned →
         GoesOn with-parameters s (mem text₂ store₁ ends₁) m' turned (m + 1 + n) from to v → Refines (keep (p .depth)) (p .depth) s base at m' v (with-returned t (qualified-by s from to) σ)
     unfolding onto
     type-returned {last} {turned} {m} {text₂} {m'} {v} l e q g =
         let y = returned (h .holds) e in
         let w = y .wrote in
         let a = stands-joined {to = at} h (stands w (omega arith) (omega (arith, h .most))) (omega arith) (omega (arith, h .more)) in
-        let z : min (n + m) 65536 ≡ n + m = omega (arith, w .size, w .short) in
+        let z : min (n + m) most-length ≡ n + m = omega (arith, w .size, w .short) in
         let o = q _ _ _ _ _ _ _ t (y .said) (y .state) (omega (arith, h .size)) (sym (w .size)) (subst (λ (i : ℕ). Stands (keep (p .depth + 1)) (p .depth) s base at (mem text₁ store₁ ends₁) last i (t ++ y .said) (y .state)) z a) in
         by (ap (onto (λ x. with-parameters (x ++ b " " ++ t) (qualified-by s from to))) (y .is)) (goes-on-at with-parameters from to g o)

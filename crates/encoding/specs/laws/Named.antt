@@ -6,6 +6,7 @@ use Prim.Native.Nat.{ℕ, _+_, _≤_}
 use native.Mathlib.Omega.{arith}
 use lib.ListN.{take, drop}
 use Rattle.grammar.specs.Text.{Text, b, if_then_else_, each}
+use Rattle.grammar.specs.Limits.{most-text-bytes}
 use Rattle.grammar.specs.Reader.{State, Result, ok, refused, Reader, onto, give, set-cv}
 use Rattle.grammar.specs.Grammar.{reading, ⟨name⟩, ⟨type⟩, ended, bare-function-type, function-or-data}
 use Rattle.store.specs.Stack.{Tail}
@@ -70,7 +71,7 @@ module _ {s text store ends text₁ store₁ ends₁ : Text} {p : Parser} {r : R
       unfolding each
       name-holds = by-state z (holds-cv (name-got .wrote .holds) 0 0 (omega arith) (omega arith))
 
-      pub name-fits : (n ≤ next .top) × (n ≤ 16384)
+      pub name-fits : (n ≤ next .top) × (n ≤ most-text-bytes)
       name-fits =
           let y = wrote-fits (name-got .wrote) (omega arith) in
           (omega (arith, y .0, ap (λ (x : Parser). x .top) z), y .1)

@@ -6,6 +6,7 @@ use Prim.Native.Nat.{ℕ, _+_, _-_, _≤_, min}
 use native.Mathlib.Omega.{arith}
 use lib.ListN.{length, take, drop, length-append, length-drop}
 use Rattle.grammar.specs.Text.{Text, b, starts, each}
+use Rattle.grammar.specs.Limits.{most-text-bytes, most-length, kept-bytes}
 use Rattle.grammar.specs.Reader.{onto, give, start}
 use Rattle.grammar.specs.Grammar.{reading, ⟨encoding⟩, ⟨name⟩, ⟨type⟩, function-or-data}
 use Rattle.grammar.specs.laws.Agree.{moved}
@@ -29,7 +30,7 @@ use Rattle.encoding.specs.laws.Labels.{after, guard, guard-read, labelle
 
 -- ---------------------------------------------------------------- the empty state
 
-pub fresh-holds : {s : Text} {m : Memory} {p : Parser} → length s ≤ 16384 → Fresh m p → Holds s m p (start s)
+pub fresh-holds : {s : Text} {m : Memory} {p : Parser} → length s ≤ most-text-bytes → Fresh m p → Holds s m p (start s)
 unfolding start each
 fresh-holds l h = by-state (h .same) (record {
   source = l;
@@ -53,8 +54,8 @@ fresh-puts {p' = p'} u h = record { same = u .same ∙ ap (λ (q : Parser). rais
 -- a text that was read anew behind w, at the end of the symbol
 pub prefixed :
     {k : ℕ} {s base base' : Text} (w t : Text) {m : Memory} (next : Parser) {end : Parser} {n : ℕ} {v : Read} →
-    k ≤ 34816 → Stack (m .text) (next .top) → Tail 34816 base' (base ++ w) → Tail k (window m next) (base' ++ t) →
-    end ≡ moved-to next (length s) → n ≡ min (length (w ++ t)) 65536 → v ≡ given-of end n → Encodes k s base m v (give (w ++ t) (start []))
+    k ≤ kept-bytes → Stack (m .text) (next .top) → Tail kept-bytes base' (base ++ w) → Tail k (window m next) (base' ++ t) →
+    end ≡ moved-to next (length s) → n ≡ min (length (w ++ t)) most-length → v ≡ given-of end n → Encodes k s base m v (give (w ++ t) (start []))
 unfolding start
 prefixed {k} {s} {base} {base'} w t {m} next {end} {n} {v} l c h g z e f =
     encodes-given (f ∙ ap (λ (q : Parser). given-of q n) z) e (λ i. record {
@@ -68,7 +69,7 @@ prefixed {k} {s} {base} {base'} w t {m} next {end} {n} {v} l c h g z e f =
 
 -- ---------------------------------------------------------------- GV
 
-module _ (s : Text) {part text store ends text₁ : Text} {p o : Parser} (l : length s ≤ 16384) (e : starts s (71 ∷ 86 ∷ []) ≡ true) (i : part ≡ drop 2 s) (h : Fresh (mem text store ends) p)
+module _ (s : Text) {part text store ends text₁ : Text} {p o : Parser} (l : length s ≤ most-text-bytes) (e : starts s (71 ∷ 86 ∷ []) ≡ true) (i : part ≡ drop 2 s) (h : Fresh (mem text store ends) p)
     (u : Puts text text₁ p o guard) where
   pub guard-holds : Holds part (mem text₁ store ends) o (start part)
   guard-holds = fresh-holds (omega (arith, ap length i, length-drop 2 s)) (fresh-puts u h)
@@ -89,11 +90,12 @@ module _ (s : Text) {part text store ends text₁ : Text} {p o : Parser} (l : le
         let g = guard-got x in
         let w = g .wrote in
         encodes-by (guard-is ∙ ap (onto (after guard)) (g .is))
-        (prefixed guard (g .said) next (omega arith) (w .holds .text) (put-tail guard (h .text) (omega arith) (u .put) (whole 34816 (take (p .top) text))) (weaken (omega arith) (w .tail)) z (omega (arith, w .size, w .short, length-append guard (g .said))) y)
+        (prefixed guard (g .said) next (omega arith) (w .holds .text) (put-tail guard (h .text) (omega arith) (u .put) (whole kept-bytes (take (p .top) text))) (weaken (omega arith) (w .tail)) z (omega (arith, w .size, w .short, length-append guard (g .said))) y)
 
 -- ---------------------------------------------------------------- labels
 
-module _ {s text store ends text₁ : Text} {p q o : Parser} {x : Picked} {w : Word} (l : length s ≤ 16384) (h : Fresh (mem text store ends) p) (k : Labels s x) (e : x ≡ At w) (z : q ≡ moved-to p 2)
+module _ {s text store ends text₁ : Text} {p q o : Parser} {x : Picked} {w : Word} (l : length s ≤ most-text-bytes) (h : Fresh (mem text store ends) p) (k : Labels s x) (e : x ≡ At w)
+    (z : q ≡ moved-to p 2)
     (u : Puts text text₁ q o (spelled w)) where
   pub label-holds : Holds s (mem text₁ store ends) o (moved (drop 2 s) (start s))
   label-holds = holds-puts u (by-state z (holds-moved (fresh-holds l h) 2 (k .long w e)))
@@ -115,7 +117,7 @@ module _ {s text store ends text₁ : Text} {p q o : Parser} {x : Picked} {w : W
           place = a .holds .place;
           rest = a .holds .rest;
           text = a .holds .text;
-          tail = both (take (p .top) text) (spelled w) (g .said) (weaken (omega arith) (put-tail (spelled w) (h .text) (omega arith) (puts-from z u .put) (whole 34816 (take (p .top) text)))) (weaken (omega arith) (a .tail));
+          tail = both (take (p .top) text) (spelled w) (g .said) (weaken (omega arith) (put-tail (spelled w) (h .text) (omega arith) (puts-from z u .put) (whole kept-bytes (take (p .top) text)))) (weaken (omega arith) (a .tail));
           size = omega (arith, a .size, length-append (spelled w) (g .said));
           short = d;
         }))
@@ -123,7 +125,7 @@ module _ {s text store ends text₁ : Text} {p q o : Parser} {x : Picked} {w : W
 -- ---------------------------------------------------------------- other names
 
 pub other-read :
-    {s : Text} {m m' : Memory} {p : Parser} {x : Picked} {r : Read} → length s ≤ 16384 → Fresh m p → Labels s x → x ≡ Nothing →
+    {s : Text} {m m' : Memory} {p : Parser} {x : Picked} {r : Read} → length s ≤ most-text-bytes → Fresh m p → Labels s x → x ≡ Nothing →
     starts s (71 ∷ 84 ∷ 116 ∷ []) ≡ false → starts s (71 ∷ 86 ∷ []) ≡ false → Reads (function-or-data reading) (keep (p .depth)) (p .at + 1) s m m' p r →
     Encodes (keep 0) s (window m p) m' r (reading ⟨encoding⟩ (start s))
 other-read {s} l h k e g v f = encodes-by (unlabelled-is k e g v) (encodes-refines (omega arith) (f (start s) (fresh-holds l h)))

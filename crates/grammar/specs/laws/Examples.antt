@@ -12,8 +12,9 @@ use Rattle.grammar.specs.Grammar as g
 use Rattle.grammar.specs.Names as n
 use Rattle.grammar.specs.laws.Text.{both, same→eq}
 use Rattle.grammar.specs.Text.{Text, b, same}
+use Rattle.grammar.specs.Limits.{most-symbol-bytes}
 use Rattle.grammar.specs.Tables.{Row, _⇒_}
-use Rattle.grammar.specs.Names.{Answer, named, refusal, demangle, most-symbol-bytes}
+use Rattle.grammar.specs.Names.{Answer, named, refusal, demangle}
 
 -- what is asked of a symbol, and the answer
 abbrev pub Case : Type 0

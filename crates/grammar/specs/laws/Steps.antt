@@ -16,6 +16,7 @@ use Rattle.grammar.specs.Grammar.{⟨source-name⟩, ⟨template-param�
 use Rattle.grammar.specs.Grammar as g
 use Rattle.grammar.specs.laws.Agree.{moved, coded, all-coded}
 use Rattle.grammar.specs.laws.Text.{both, neither}
+use Rattle.grammar.specs.Limits.{most-open}
 use Rattle.grammar.specs.laws.Fuel.{reading-is}
 use Rattle.grammar.specs.laws.Finds.{all-of, by-word}
 
@@ -26,13 +27,13 @@ at-level n σ = record { rest = σ .rest; subs = σ .subs; args = σ .args; dept
 -- ---------------------------------------------------------------- readings that are open
 
 module _ (m : Reader Text) (σ : State) where
-  pub entered-in : σ .depth < 96 → entered m σ ≡ onto (λ t u. ok t (at-level (σ .depth) u)) (m (at-level (σ .depth + 1) σ))
+  pub entered-in : σ .depth < most-open → entered m σ ≡ onto (λ t u. ok t (at-level (σ .depth) u)) (m (at-level (σ .depth + 1) σ))
   unfolding entered onto set-depth if_then_else_
-  entered-in h = rw (lt-ltb (σ .depth) 96 h)
+  entered-in h = rw (lt-ltb (σ .depth) most-open h)
 
-  pub entered-8 : 96 ≤ σ .depth → entered m σ ≡ refused 8
+  pub entered-8 : most-open ≤ σ .depth → entered m σ ≡ refused 8
   unfolding entered onto if_then_else_
-  entered-8 h = rw (le-ltb (σ .depth) 96 h)
+  entered-8 h = rw (le-ltb (σ .depth) most-open h)
 
 -- ---------------------------------------------------------------- words and codes
 

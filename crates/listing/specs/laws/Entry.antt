@@ -6,12 +6,12 @@ use borrow.Author.Tests.{le-leb, lt-leb, leb-true}
 use lib.Dec.{leb}
 use lib.ListN.{length}
 use Rattle.grammar.specs.Text.{Text, if_then_else_}
+use Rattle.grammar.specs.Limits.{least-text, least-store}
 use Rattle.store.specs.Stack.{zeros}
 use Rattle.demangle.specs.Outcome.{Slices, fit}
 use Rattle.demangle.specs.laws.Told.{fit-long}
-use Rattle.grammar.specs.Names.{least-text, least-store}
 use Rattle.demangle.specs.laws.Fronts.{both-true}
-use Rattle.listing.specs.Listing.{lines, fitting, bytes-taken, listing, least-ends-of, sized, work-sized, lists, listed, Lists}
+use Rattle.listing.specs.Listing.{lines, fitting, bytes-taken, listing, least-ends-of, sized, work-sized, lists, listed, Lists, least-name}
 use Rattle.listing.specs.Kinds.{LongFor}
 use Rattle.listing.specs.Lines.{Goes}
 use Rattle.listing.specs.declared.listing.Kind.{Kind}
@@ -21,21 +21,21 @@ use Rattle.listing.specs.Entry.{taken-lines}
 -- ---------------------------------------------------------------- the lengths
 
 module _ (kind : Kind) (name text store ends : ℕ) where
-  pub short-name : name < 16384 → false ≡ sized kind name text store ends
+  pub short-name : name < least-name → false ≡ sized kind name text store ends
   unfolding sized
-  short-name h = rw (lt-leb 16384 name h)
+  short-name h = rw (lt-leb least-name name h)
 
-  pub long-name : 16384 ≤ name → {q : Bool} → q ≡ (leb least-text text && leb least-store store && leb (least-ends-of kind) ends) → q ≡ sized kind name text store ends
+  pub long-name : least-name ≤ name → {q : Bool} → q ≡ (leb least-text text && leb least-store store && leb (least-ends-of kind) ends) → q ≡ sized kind name text store ends
   unfolding sized
-  long-name h e = rw (le-leb 16384 name h) e
+  long-name h e = rw (le-leb least-name name h) e
 
 -- by a test of the lengths
 module _ (kind : Kind) (work : Slices) {q : Bool} (e : q ≡ sized kind (length (work .out)) (length (work .text)) (length (work .store)) (length (work .ends))) where
   pub least-lengths : q ≡ true → LongFor kind work
   unfolding sized
   least-lengths f =
-      let (x, i) = both-true (leb 16384 (length (work .out))) (fit (least-ends-of kind) work) (sym e ∙ f) in
-      record { name = leb-true 16384 (length (work .out)) x; work = fit-long (least-ends-of kind) work i }
+      let (x, i) = both-true (leb least-name (length (work .out))) (fit (least-ends-of kind) work) (sym e ∙ f) in
+      record { name = leb-true least-name (length (work .out)) x; work = fit-long (least-ends-of kind) work i }
 
   pub goes-none : (input out : Text) → q ≡ false → Goes kind out out (taken-lines kind input out work) (record { taken = 0; written = 0 })
   unfolding work-sized bytes-taken listing if_then_else_

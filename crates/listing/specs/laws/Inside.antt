@@ -8,6 +8,7 @@ use borrow.Author.Tests.{leb-true, le-leb}
 use lib.Dec.{eqb, leb, ltb}
 use lib.ListN.{length, length-append}
 use Rattle.grammar.specs.Text.{Text, if_then_else_, decimal}
+use Rattle.grammar.specs.Limits.{most-text-bytes}
 use Rattle.grammar.specs.Names.{Answer, number-of, length-of}
 use Rattle.demangle.specs.Outcome.{Slices}
 use Rattle.listing.specs.Listing.{Outcome, answer-of, line-for, listing-line, in-front, lines, bytes-taken, listing, fitting, work-sized, lists, listed}
@@ -73,10 +74,11 @@ decimal-size (suc k) n = go (ltb n 10) (decimal-size k (n / 10)) where
   go true h = omega arith
   go false h = omega (arith, length-append (decimal k (n / 10)) ((48 + n % 10) ∷ []))
 
+-- two numbers of five digits with their commas, and the line feed
 abbrev pub most-line-bytes : ℕ
-most-line-bytes = 16397
+most-line-bytes = most-text-bytes + 13
 
-answer-fits : (a : Answer) → length-of a ≤ 16384 → length (line-for a) ≤ 16397
+answer-fits : (a : Answer) → length-of a ≤ most-text-bytes → length (line-for a) ≤ most-line-bytes
 unfolding line-for line head
 answer-fits a h =
     let n = decimal 5 (number-of a) in
@@ -86,7 +88,7 @@ answer-fits a h =
     let g = length-append (name-of a) (line-feed ∷ []) in
     omega (arith, length-append (head (number-of a) (length-of a)) (name-of a ++ (line-feed ∷ [])), e, f, g, name-length a, decimal-size 5 (number-of a), decimal-size 5 (length-of a))
 
-pub line-fits : (kind : Kind) (s : Text) → length (listing-line kind s) ≤ 16397
+pub line-fits : (kind : Kind) (s : Text) → length (listing-line kind s) ≤ most-line-bytes
 unfolding listing-line
 line-fits kind s = answer-fits (answer-of kind s) (short-answer-of kind s)
 
@@ -96,7 +98,7 @@ some-taken kind room s ss h = rw (le-leb (length (listing-line kind s)) room h) 
 
 -- with an output slice of so many bytes, a line that is complete is taken
 pub lists-some-line : (kind : Kind) (input out out' : Text) (work work' : Slices) (r : Listed) → Lists kind input out out' work work' r
-    → work-sized kind work ≡ true → 16397 ≤ length out → 1 ≤ length (lines input) → 1 ≤ r .taken
+    → work-sized kind work ≡ true → most-line-bytes ≤ length out → 1 ≤ length (lines input) → 1 ≤ r .taken
 unfolding listed lists if_then_else_
 lists-some-line kind input out out' work work' r e q h k =
     let f : r .taken ≡ bytes-taken (fitting kind (length out) (lines input)) =

@@ -8,7 +8,8 @@ use borrow.Author.Tests.{lt-ltb, leb-true}
 use lib.Dec.{leb}
 use lib.ListN.{length}
 use Rattle.grammar.specs.Text.{Text, if_then_else_}
-use Rattle.grammar.specs.Names.{Answer, named, refusal, mangled-name, front, demangle, most-symbol-bytes, work-fits, within, answer, length-of}
+use Rattle.grammar.specs.Limits.{most-symbol-bytes, most-text-bytes}
+use Rattle.grammar.specs.Names.{Answer, named, refusal, mangled-name, front, demangle, work-fits, within, answer, length-of}
 use Rattle.catalogue.specs.Recogniser.{classify}
 use Rattle.catalogue.specs.Answer.{normal-in, normal-told, normal-after, normal-symbol, normal-work-fits, normal-answer}
 use Rattle.demangle.specs.laws.Lengths.{short-answer, within-is, answer-is}
@@ -25,20 +26,20 @@ use Rattle.listing.specs.Kinds.{LongFor}
 
 -- ---------------------------------------------------------------- a normal symbol
 
-told-short : (w : Option Text) → length-of (normal-told w) ≤ 4096
+told-short : (w : Option Text) → length-of (normal-told w) ≤ most-symbol-bytes
 unfolding normal-told length-of if_then_else_
 told-short none = omega arith
-told-short (some t) = go (leb (length t) 4096) refl where
-  go : (q : Bool) → leb (length t) 4096 ≡ q → length-of (if q then named t else refusal 13) ≤ 4096
-  go true e = leb-true (length t) 4096 e
+told-short (some t) = go (leb (length t) most-symbol-bytes) refl where
+  go : (q : Bool) → leb (length t) most-symbol-bytes ≡ q → length-of (if q then named t else refusal 13) ≤ most-symbol-bytes
+  go true e = leb-true (length t) most-symbol-bytes e
   go false e = omega arith
 
-after-short : (s : Text) (a : Answer) → length-of (normal-after s a) ≤ 4096
+after-short : (s : Text) (a : Answer) → length-of (normal-after s a) ≤ most-symbol-bytes
 unfolding normal-after length-of
 after-short s (named x) = told-short (normal-in (classify s))
 after-short s (refusal r) = omega arith
 
-normal-is : (l : Slices) (s : Text) → 16384 ≤ length (l .out) → normal-work-fits (lent l) ≡ true → normal-answer (lent l) s ≡ normal-symbol s
+normal-is : (l : Slices) (s : Text) → most-text-bytes ≤ length (l .out) → normal-work-fits (lent l) ≡ true → normal-answer (lent l) s ≡ normal-symbol s
 unfolding normal-answer normal-symbol demangle if_then_else_
 normal-is l s h k = ap (front most-symbol-bytes s) (λ i u. step u i) ∙ normal-behind s where
   step : (u : Text) → (if normal-work-fits (lent l) then within (length (l .out)) (normal-after s (mangled-name u)) else refusal 14) ≡ normal-after s (mangled-name u)
@@ -49,16 +50,16 @@ normal-is l s h k = ap (front most-symbol-bytes s) (λ i u. step u i) ∙ normal
 
 -- ---------------------------------------------------------------- by what is listed
 
-pub short-answer-of : (kind : Kind) (s : Text) → length-of (answer-of kind s) ≤ 16384
+pub short-answer-of : (kind : Kind) (s : Text) → length-of (answer-of kind s) ≤ most-text-bytes
 unfolding answer-of normal-symbol
 short-answer-of Names s = short-answer s
 short-answer-of Symbols s = omega (arith, after-short s (demangle most-symbol-bytes s))
 
-too-long-for-name : (s : Text) → 4096 < length s → demangle most-symbol-bytes s ≡ refusal 1
+too-long-for-name : (s : Text) → most-symbol-bytes < length s → demangle most-symbol-bytes s ≡ refusal 1
 unfolding demangle front if_then_else_
-too-long-for-name s h = rw (lt-ltb 4096 (length s) h)
+too-long-for-name s h = rw (lt-ltb most-symbol-bytes (length s) h)
 
-pub too-long : (kind : Kind) (s : Text) → 4096 < length s → answer-of kind s ≡ refusal 1
+pub too-long : (kind : Kind) (s : Text) → most-symbol-bytes < length s → answer-of kind s ≡ refusal 1
 unfolding answer-of normal-symbol normal-after
 too-long Names s h = too-long-for-name s h
 too-long Symbols s h = ap (normal-after s) (too-long-for-name s h)

@@ -18,6 +18,7 @@ use Rattle.normal_walk.specs.laws.Leaves.{Literal, lit-sound}
 use Rattle.normal_walk.specs.laws.Sizes.{name-length}
 use Rattle.normal_nodes.specs.Nodes.{node, Notes, Got, got, bad, notes, put, go-to, settled, signed-kind, with-node, number-of, at-reference}
 use Rattle.normal_nodes.specs.laws.Nodes.{kind-below}
+use Rattle.normal_steps.specs.Limits.{most-note}
 use Rattle.normal_steps.specs.Parts.{part}
 use Rattle.normal_steps.specs.laws.Parts.{part-length}
 use Rattle.normal_steps.specs.Answers.{NameAt, NameIs, RefAt, RefIs, Value, LitIs}
@@ -110,7 +111,7 @@ pub literal-at : (s : Text) (at : ℕ) {r : Valued} {to kind : ℕ} {g : Bool} {
     → Value (literal (drop at s)) s to kind g from × (at < from)
 literal-at s at x e = subst (LitIs s at) e x
 
-pub signed-below : (k : ℕ) (g : Bool) → k < 256 → signed-kind k g < 65536
+pub signed-below : (k : ℕ) (g : Bool) → k < 256 → signed-kind k g < most-note
 signed-below k true l = omega arith
 signed-below k false l = omega arith
 

@@ -8,12 +8,14 @@ use lib.Dec.{eqb}
 use lib.ListN.{length, take, drop, set, length-append}
 use lib.Seq.{length-take-le}
 use Rattle.grammar.specs.Text.{Text}
+use Rattle.grammar.specs.Limits.{most-symbol-bytes}
 use Rattle.store.specs.laws.Fronts.{front-less}
 use Rattle.store.specs.laws.Lists.{second-lent}
 use Rattle.catalogue.specs.Spelling.{ref-bytes}
 use Rattle.normal_walk.specs.laws.Sizes.{ref-length}
 use Rattle.normal_nodes.specs.Nodes.{Node, Notes, Got, notes, got, same-node, seek-by, node-place, number-at, number-of, with-new, with-node, table-place}
 use Rattle.normal_nodes.specs.Nodes.{firsts, pushed, replaced, settled}
+use Rattle.normal_steps.specs.Limits.{table-start, firsts-start, out-length}
 use Rattle.normal_steps.specs.declared.state.Writer.{Writer}
 use Rattle.normal_steps.specs.declared.state.Told.the-variants.{Number}
 use Rattle.normal_steps.specs.States.{written-to, noted-to, entered-to}
@@ -33,9 +35,9 @@ module _ {s : Text} {ws : Work} {p : Writer} {σ : Notes} (h : Carries s ws p σ
   -- ---------------------------------------------------------------- the searches
 
   -- in the last region, which is lent
-  pub sought-firsts : (d r : ℕ) → Sought (eqb d) (take (p .firsts) (take (length (ws .notes) - 20480) (drop 20480 (ws .notes)))) (p .firsts) r
+  pub sought-firsts : (d r : ℕ) → Sought (eqb d) (take (p .firsts) (take (length (ws .notes) - firsts-start) (drop firsts-start (ws .notes)))) (p .firsts) r
       → Sought (eqb d) (firsts (σ .table)) (p .firsts) r
-  sought-firsts d r q = subst (λ (xs : List ℕ). Sought (eqb d) xs (p .firsts) r) (ap (take (p .firsts)) (second-lent 20480 (ws .notes)) ∙ firsts-here h) q
+  sought-firsts d r q = subst (λ (xs : List ℕ). Sought (eqb d) xs (p .firsts) r) (ap (take (p .firsts)) (second-lent firsts-start (ws .notes)) ∙ firsts-here h) q
 
   rows-here : rows-of (p .nodes) (ws .notes) ≡ h .rows
   rows-here = let f = first-front (h .notes-are) in ap₂ rows-of (h .nodes-count) (f .is) ∙ rows-flat (h .rows) (f .rest)
@@ -61,11 +63,11 @@ module _ {s : Text} {ws : Work} {p : Writer} {σ : Notes} (h : Carries s ws p σ
       })
 
   module _ (i : ℕ) (b : i < p .firsts) where
-    pub index-most : i ≤ 4096
+    pub index-most : i ≤ most-symbol-bytes
     index-most = omega (arith, h .firsts-count, firsts-most h)
 
     module _ (from : ℕ) (l : from ≤ p .out) (r : Room 0 0 5 p) where
-      pub reference-room : from + length (ref-bytes i) ≤ 65536
+      pub reference-room : from + length (ref-bytes i) ≤ out-length
       reference-room = omega (arith, ref-length i index-most, r .out, h .place, h .source)
 
       pub settle-here : (d k : ℕ) (o' : Text) (q : Writer) → seek-by (eqb d) (firsts (σ .table)) ≡ some i → WrittenAt (ws .out) o' from k (ref-bytes i)
@@ -92,10 +94,10 @@ module _ {s : Text} {ws : Work} {p : Writer} {σ : Notes} (h : Carries s ws p σ
   -- ---------------------------------------------------------------- an entry
 
   module _ (d : ℕ) (b : d < most-number) (r : Room 0 1 0 p) where
-    table-room : length (σ .table) < 4096
+    table-room : length (σ .table) < most-symbol-bytes
     table-room = omega (arith, r .table, h .table-count, h .place, h .source)
 
-    entered-table : Regions (flat (h .rows)) (σ .table ++ (d ∷ [])) (firsts (σ .table)) (set (ws .notes) (16384 + p .table) d)
+    entered-table : Regions (flat (h .rows)) (σ .table ++ (d ∷ [])) (firsts (σ .table)) (set (ws .notes) (table-start + p .table) d)
     entered-table = rw (h .table-count) (second-set (h .notes-are) d table-room)
 
     went : (m : ℕ) (n' : Text) (q : Writer) → q ≡ entered-to p (p .table + 1) m → m ≡ length (firsts (σ .table ++ (d ∷ [])))
@@ -107,24 +109,24 @@ module _ {s : Text} {ws : Work} {p : Writer} {σ : Notes} (h : Carries s ws p σ
         })
 
     pub push-known : (i : ℕ) (q : Writer) → q ≡ entered-to p (p .table + 1) (p .firsts) → seek-by (eqb d) (firsts (σ .table)) ≡ some i
-        → Went s (notes-to ws (set (ws .notes) (16384 + p .table) d)) (Took 0 1 0 (p .out) p) q (pushed d σ)
+        → Went s (notes-to ws (set (ws .notes) (table-start + p .table) d)) (Took 0 1 0 (p .out) p) q (pushed d σ)
     unfolding table-place
     push-known i q g f =
         let e : firsts (σ .table ++ (d ∷ [])) ≡ firsts (σ .table) = firsts-known (σ .table) d i f in
-        went (p .firsts) (set (ws .notes) (16384 + p .table) d) q g (h .firsts-count ∙ ap length (sym e))
+        went (p .firsts) (set (ws .notes) (table-start + p .table) d) q g (h .firsts-count ∙ ap length (sym e))
         (rw e entered-table)
 
-    pub firsts-room : p .firsts < 4096
+    pub firsts-room : p .firsts < most-symbol-bytes
     firsts-room = omega (arith, h .firsts-count, firsts-length (σ .table), table-room)
 
     pub push-new : (q : Writer) → q ≡ entered-to p (p .table + 1) (p .firsts + 1) → seek-by (eqb d) (firsts (σ .table)) ≡ none
-        → Went s (notes-to ws (set (set (ws .notes) (16384 + p .table) d) (20480 + p .firsts) d)) (Took 0 1 0 (p .out) p) q (pushed d σ)
+        → Went s (notes-to ws (set (set (ws .notes) (table-start + p .table) d) (firsts-start + p .firsts) d)) (Took 0 1 0 (p .out) p) q (pushed d σ)
     unfolding table-place
     push-new q g f =
         let e : firsts (σ .table ++ (d ∷ [])) ≡ firsts (σ .table) ++ (d ∷ []) = firsts-new (σ .table) d f in
         let m : length (firsts (σ .table) ++ (d ∷ [])) ≡ length (firsts (σ .table)) + 1 = length-append (firsts (σ .table)) (d ∷ []) in
         let t : length (σ .table ++ (d ∷ [])) ≡ length (σ .table) + 1 = length-append (σ .table) (d ∷ []) in
-        went (p .firsts + 1) (set (set (ws .notes) (16384 + p .table) d) (20480 + p .firsts) d) q g (omega (arith, h .firsts-count, ap length e))
+        went (p .firsts + 1) (set (set (ws .notes) (table-start + p .table) d) (firsts-start + p .firsts) d) q g (omega (arith, h .firsts-count, ap length e))
         (rw (e, h .firsts-count) (third-set entered-table d (omega (arith, h .firsts-count, firsts-room))))
 
   -- ---------------------------------------------------------------- a node
@@ -144,7 +146,7 @@ module _ {s : Text} {ws : Work} {p : Writer} {σ : Notes} (h : Carries s ws p σ
     abbrev sets-row : Text → ℕ → Text
     sets-row l at = set (set (set (set l at (x .tag)) (at + 1) (x .of)) (at + 2) (x .from)) (at + 3) (x .to)
 
-    row-room : 4 * p .nodes + 4 ≤ 16384
+    row-room : 4 * p .nodes + 4 ≤ table-start
     row-room = omega (arith, r .nodes, h .place, h .source)
 
     noted-rows : Noting (h .rows ++ (x ∷ [])) (σ .table) (sets-row (ws .notes) (4 * p .nodes))

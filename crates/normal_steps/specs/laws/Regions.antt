@@ -17,8 +17,11 @@ use lib.Seq.{
   drop-set-lt,
   drop-set-add,
 }
+use Rattle.grammar.specs.Limits.{most-symbol-bytes}
 use Rattle.store.specs.Table.{Front}
 use Rattle.store.specs.laws.Fronts.{front-none, front-as, front-most, front-at, front-paste, front-set}
+use Rattle.catalogue.specs.Answer.{least-normal-ends}
+use Rattle.normal_steps.specs.Limits.{table-start, firsts-start}
 use Rattle.normal_steps.specs.WrittenAt.{WrittenAt}
 use Rattle.normal_steps.specs.Regions.{Regions}
 
@@ -28,63 +31,63 @@ front-wrote {t = t} {o = o} h f l q =
     front-paste h t l (q .is ∙ ap₂ (λ (k : ℕ) (u : List ℕ). take k o ++ u ++ drop (k + length t) o) f (sym (take-length t)))
 
 -- nothing stands in front of every slice
-pub regions-none : {l : List ℕ} → length l ≡ 24576 → Regions [] [] [] l
+pub regions-none : {l : List ℕ} → length l ≡ least-normal-ends → Regions [] [] [] l
 regions-none {l} e = record {
-  first = front-none (length-take-le 16384 l (omega arith));
-  second = front-none (length-take-le 4096 (drop 16384 l) (omega (arith, length-drop 16384 l)));
-  third = front-none (omega (arith, length-drop 20480 l));
+  first = front-none (length-take-le table-start l (omega arith));
+  second = front-none (length-take-le most-symbol-bytes (drop table-start l) (omega (arith, length-drop table-start l)));
+  third = front-none (omega (arith, length-drop firsts-start l));
 }
 
 module _ {x y z l : List ℕ} (h : Regions x y z l) where
-  pub regions-size : length l ≡ 24576
-  regions-size = omega (arith, h .third .size, length-drop 20480 l)
+  pub regions-size : length l ≡ least-normal-ends
+  regions-size = omega (arith, h .third .size, length-drop firsts-start l)
 
   -- what is in the first region stands in front in the slice, too
-  pub first-front : Front 24576 x l
+  pub first-front : Front least-normal-ends x l
   first-front = record {
-    rest = h .first .rest ++ drop 16384 l;
+    rest = h .first .rest ++ drop table-start l;
     is =
-        sym (take-append-drop 16384 l)
-        ∙ ap (λ (u : List ℕ). u ++ drop 16384 l) (h .first .is)
-        ∙ append-assoc x (h .first .rest) (drop 16384 l);
+        sym (take-append-drop table-start l)
+        ∙ ap (λ (u : List ℕ). u ++ drop table-start l) (h .first .is)
+        ∙ append-assoc x (h .first .rest) (drop table-start l);
     size = regions-size;
   }
 
-  pub second-at : (j : ℕ) → j < length y → getD l (16384 + j) 0 ≡ getD y j 0
-  second-at j m = sym (getD-drop 16384 l j 0) ∙ sym (getD-take 4096 (drop 16384 l) j 0 (omega (arith, front-most (h .second)))) ∙ front-at (h .second) j m
+  pub second-at : (j : ℕ) → j < length y → getD l (table-start + j) 0 ≡ getD y j 0
+  second-at j m = sym (getD-drop table-start l j 0) ∙ sym (getD-take most-symbol-bytes (drop table-start l) j 0 (omega (arith, front-most (h .second)))) ∙ front-at (h .second) j m
 
   -- a number is written behind what is used in a region
 
-  first-set : (a : ℕ) → length x < 16384 → Regions (x ++ (a ∷ [])) y z (set l (length x) a)
+  first-set : (a : ℕ) → length x < table-start → Regions (x ++ (a ∷ [])) y z (set l (length x) a)
   first-set a m = record {
-    first = front-as (take-set-lt 16384 l (length x) a m) (front-set (h .first) a m);
-    second = front-as (ap (take 4096) (drop-set-lt 16384 l (length x) a m)) (h .second);
-    third = front-as (drop-set-lt 20480 l (length x) a (omega arith)) (h .third);
+    first = front-as (take-set-lt table-start l (length x) a m) (front-set (h .first) a m);
+    second = front-as (ap (take most-symbol-bytes) (drop-set-lt table-start l (length x) a m)) (h .second);
+    third = front-as (drop-set-lt firsts-start l (length x) a (omega arith)) (h .third);
   }
 
-  pub second-set : (a : ℕ) → length y < 4096 → Regions x (y ++ (a ∷ [])) z (set l (16384 + length y) a)
+  pub second-set : (a : ℕ) → length y < most-symbol-bytes → Regions x (y ++ (a ∷ [])) z (set l (table-start + length y) a)
   second-set a m = record {
-    first = front-as (take-set-le 16384 l (16384 + length y) a (omega arith)) (h .first);
+    first = front-as (take-set-le table-start l (table-start + length y) a (omega arith)) (h .first);
     second =
-        front-as (ap (take 4096) (drop-set-add 16384 l (length y) a) ∙ take-set-lt 4096 (drop 16384 l) (length y) a m) (front-set (h .second) a m);
-    third = front-as (drop-set-lt 20480 l (16384 + length y) a (omega arith)) (h .third);
+        front-as (ap (take most-symbol-bytes) (drop-set-add table-start l (length y) a) ∙ take-set-lt most-symbol-bytes (drop table-start l) (length y) a m) (front-set (h .second) a m);
+    third = front-as (drop-set-lt firsts-start l (table-start + length y) a (omega arith)) (h .third);
   }
 
-  pub third-set : (a : ℕ) → length z < 4096 → Regions x y (z ++ (a ∷ [])) (set l (20480 + length z) a)
+  pub third-set : (a : ℕ) → length z < most-symbol-bytes → Regions x y (z ++ (a ∷ [])) (set l (firsts-start + length z) a)
   third-set a m =
-      let e : 20480 + length z ≡ 16384 + (4096 + length z) = omega arith in
+      let e : firsts-start + length z ≡ table-start + (most-symbol-bytes + length z) = omega arith in
       record {
-        first = front-as (take-set-le 16384 l (20480 + length z) a (omega arith)) (h .first);
+        first = front-as (take-set-le table-start l (firsts-start + length z) a (omega arith)) (h .first);
         second = front-as
-            (ap (λ (k : ℕ). take 4096 (drop 16384 (set l k a))) e
-            ∙ ap (take 4096) (drop-set-add 16384 l (4096 + length z) a)
-            ∙ take-set-le 4096 (drop 16384 l) (4096 + length z) a (omega arith))
+            (ap (λ (k : ℕ). take most-symbol-bytes (drop table-start (set l k a))) e
+            ∙ ap (take most-symbol-bytes) (drop-set-add table-start l (most-symbol-bytes + length z) a)
+            ∙ take-set-le most-symbol-bytes (drop table-start l) (most-symbol-bytes + length z) a (omega arith))
             (h .second);
-        third = front-as (drop-set-add 20480 l (length z) a) (front-set (h .third) a m);
+        third = front-as (drop-set-add firsts-start l (length z) a) (front-set (h .third) a m);
       }
 
 -- a text is written behind what is used in the first region
-first-sets : (t : List ℕ) {x y z l : List ℕ} → Regions x y z l → length x + length t ≤ 16384 → Regions (x ++ t) y z (sets l (length x) t)
+first-sets : (t : List ℕ) {x y z l : List ℕ} → Regions x y z l → length x + length t ≤ table-start → Regions (x ++ t) y z (sets l (length x) t)
 first-sets [] {x} {y} {z} {l} h m = subst (λ (u : List ℕ). Regions u y z l) (sym (append-nil x)) h
 first-sets (a ∷ t) {x} {y} {z} {l} h m =
     let e : length (x ++ (a ∷ [])) ≡ suc (length x) = length-append x (a ∷ []) ∙ omega arith in
@@ -92,7 +95,7 @@ first-sets (a ∷ t) {x} {y} {z} {l} h m =
     subst (λ (u : List ℕ). Regions u y z (sets (set l (length x) a) (suc (length x)) t)) (append-snoc x a t)
     (subst (λ (k : ℕ). Regions (x ++ (a ∷ []) ++ t) y z (sets (set l (length x) a) k t)) e r)
 
-pub first-wrote : {x y z t l l' : List ℕ} {at r : ℕ} → Regions x y z l → at ≡ length x → length x + length t ≤ 16384 → WrittenAt l l' at r t
+pub first-wrote : {x y z t l l' : List ℕ} {at r : ℕ} → Regions x y z l → at ≡ length x → length x + length t ≤ table-start → WrittenAt l l' at r t
     → Regions (x ++ t) y z l'
 first-wrote {x} {y} {z} {t} {l} {l'} h f m q =
     let e : l' ≡ sets l (length x) t =

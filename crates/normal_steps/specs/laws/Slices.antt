@@ -10,9 +10,12 @@ use lib.Dec.{eqb}
 use lib.ListN.{length, take, drop, getD, getElem?, length-append}
 use lib.Seq.{paste, take-length}
 use Rattle.grammar.specs.Text.{Text, if_then_else_, choose}
+use Rattle.grammar.specs.Limits.{most-symbol-bytes}
 use Rattle.store.specs.Table.{Front}
 use Rattle.store.specs.laws.Fronts.{front-most, front-take}
+use Rattle.catalogue.specs.Answer.{least-normal-ends}
 use Rattle.normal_nodes.specs.Nodes.{Node, Notes, notes, put, pushed, firsts, tag-of, note-last-is}
+use Rattle.normal_steps.specs.Limits.{table-start, firsts-start, out-length}
 use Rattle.normal_steps.specs.declared.state.Writer.{Writer}
 use Rattle.normal_steps.specs.States.{written-to, noted-to, entered-to}
 use Rattle.normal_steps.specs.WrittenAt.{WrittenAt}
@@ -27,13 +30,13 @@ module _ {s : Text} {ws : Work} {p : Writer} {σ : Notes} (h : Carries s ws p σ
   pub flat-size : length (flat (h .rows)) ≡ 4 * p .nodes
   flat-size = omega (arith, length-flat (h .rows), h .nodes-count)
 
-  pub firsts-most : length (firsts (σ .table)) ≤ 4096
+  pub firsts-most : length (firsts (σ .table)) ≤ most-symbol-bytes
   firsts-most = front-most (h .notes-are .third)
 
-  pub out-size : length (ws .out) ≡ 65536
+  pub out-size : length (ws .out) ≡ out-length
   out-size = h .out-is .size
 
-  pub notes-size : length (ws .notes) ≡ 24576
+  pub notes-size : length (ws .notes) ≡ least-normal-ends
   notes-size = regions-size (h .notes-are)
 
   -- ---------------------------------------------------------------- what is read
@@ -55,10 +58,10 @@ module _ {s : Text} {ws : Work} {p : Writer} {σ : Notes} (h : Carries s ws p σ
       ∙ tag-at s (h .rows) (first-front (h .notes-are) .rest) (d - 256) (omega (arith, h .nodes-count))
       ∙ sym (tag-by d l)
 
-  in-table : (i : ℕ) → i < p .table → getD (ws .notes) (16384 + i) 0 ≡ getD (σ .table) i 0
+  in-table : (i : ℕ) → i < p .table → getD (ws .notes) (table-start + i) 0 ≡ getD (σ .table) i 0
   in-table i l = second-at (h .notes-are) i (omega (arith, h .table-count))
 
-  pub entry-is : (i : ℕ) → i < p .table → (getElem? (σ .table) i ≡ some (getD (ws .notes) (16384 + i) 0)) × (getD (ws .notes) (16384 + i) 0 < most-number)
+  pub entry-is : (i : ℕ) → i < p .table → (getElem? (σ .table) i ≡ some (getD (ws .notes) (table-start + i) 0)) × (getD (ws .notes) (table-start + i) 0 < most-number)
   entry-is i l =
       let e = in-table i l in
       let b : i < length (σ .table) = omega (arith, h .table-count) in
@@ -67,17 +70,17 @@ module _ {s : Text} {ws : Work} {p : Writer} {σ : Notes} (h : Carries s ws p σ
   pub newest-none : (d : ℕ) → p .table ≡ 0 → false ≡ note-last-is d (σ .table)
   newest-none d e = last-none d (σ .table) (omega (arith, h .table-count))
 
-  pub newest-is : (d : ℕ) → 0 < p .table → eqb d (getD (ws .notes) (16384 + (p .table - 1)) 0) ≡ note-last-is d (σ .table)
+  pub newest-is : (d : ℕ) → 0 < p .table → eqb d (getD (ws .notes) (table-start + (p .table - 1)) 0) ≡ note-last-is d (σ .table)
   newest-is d l =
       ap (eqb d) (in-table (p .table - 1) (omega arith) ∙ ap (λ (k : ℕ). getD (σ .table) (k - 1) 0) (h .table-count))
       ∙ last-at d (σ .table) (omega (arith, h .table-count))
 
-  pub firsts-here : take (p .firsts) (drop 20480 (ws .notes)) ≡ firsts (σ .table)
-  firsts-here = ap (λ (k : ℕ). take k (drop 20480 (ws .notes))) (h .firsts-count) ∙ front-take (h .notes-are .third)
+  pub firsts-here : take (p .firsts) (drop firsts-start (ws .notes)) ≡ firsts (σ .table)
+  firsts-here = ap (λ (k : ℕ). take k (drop firsts-start (ws .notes))) (h .firsts-count) ∙ front-take (h .notes-are .third)
 
   -- ---------------------------------------------------------------- what is kept when something changes
 
-  pub with-out : (w o' : Text) (k : ℕ) → Front 65536 w o' → k ≡ length w → k ≤ 16 * p .at
+  pub with-out : (w o' : Text) (k : ℕ) → Front out-length w o' → k ≡ length w → k ≤ 16 * p .at
       → Carries s (out-to ws o') (written-to p k) (notes w (σ .nodes) (σ .table) (σ .args) (σ .rest))
   with-out w o' k e f l = record {
     source = h .source;

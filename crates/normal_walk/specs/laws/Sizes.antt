@@ -7,7 +7,7 @@ use native.Mathlib.Omega.{arith}
 use lib.Dec.{ltb}
 use lib.ListN.{length, length-append}
 use Rattle.grammar.specs.Text.{Text, if_then_else_}
-use Rattle.grammar.specs.Names.{most-symbol-bytes}
+use Rattle.grammar.specs.Limits.{most-symbol-bytes}
 use Rattle.catalogue.specs.Spelling.{digit-of, base36, ref-digits, ref-bytes, name-bytes}
 use Rattle.catalogue.specs.laws.ReadsBack.{name-two}
 use Rattle.normal_walk.specs.Walk.{name}

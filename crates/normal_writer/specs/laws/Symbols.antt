@@ -10,12 +10,16 @@ use lib.Dec.{eqb}
 use lib.ListN.{length, drop, length-drop}
 use Rattle.grammar.specs.Text.{Text, if_then_else_, starts}
 use Rattle.grammar.specs.laws.Text.{starts-nothing}
+use Rattle.grammar.specs.Limits.{most-symbol-bytes}
 use Rattle.store.specs.Table.{Front}
+use Rattle.catalogue.specs.Class.{most-arguments}
+use Rattle.catalogue.specs.Answer.{least-normal-ends}
 use Rattle.catalogue.specs.Spelling.{name-bytes}
 use Rattle.catalogue.specs.Recogniser.{Rd, stop, if-next}
 use Rattle.normal_walk.specs.Walk.{name}
 use Rattle.normal_nodes.specs.Nodes.{Notes, notes, Got, got, bad, next, when, with, begun, a-bare, a-lit, note-add-all, tag-of, note-at-scoped, at-function}
 use Rattle.normal_nodes.specs.Nodes.{note-at-end, note-at-params, note-type, note-types, note-parts, symbol-of, note-encoding, note-symbol}
+use Rattle.normal_steps.specs.Limits.{out-length}
 use Rattle.normal_steps.specs.Parts.{part}
 use Rattle.grammar.specs.laws.Places.{rest-some, rest-none}
 use Rattle.normal_steps.specs.laws.Tests.{next-here, next-not}
@@ -38,8 +42,8 @@ use Rattle.normal_writer.specs.declared.symbol.Finished.the-variants.{Sy
 -- ---------------------------------------------------------------- the start
 
 -- nothing is noted, and w is written
-pub begun-holds : (s w : Text) (at : ℕ) {ws : Work} {p : Writer} → p ≡ begun-at at (length w) → length s ≤ 4096 → at ≤ length s → length w ≤ 16 * at
-    → Front 65536 w (ws .out) → length (ws .notes) ≡ 24576 → Carries s ws p (notes w [] [] 0 (drop at s))
+pub begun-holds : (s w : Text) (at : ℕ) {ws : Work} {p : Writer} → p ≡ begun-at at (length w) → length s ≤ most-symbol-bytes → at ≤ length s → length w ≤ 16 * at
+    → Front out-length w (ws .out) → length (ws .notes) ≡ least-normal-ends → Carries s ws p (notes w [] [] 0 (drop at s))
 unfolding nodes-in flat Inside note-add-all
 begun-holds s w at {ws} {p} e l h k o z = subst (λ (q : Writer). Carries s ws q (notes w [] [] 0 (drop at s))) (sym e) (record {
   source = l;
@@ -81,7 +85,7 @@ module _ {s : Text} {from to : ℕ} (h : NameAt s 2 from to) where
   pub plain-size : length word + 2 ≡ to
   plain-size = let z = name-size h in omega arith
 
-  pub plain-heads : {o o' : Text} {p q : Writer} → p ≡ moved-to (begun-at 2 2) to → length s ≤ 4096 → Front 65536 (95 ∷ 90 ∷ []) o → Puts word o o' p q
+  pub plain-heads : {o o' : Text} {p q : Writer} → p ≡ moved-to (begun-at 2 2) to → length s ≤ most-symbol-bytes → Front out-length (95 ∷ 90 ∷ []) o → Puts word o o' p q
       → Plain s o' (Name q false)
   plain-heads {o} {o'} {p} {q} e l z f ws y =
       let a : p .at ≡ to = ap (λ (x : Writer). x .at) e in
@@ -97,15 +101,15 @@ module _ {s : Text} {from to : ℕ} (h : NameAt s 2 from to) where
 -- w is written and taken, and nothing is noted
 pub record Started (s w : Text) (ws : Work) (p : Writer) : Type 0 where
   pub is : p ≡ begun-at (length w) (length w)
-  pub source : length s ≤ 4096
+  pub source : length s ≤ most-symbol-bytes
   pub two : 2 ≤ length w
   pub fits : length w ≤ length s
-  pub out-is : Front 65536 w (ws .out)
-  pub notes-size : length (ws .notes) ≡ 24576
+  pub out-is : Front out-length w (ws .out)
+  pub notes-size : length (ws .notes) ≡ least-normal-ends
 
 pub begun-by : (s w : Text) (ws : Work) {o : Text} {p : Writer}
-    → (length s ≤ 4096) × ((2 ≤ length w) × ((length w ≤ 4) × (length w ≤ length s))) → length (ws .notes) ≡ 24576
-    → (p ≡ begun-at (length w) (length w)) × Front 65536 w o → Started s w (out-to ws o) p
+    → (length s ≤ most-symbol-bytes) × ((2 ≤ length w) × ((length w ≤ 4) × (length w ≤ length s))) → length (ws .notes) ≡ least-normal-ends
+    → (p ≡ begun-at (length w) (length w)) × Front out-length w o → Started s w (out-to ws o) p
 begun-by s w ws h z k = record { is = k .0; source = h .0; two = h .1 .0; fits = h .1 .1 .1; out-is = k .1; notes-size = z }
 
 abbrev pub first : Text → Text → Notes
@@ -170,7 +174,7 @@ module _ (m : ℕ) where
   nested t = if-next 75 t constant (other t)
 
 module _ (s : Text) {ws : Work} {r : Headed} where
-  pub function-plain : starts (drop 2 s) (78 ∷ []) ≡ false → length (ws .notes) ≡ 24576 → Plain s (ws .out) r → Functions s ws r
+  pub function-plain : starts (drop 2 s) (78 ∷ []) ≡ false → length (ws .notes) ≡ least-normal-ends → Plain s (ws .out) r → Functions s ws r
   function-plain h z f m k = heads-by (next-not 78 (nested m) (at-plain (drop 2 s)) (drop 2 s) h) (f ws z)
 
   module _ (h : starts (drop 2 s) (78 ∷ []) ≡ true) where
@@ -389,12 +393,12 @@ module _ {s : Text} (y : starts s (95 ∷ 90 ∷ []) ≡ true) {ws : Work} {r : 
         args-are : q .args ≡ symbol-ended .state .args
         args-are = symbol-ended .holds .args-count
 
-        pub symbol-many : 1024 < q .args → note-symbol s ≡ none
+        pub symbol-many : most-arguments < q .args → note-symbol s ≡ none
         unfolding if_then_else_
-        symbol-many l = by-end (got tt (symbol-ended .state)) (symbol-ended .is) ∙ rw (lt-leb (symbol-ended .state .args) 1024 (omega (arith, args-are))) refl
+        symbol-many l = by-end (got tt (symbol-ended .state)) (symbol-ended .is) ∙ rw (lt-leb (symbol-ended .state .args) most-arguments (omega (arith, args-are))) refl
 
-        pub symbol-writes : q .args ≤ 1024 → Writes s ws' (Symbol q) (note-symbol s)
+        pub symbol-writes : q .args ≤ most-arguments → Writes s ws' (Symbol q) (note-symbol s)
         unfolding if_then_else_
         symbol-writes l =
-            let x : note-symbol s ≡ some (symbol-ended .state .out) = by-end (got tt (symbol-ended .state)) (symbol-ended .is) ∙ rw (le-leb (symbol-ended .state .args) 1024 (omega (arith, args-are))) refl in
+            let x : note-symbol s ≡ some (symbol-ended .state .out) = by-end (got tt (symbol-ended .state)) (symbol-ended .is) ∙ rw (le-leb (symbol-ended .state .args) most-arguments (omega (arith, args-are))) refl in
             subst (λ (v : Option Text). Writes s ws' (Symbol q) v) (sym x) (writes (symbol-ended .holds))

@@ -10,7 +10,8 @@ use lib.Dec.{leb}
 use lib.ListN.{length, drop}
 use lib.Seq.{paste, take-length}
 use Rattle.grammar.specs.Text.{Text, if_then_else_}
-use Rattle.grammar.specs.Names.{refusal, named, demangle, mangled-name, answer, within, most-symbol-bytes, number-of, work-fits}
+use Rattle.grammar.specs.Limits.{most-symbol-bytes, most-text-bytes}
+use Rattle.grammar.specs.Names.{refusal, named, demangle, mangled-name, answer, within, number-of, work-fits}
 use Rattle.grammar.specs.Names as n
 use Rattle.grammar.specs.laws.Fuel.{never-0}
 use Rattle.catalogue.specs.Recogniser.{classify}
@@ -37,17 +38,17 @@ use Rattle.normalize.specs.Parts.{accepted-answer}
 module _ (w out : Text) where
   pub told-13 : most-symbol-bytes < length w → Tells (within (length out) (normal-told (some w))) out out (Refused 13)
   unfolding normal-told within if_then_else_
-  told-13 h = tells-refusal (rw (lt-leb (length w) 4096 h))
+  told-13 h = tells-refusal (rw (lt-leb (length w) most-symbol-bytes h))
 
   pub told-12 : length w ≤ most-symbol-bytes → length out < length w → Tells (within (length out) (normal-told (some w))) out out (Refused 12)
   unfolding normal-told within if_then_else_
-  told-12 h l = tells-refusal (rw (le-leb (length w) 4096 h, lt-leb (length w) (length out) l))
+  told-12 h l = tells-refusal (rw (le-leb (length w) most-symbol-bytes h, lt-leb (length w) (length out) l))
 
   pub told-name : length w ≤ most-symbol-bytes → length w ≤ length out → {out' : Text} {n : ℕ} → n ≡ length w → out' ≡ paste out 0 w (length w)
       → Tells (within (length out) (normal-told (some w))) out out' (Name n)
   unfolding normal-told within if_then_else_
   told-name h l e f =
-      tells-name {t = w} (rw (le-leb (length w) 4096 h, le-leb (length w) (length out) l)) e
+      tells-name {t = w} (rw (le-leb (length w) most-symbol-bytes h, le-leb (length w) (length out) l)) e
       (f ∙ ap₂ (λ (x : Text) (k : ℕ). x ++ drop k out) (take-length w) (let e : 0 + length w ≡ length w = omega arith in e))
 
 -- the code's walk finds what the recogniser finds
@@ -67,7 +68,7 @@ module _ (s out : Text) where
 
 -- a reading whose output slice is never too short tells the number of the symbol
 pub number-is : (s out text store ends : Text) {out' : Text} (r : Answer) {k : ℕ} → Tells (answer most-symbol-bytes (lent (slices out text store ends)) s) out out' r
-    → 16384 ≤ length out → Long least-normal-ends (slices [] text store ends) → k ≡ number-in r → k ≡ number-of (demangle most-symbol-bytes s)
+    → most-text-bytes ≤ length out → Long least-normal-ends (slices [] text store ends) → k ≡ number-in r → k ≡ number-of (demangle most-symbol-bytes s)
 unfolding work-fits
 number-is s out text store ends r e h f g =
     let l = slices out text store ends in

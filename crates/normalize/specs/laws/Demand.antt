@@ -7,7 +7,8 @@ use mathlib.Core.Path.{_≡_, sym, ap, subst, _∙_}
 use Prim.Native.Nat.{_≤_}
 use lib.ListN.{length, take}
 use Rattle.grammar.specs.Text.{Text}
-use Rattle.grammar.specs.Names.{named, demangle, most-symbol-bytes, work-fits}
+use Rattle.grammar.specs.Limits.{most-symbol-bytes}
+use Rattle.grammar.specs.Names.{named, demangle, work-fits}
 use Rattle.catalogue.specs.Class.{Catalogue}
 use Rattle.catalogue.specs.Normal.{normal-of}
 use Rattle.catalogue.specs.Answer.{normal-work-fits}

@@ -10,7 +10,8 @@ use lib.Dec.{leb, ltb}
 use lib.ListN.{length, take, drop}
 use lib.Seq.{take-at}
 use Rattle.grammar.specs.Text.{Text, if_then_else_, choose}
-use Rattle.grammar.specs.Names.{Answer, named, refusal, high, front, mangled-name, demangle, within, work-fits, answer, most-symbol-bytes, number-of, length-of, written}
+use Rattle.grammar.specs.Limits.{most-symbol-bytes}
+use Rattle.grammar.specs.Names.{Answer, named, refusal, high, front, mangled-name, demangle, within, work-fits, answer, number-of, length-of, written}
 use Rattle.grammar.specs.laws.Fuel.{never-0}
 use Rattle.catalogue.specs.Recogniser.{classify}
 use Rattle.catalogue.specs.Answer.{normal-in, normal-told, normal-after, normal-symbol, normal-answer, normal-work-fits}
@@ -134,7 +135,7 @@ told-is (some v) e = go (leb (length v) most-symbol-bytes) refl e
   where
     go : (p : Bool) → leb (length v) most-symbol-bytes ≡ p → number-of (if p then named v else refusal 13) ≡ 0
         → (u : Text) × (((if p then named v else refusal 13) ≡ named u) × ((some v ≡ some u) × (length u ≤ most-symbol-bytes)))
-    go true f e = (v, (refl, (refl, leb-true (length v) 4096 f)))
+    go true f e = (v, (refl, (refl, leb-true (length v) most-symbol-bytes f)))
     go false f e = absurd (omega arith)
 
 has-normal : (s : Text) (a : Answer) → demangle most-symbol-bytes s ≡ a → number-of (normal-after s a) ≡ 0
@@ -145,7 +146,7 @@ has-normal s (refusal r) e z = absurd (never-0 most-symbol-bytes s (e ∙ ap ref
 
 normal-named : (s v : Text) → Has-normal s v → normal-symbol s ≡ named v
 unfolding normal-symbol normal-after normal-told if_then_else_
-normal-named s v h = ap (normal-after s) (h .accepted) ∙ ap normal-told (h .is) ∙ rw (le-leb (length v) 4096 (h .short))
+normal-named s v h = ap (normal-after s) (h .accepted) ∙ ap normal-told (h .is) ∙ rw (le-leb (length v) most-symbol-bytes (h .short))
 
 module _ (s : Text) (l l' : Slices) (r : told.Answer) (h : Normalizes s l l' r) where
   abbrev wanted : Answer

@@ -5,6 +5,7 @@ use Prim.Native.Nat.{ℕ, _+_, _≤_, min}
 use native.Mathlib.Omega.{arith}
 use lib.ListN.{length, take, drop}
 use Rattle.grammar.specs.Text.{Text}
+use Rattle.grammar.specs.Limits.{most-length, kept-bytes}
 use Rattle.grammar.specs.Reader.{State, Reader}
 use Rattle.grammar.specs.laws.Agree.{moved}
 use Rattle.store.specs.Stack.{Stack}
@@ -17,7 +18,7 @@ use Rattle.parser.specs.laws.Holds.{by-state, holds-text, holds-moved, s
 use Rattle.parser.specs.Adds.{Adds}
 
 pub adds-none : {text : Text} {p : Parser} → Stack text (p .top) → Adds text text p p []
-adds-none {text} {p} c = record { same = refl; stack = c; tail = rw append-nil (whole 34816 (take (p .top) text)) }
+adds-none {text} {p} c = record { same = refl; stack = c; tail = rw append-nil (whole kept-bytes (take (p .top) text)) }
 
 pub adds-more : {text text' text'' : Text} {p p' p'' : Parser} {t u : Text} → Adds text text' p p' t → Puts text' text'' p' p'' u → Adds text text'' p p'' (t ++ u)
 adds-more {p'' = p''} {t = t} {u = u} a h = record {
@@ -37,7 +38,7 @@ pub adds-one : {text text' : Text} {p p' : Parser} {t : Text} → Stack text (p 
 adds-one {text} {p = p} {t = t} c h = record {
   same = h .same;
   stack = h .put .stack;
-  tail = put-tail t c (omega arith) (h .put) (whole 34816 (take (p .top) text));
+  tail = put-tail t c (omega arith) (h .put) (whole kept-bytes (take (p .top) text));
 }
 
 -- by an equation of the text
@@ -62,7 +63,7 @@ module _ {s text text' store ends : Text} {p p' : Parser} {t : Text} {σ : State
   pub holds-adds : Holds s (mem text' store ends) p' σ
   holds-adds = by-state (a .same) (holds-text h (p' .top) (a .stack))
 
-  pub stands-adds : {n from : ℕ} → n ≡ min (length t) 65536 → from ≤ p .at → Stands 34816 (p .depth) s (take (p .top) text) from (mem text' store ends) p' n t σ
+  pub stands-adds : {n from : ℕ} → n ≡ min (length t) most-length → from ≤ p .at → Stands kept-bytes (p .depth) s (take (p .top) text) from (mem text' store ends) p' n t σ
   stands-adds e l = record {
     holds = holds-adds;
     tail = a .tail;
@@ -77,7 +78,7 @@ module _ {s text text' store ends : Text} {p p' : Parser} {t : Text} {σ : State
 pub stands-more :
     {k d : ℕ} {s base : Text} {from : ℕ} {text text' store ends : Text} {p p' : Parser} {n : ℕ} {t u : Text} {σ : State} →
     Adds text text' p p' u → Stands k d s base from (mem text store ends) p n t σ →
-    Stands k d s base from (mem text' store ends) p' (min (length (t ++ u)) 65536) (t ++ u) σ
+    Stands k d s base from (mem text' store ends) p' (min (length (t ++ u)) most-length) (t ++ u) σ
 stands-more {t = t} {u = u} a h = record {
   holds = by-state (a .same) (holds-text (h .holds) _ (a .stack));
   tail = rw (← append-assoc) (chain u (h .tail) (weaken (h .most) (a .tail)));

@@ -10,6 +10,7 @@ use lib.Dec.{leb}
 use lib.ListN.{length, take, drop, getD, getElem?, length-append, length-take, length-drop}
 use lib.Seq.{length-take-le}
 use Rattle.grammar.specs.Text.{Text, if_then_else_, choose, same}
+use Rattle.grammar.specs.Limits.{most-entries, most-text-bytes, most-entry-bytes, kept-bytes, least-store, least-ends}
 use Rattle.grammar.specs.Reader.{State, Result, ok, refused, Reader, onto, refuse, set-subs, set-args, bytes-of, fits, push-sub, push-arg, give, recorded}
 use Rattle.grammar.specs.Grammar.{last}
 use Rattle.store.specs.Stack.{lent}
@@ -31,13 +32,13 @@ two-halves : (n : ℕ) (l : List ℕ) → length (take n l) ≡ n → length (dr
 two-halves n l a b = omega (arith, length-take n l, length-drop n l)
 
 module _ {s : Text} {m : Memory} {p : Parser} {σ : State} (h : Holds s m p σ) where
-  pub store-size : length (m .store) ≡ 65536
+  pub store-size : length (m .store) ≡ least-store
   unfolding low-bytes high-bytes
-  store-size = two-halves 32768 (m .store) (entries-sized (h .subs) .store-size) (entries-sized (h .args) .store-size)
+  store-size = two-halves most-entry-bytes (m .store) (entries-sized (h .subs) .store-size) (entries-sized (h .args) .store-size)
 
-  pub ends-size : length (m .ends) ≡ 2048
+  pub ends-size : length (m .ends) ≡ least-ends
   unfolding low-ends high-ends
-  ends-size = two-halves 1024 (m .ends) (entries-sized (h .subs) .ends-size) (entries-sized (h .args) .ends-size)
+  ends-size = two-halves most-entries (m .ends) (entries-sized (h .subs) .ends-size) (entries-sized (h .args) .ends-size)
 
 -- ---------------------------------------------------------------- a half that was lent
 
@@ -60,22 +61,25 @@ holds-tables h x y = record {
 }
 
 module _ {s text store ends : Text} {p : Parser} {σ : State} (h : Holds s (mem text store ends) p σ) {l : List Text} {ys zs : List ℕ} {c b : ℕ} (e : Entries l ys zs c b) where
-  pub holds-subs : Holds s (mem text (ys ++ drop 32768 store) (zs ++ drop 1024 ends)) (subs-to p c b) (with-subs l σ)
+  pub holds-subs : Holds s (mem text (ys ++ drop most-entry-bytes store) (zs ++ drop most-entries ends)) (subs-to p c b) (with-subs l σ)
   unfolding low-bytes high-bytes low-ends high-ends
   holds-subs =
       let u = entries-sized e .store-size in
       let v = entries-sized e .ends-size in
-      holds-tables h (entries-as (first-back 32768 store ys u) (first-back 1024 ends zs v) e) (entries-as (first-other 32768 store ys u) (first-other 1024 ends zs v) (h .args))
+      holds-tables h (entries-as (first-back most-entry-bytes store ys u) (first-back most-entries ends zs v) e)
+      (entries-as (first-other most-entry-bytes store ys u) (first-other most-entries ends zs v) (h .args))
 
   pub holds-args :
       Holds s
-      (mem text (take 32768 store ++ (ys ++ drop (length store - 32768) (drop 32768 store))) (take 1024 ends ++ (zs ++ drop (length ends - 1024) (drop 1024 ends))))
+      (mem text (take most-entry-bytes store ++ (ys ++ drop (length store - most-entry-bytes) (drop most-entry-bytes store)))
+      (take most-entries ends ++ (zs ++ drop (length ends - most-entries) (drop most-entries ends))))
       (args-to p c b) (with-args l σ)
   unfolding low-bytes high-bytes low-ends high-ends
   holds-args =
-      let u : 32768 ≤ length store = omega (arith, store-size h) in
-      let v : 1024 ≤ length ends = omega (arith, ends-size h) in
-      holds-tables h (entries-as (second-other 32768 store ys u) (second-other 1024 ends zs v) (h .subs)) (entries-as (second-back 32768 store ys u) (second-back 1024 ends zs v) e)
+      let u : most-entry-bytes ≤ length store = omega (arith, store-size h) in
+      let v : most-entries ≤ length ends = omega (arith, ends-size h) in
+      holds-tables h (entries-as (second-other most-entry-bytes store ys u) (second-other most-entries ends zs v) (h .subs))
+      (entries-as (second-back most-entry-bytes store ys u) (second-back most-entries ends zs v) e)
 
 -- no arguments are left, whatever their halves hold
 pub holds-no-args : {s : Text} {m : Memory} {p : Parser} {σ : State} → Holds s m p σ → Holds s m (args-to p 0 0) (with-args [] σ)
@@ -83,9 +87,9 @@ holds-no-args h = holds-tables h (h .subs) (no-entries (entries-sized (h .args))
 
 -- the template arguments' halves, as code takes them
 pub args-lent : {s text store ends : Text} {p : Parser} {σ : State} → Holds s (mem text store ends) p σ
-    → Entries (σ .args) (take (length store - 32768) (drop 32768 store)) (take (length ends - 1024) (drop 1024 ends)) (p .args .count) (p .args .bytes)
+    → Entries (σ .args) (take (length store - most-entry-bytes) (drop most-entry-bytes store)) (take (length ends - most-entries) (drop most-entries ends)) (p .args .count) (p .args .bytes)
 unfolding high-bytes high-ends
-args-lent {store = store} {ends = ends} h = entries-as (second-lent 32768 store) (second-lent 1024 ends) (h .args)
+args-lent {store = store} {ends = ends} h = entries-as (second-lent most-entry-bytes store) (second-lent most-entries ends) (h .args)
 
 -- ---------------------------------------------------------------- whether one entry more fits
 
@@ -96,16 +100,19 @@ module _ {l : List Text} {store ends : List ℕ} {c b : ℕ} (e : Entries l stor
   bytes-more : bytes-of (l ++ (t ∷ [])) ≡ b + length t
   bytes-more = omega (arith, e .bytes-is, bytes-append l (t ∷ []), bytes-one t)
 
-  pub fits-more : c < 1024 → b + length t ≤ 32768 → fits (l ++ (t ∷ [])) ≡ true
+  pub fits-more : c < most-entries → b + length t ≤ most-entry-bytes → fits (l ++ (t ∷ [])) ≡ true
   unfolding fits
-  fits-more i j = ap₂ (λ (q r : Bool). q && r) (le-leb (length (l ++ (t ∷ []))) 1024 (omega (arith, count-more))) (le-leb (bytes-of (l ++ (t ∷ []))) 32768 (omega (arith, bytes-more)))
+  fits-more i j = ap₂ (λ (q r : Bool). q && r) (le-leb (length (l ++ (t ∷ []))) most-entries (omega (arith, count-more)))
+      (le-leb (bytes-of (l ++ (t ∷ []))) most-entry-bytes (omega (arith, bytes-more)))
 
-  pub fits-not : (c < 1024 → b + length t ≤ 32768 → ⊥) → fits (l ++ (t ∷ [])) ≡ false
+  pub fits-not : (c < most-entries → b + length t ≤ most-entry-bytes → ⊥) → fits (l ++ (t ∷ [])) ≡ false
   unfolding fits
   fits-not never = go _ _ refl refl
     where
-      go : (q r : Bool) → leb (length (l ++ (t ∷ []))) 1024 ≡ q → leb (bytes-of (l ++ (t ∷ []))) 32768 ≡ r → (leb (length (l ++ (t ∷ []))) 1024 && leb (bytes-of (l ++ (t ∷ []))) 32768) ≡ false
-      go true true x y = absurd (never (omega (arith, leb-true (length (l ++ (t ∷ []))) 1024 x, count-more)) (omega (arith, leb-true (bytes-of (l ++ (t ∷ []))) 32768 y, bytes-more)))
+      go : (q r : Bool) → leb (length (l ++ (t ∷ []))) most-entries ≡ q → leb (bytes-of (l ++ (t ∷ []))) most-entry-bytes ≡ r
+          → (leb (length (l ++ (t ∷ []))) most-entries && leb (bytes-of (l ++ (t ∷ []))) most-entry-bytes) ≡ false
+      go true true x y = absurd (never (omega (arith, leb-true (length (l ++ (t ∷ []))) most-entries x, count-more))
+          (omega (arith, leb-true (bytes-of (l ++ (t ∷ []))) most-entry-bytes y, bytes-more)))
       go true false x y = ap₂ (λ (q r : Bool). q && r) x y
       go false r x y = ap₂ (λ (q r : Bool). q && r) x y
 
@@ -138,7 +145,7 @@ module _ {s : Text} {m : Memory} {n : ℕ} {q : Parser} where
   pushed-as {r} {σ} e h = subst (λ (x : Parser). Pushes s m n q (read x n) (ok tt σ)) (sym e) (pushed h)
 
 -- the newest n bytes are the text
-pub newest-part : {k d : ℕ} {s base : Text} {from : ℕ} {m : Memory} {p : Parser} {n : ℕ} {t : Text} {σ : State} → Stands k d s base from m p n t σ → length t ≤ 32768 → (n ≤ p .top) × (lent (m .text) (p .top) n ≡ t)
+pub newest-part : {k d : ℕ} {s base : Text} {from : ℕ} {m : Memory} {p : Parser} {n : ℕ} {t : Text} {σ : State} → Stands k d s base from m p n t σ → length t ≤ most-entry-bytes → (n ≤ p .top) × (lent (m .text) (p .top) n ≡ t)
 newest-part {base = base} {t = t} h l = newest-lent base t (h .holds .text) (h .tail) (omega (arith, h .size)) (omega (arith, h .least))
 
 -- a push onto one of the tables, which answers f
@@ -184,9 +191,9 @@ module _ (t : Text) (σ : State) where
   unfolding recorded onto if_then_else_
   recorded-no e = rw (push-sub-is t σ, e)
 
-  pub recorded-long : fits (σ .subs ++ (t ∷ [])) ≡ true → 16384 < length t → recorded t σ ≡ refused 11
+  pub recorded-long : fits (σ .subs ++ (t ∷ [])) ≡ true → most-text-bytes < length t → recorded t σ ≡ refused 11
   unfolding recorded onto give if_then_else_
-  recorded-long e l = rw (push-sub-is t σ, e, lt-leb (length t) 16384 l)
+  recorded-long e l = rw (push-sub-is t σ, e, lt-leb (length t) most-text-bytes l)
 
 -- ---------------------------------------------------------------- entries recalled
 
@@ -222,20 +229,20 @@ last-none (u ∷ l) t e = absurd (omega arith)
 pub part-size : (s : Text) {from to : ℕ} → from ≤ to → to ≤ length s → length (part s from to) ≡ to - from
 part-size s {from} {to} i j = length-take-le (to - from) (drop from s) (simp length-drop (omega arith))
 
-pub give-short : (t : Text) (σ : State) → length t ≤ 16384 → give t σ ≡ ok t σ
+pub give-short : (t : Text) (σ : State) → length t ≤ most-text-bytes → give t σ ≡ ok t σ
 unfolding give if_then_else_
-give-short t σ l = ap (λ (q : Bool). (if q then (λ u. ok t u) else refuse 11) σ) (le-leb (length t) 16384 l)
+give-short t σ l = ap (λ (q : Bool). (if q then (λ u. ok t u) else refuse 11) σ) (le-leb (length t) most-text-bytes l)
 
-pub give-long : (t : Text) (σ : State) → 16384 < length t → give t σ ≡ refused 11
+pub give-long : (t : Text) (σ : State) → most-text-bytes < length t → give t σ ≡ refused 11
 unfolding give if_then_else_
-give-long t σ l = ap (λ (q : Bool). (if q then (λ u. ok t u) else refuse 11) σ) (lt-leb (length t) 16384 l)
+give-long t σ l = ap (λ (q : Bool). (if q then (λ u. ok t u) else refuse 11) σ) (lt-leb (length t) most-text-bytes l)
 
 pub wrote-one : {s text text' store ends : Text} {from : ℕ} {p p' : Parser} {n : ℕ} {t : Text} {σ : State}
-    → Holds s (mem text store ends) p σ → Puts text text' p p' t → length t ≡ n → length t ≤ 16384 → from ≤ p .at
-    → Refines 34816 (p .depth) s (window (mem text store ends) p) from (mem text' store ends) (read p' n) (give t σ)
+    → Holds s (mem text store ends) p σ → Puts text text' p p' t → length t ≡ n → length t ≤ most-text-bytes → from ≤ p .at
+    → Refines kept-bytes (p .depth) s (window (mem text store ends) p) from (mem text' store ends) (read p' n) (give t σ)
 wrote-one {s} {text} {text'} {store} {ends} {from} {p} {p'} {n} {t} {σ} h u e l m = answers (give-short t σ l) (record {
   holds = holds-puts u h;
-  tail = put-tail t (h .text) (omega arith) (u .put) (whole 34816 (take (p .top) text));
+  tail = put-tail t (h .text) (omega arith) (u .put) (whole kept-bytes (take (p .top) text));
   size = sym e;
   short = l;
   level = ap (λ (q : Parser). q .depth) (u .same);

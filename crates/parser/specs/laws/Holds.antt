@@ -8,6 +8,7 @@ use borrow.Author.Tests.{le-leb, lt-leb, leb-true, leb-false}
 use lib.Dec.{leb}
 use lib.ListN.{length, take, drop}
 use Rattle.grammar.specs.Text.{Text, if_then_else_, each}
+use Rattle.grammar.specs.Limits.{most-open, most-text-bytes, most-entry-bytes, kept-bytes}
 use Rattle.grammar.specs.Reader.{State, Result, ok, refused, Reader, onto, give}
 use Rattle.grammar.specs.Grammar.{qualifier}
 use Rattle.grammar.specs.laws.Agree.{moved}
@@ -51,7 +52,7 @@ module _ {s : Text} {m : Memory} {p : Parser} {σ : State} (h : Holds s m p σ) 
     templated = h .templated;
   }
 
-  pub holds-depth : (d : ℕ) → d ≤ 96 → Holds s m (at-depth p d) (at-level d σ)
+  pub holds-depth : (d : ℕ) → d ≤ most-open → Holds s m (at-depth p d) (at-level d σ)
   holds-depth d l = record {
     source = h .source;
     place = h .place;
@@ -66,7 +67,7 @@ module _ {s : Text} {m : Memory} {p : Parser} {σ : State} (h : Holds s m p σ) 
     templated = h .templated;
   }
 
-  pub holds-entered : p .depth < 96 → Holds s m (deeper p) (at-level (σ .depth + 1) σ)
+  pub holds-entered : p .depth < most-open → Holds s m (deeper p) (at-level (σ .depth + 1) σ)
   holds-entered l = record {
     source = h .source;
     place = h .place;
@@ -138,7 +139,7 @@ module _ {s text text' store ends : Text} {p p' : Parser} {t : Text} (u : Puts t
   pub holds-puts : {σ : State} → Holds s (mem text store ends) p σ → Holds s (mem text' store ends) p' σ
   holds-puts h = by-state (u .same) (holds-text h (p' .top) (u .put .stack))
 
-  pub tail-puts : {k : ℕ} {σ : State} (base a : Text) → Holds s (mem text store ends) p σ → k ≤ 34816 → Tail k (take (p .top) text) (base ++ a) → Tail k (take (p' .top) text') (base ++ (a ++ t))
+  pub tail-puts : {k : ℕ} {σ : State} (base a : Text) → Holds s (mem text store ends) p σ → k ≤ kept-bytes → Tail k (take (p .top) text) (base ++ a) → Tail k (take (p' .top) text') (base ++ (a ++ t))
   tail-puts base a h l w = rw (← append-assoc) (put-tail t (h .text) l (u .put) w)
 
 -- ---------------------------------------------------------------- answers
@@ -176,7 +177,7 @@ refused-on {k} {d} {k'} {d'} {s} {base} {s'} {base'} {from} {from'} {m} {m'} {r}
 -- ---------------------------------------------------------------- texts returned
 
 module _ {k d : ℕ} {s base : Text} {from : ℕ} {m : Memory} {p : Parser} {n : ℕ} {t : Text} {σ : State} where
-  pub stands : Wrote k d s base from m p n t σ → 32768 ≤ k → k ≤ 34816 → Stands k d s base from m p n t σ
+  pub stands : Wrote k d s base from m p n t σ → most-entry-bytes ≤ k → k ≤ kept-bytes → Stands k d s base from m p n t σ
   stands w l u = record {
     holds = w .holds;
     tail = w .tail;
@@ -187,7 +188,7 @@ module _ {k d : ℕ} {s base : Text} {from : ℕ} {m : Memory} {p : Parser} {n :
     most = u;
   }
 
-  pub short-enough : Stands k d s base from m p n t σ → length t ≤ 16384 → Wrote k d s base from m p n t σ
+  pub short-enough : Stands k d s base from m p n t σ → length t ≤ most-text-bytes → Wrote k d s base from m p n t σ
   short-enough h l = record {
     holds = h .holds;
     tail = h .tail;
@@ -199,7 +200,7 @@ module _ {k d : ℕ} {s base : Text} {from : ℕ} {m : Memory} {p : Parser} {n :
 
   pub given-refines : Stands k d s base from m p n t σ → Refines k d s base from m (given-of p n) (give t σ)
   unfolding given-of give if_then_else_
-  given-refines h = go (leb n 16384) refl
+  given-refines h = go (leb n most-text-bytes) refl
     where
       given : Bool → Read
       given q = if q then read p n else Refused 11
@@ -207,13 +208,13 @@ module _ {k d : ℕ} {s base : Text} {from : ℕ} {m : Memory} {p : Parser} {n :
       told : Bool → State → Result Text
       told q = if q then (λ u. ok t u) else (λ u. refused 11)
 
-      go : (q : Bool) → leb n 16384 ≡ q → Refines k d s base from m (given q) (told (leb (length t) 16384) σ)
+      go : (q : Bool) → leb n most-text-bytes ≡ q → Refines k d s base from m (given q) (told (leb (length t) most-text-bytes) σ)
       go true e =
-          let l : length t ≤ 16384 = omega (arith, leb-true n 16384 e, h .size) in
-          by (ap (λ (q : Bool). told q σ) (le-leb (length t) 16384 l)) (reads (short-enough h l))
+          let l : length t ≤ most-text-bytes = omega (arith, leb-true n most-text-bytes e, h .size) in
+          by (ap (λ (q : Bool). told q σ) (le-leb (length t) most-text-bytes l)) (reads (short-enough h l))
       go false e =
-          let l : 16384 < length t = omega (arith, leb-false n 16384 e, h .size) in
-          by (ap (λ (q : Bool). told q σ) (lt-leb (length t) 16384 l)) refuses
+          let l : most-text-bytes < length t = omega (arith, leb-false n most-text-bytes e, h .size) in
+          by (ap (λ (q : Bool). told q σ) (lt-leb (length t) most-text-bytes l)) refuses
 
 -- ---------------------------------------------------------------- fewer bytes promised
 

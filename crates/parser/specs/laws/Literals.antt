@@ -14,6 +14,7 @@ use Rattle.grammar.specs.Tables.{suffixes}
 use Rattle.grammar.specs.Reader.{State, word-for}
 use Rattle.grammar.specs.Grammar.{literal}
 use Rattle.grammar.specs.laws.Text.{same→eq}
+use Rattle.grammar.specs.Limits.{most-text-bytes, most-entry-bytes, most-length}
 use Rattle.store.specs.Stack.{Tail, Cut, newest}
 use Rattle.store.specs.laws.Tails.{newest-is, top-size, dropped, replaced}
 use Rattle.store.specs.laws.Lists.{drop-take}
@@ -30,14 +31,14 @@ use Rattle.parser.specs.Literals.{kind-of, signed, truth-of}
 
 module _ {k d : ℕ} {s base : Text} {from : ℕ} {text store ends : List ℕ} {p : Parser} {n : ℕ} {a : Text} {σ : State} (h : Stands k d s base from (mem text store ends) p n a σ) where
   -- the newest text, read from the stack
-  pub stands-newest : length a ≤ 32768 → (n ≡ length a) × (n ≤ p .top) × (newest text (p .top) n ≡ a)
+  pub stands-newest : length a ≤ most-entry-bytes → (n ≡ length a) × (n ≤ p .top) × (newest text (p .top) n ≡ a)
   stands-newest l =
       let e : n ≡ length a = omega (arith, h .size) in
       let z = top-size (h .holds .text) in
       let w = newest-is base a (h .tail) (omega (arith, h .least)) in
       (e, omega (arith, w .0), ap (λ (m : ℕ). drop m (take (p .top) text)) {x = p .top - n} {y = length (take (p .top) text) - length a} (omega arith) ∙ w .1)
 
-  pub stands-size : (m : ℕ) → m ≡ min (length a) 65536 → Stands k d s base from (mem text store ends) p m a σ
+  pub stands-size : (m : ℕ) → m ≡ min (length a) most-length → Stands k d s base from (mem text store ends) p m a σ
   stands-size m e = record {
     holds = h .holds;
     tail = h .tail;
@@ -51,16 +52,16 @@ module _ {k d : ℕ} {s base : Text} {from : ℕ} {text store ends : List ℕ} {
 -- behind a text another was put, then the first once more, and the old one below went
 pub stands-turned :
     {k d : ℕ} {s base : Text} {from : ℕ} {text text₁ text₂ text₃ store ends : List ℕ} {p p₁ p₂ p₃ : Parser} {n : ℕ} {t x : Text} {σ : State} →
-    length t ≤ 16384 → length x ≤ 16384 → Stands k d s base from (mem text store ends) p n t σ → Puts text text₁ p p₁ x →
+    length t ≤ most-text-bytes → length x ≤ most-text-bytes → Stands k d s base from (mem text store ends) p n t σ → Puts text text₁ p p₁ x →
     Puts text₁ text₂ p₁ p₂ (take n (drop (p₁ .top - (n + length x)) text₁)) → Cuts text₂ text₃ p₂ p₃ n (n + length x) →
-    Stands k d s base from (mem text₃ store ends) p₃ (min (length (x ++ t)) 65536) (x ++ t) σ
+    Stands k d s base from (mem text₃ store ends) p₃ (min (length (x ++ t)) most-length) (x ++ t) σ
 stands-turned {k} {d} {s} {base} {from} {text} {text₁} {text₂} {text₃} {store} {ends} {p} {p₁} {p₂} {p₃} {n} {t} {x} {σ} l m h u v w =
-    let f : Stands k d s base from (mem text₁ store ends) p₁ (min (length (t ++ x)) 65536) (t ++ x) σ = stands-puts h u refl in
+    let f : Stands k d s base from (mem text₁ store ends) p₁ (min (length (t ++ x)) most-length) (t ++ x) σ = stands-puts h u refl in
     let e : n ≡ length t = omega (arith, h .size) in
     let y : length (t ++ x) ≡ length t + length x = length-append t x in
     let y' : length (x ++ t) ≡ n + length x = length-append x t ∙ omega arith in
     let (i, j, o) = stands-newest f (omega arith) in
-    let g : n + length x ≡ min (length (t ++ x)) 65536 = omega arith in
+    let g : n + length x ≡ min (length (t ++ x)) most-length = omega arith in
     let r : take n (drop (p₁ .top - (n + length x)) text₁) ≡ t =
     sym (take-take n (n + length x) (drop (p₁ .top - (n + length x)) text₁) (omega arith))
     ∙ ap (λ (m : ℕ). take n (take m (drop (p₁ .top - (n + length x)) text₁))) {x = n + length x} {y = p₁ .top - (p₁ .top - (n + length x))} (omega arith)
@@ -82,7 +83,7 @@ stands-turned {k} {d} {s} {base} {from} {text} {text₁} {text₂} {text₃} {st
 -- the newest text goes; it has no more than 18 bytes
 pub stands-bare :
     {k d : ℕ} {s base : Text} {from : ℕ} {text text' store ends : List ℕ} {p p' : Parser} {n : ℕ} {t : Text} {σ : State} →
-    length t ≤ 18 → 32768 ≤ k → Stands (k + 18) d s base from (mem text store ends) p n t σ → Cuts text text' p p' n 0 →
+    length t ≤ 18 → most-entry-bytes ≤ k → Stands (k + 18) d s base from (mem text store ends) p n t σ → Cuts text text' p p' n 0 →
     Stands k d s base from (mem text' store ends) p' 0 [] σ
 stands-bare {k} {d} {s} {base} {from} {text} {text'} {store} {ends} {p} {p'} {n} {t} {σ} l m h u =
     let e : n ≡ length t = omega (arith, h .size) in

@@ -10,6 +10,7 @@ use lib.Dec.{leb}
 use lib.ListN.{length, take, drop, length-append, length-drop}
 use lib.Seq.{drop-drop}
 use Rattle.grammar.specs.Text.{Text, b, if_then_else_, starts, run, digit, number}
+use Rattle.grammar.specs.Limits.{most-text-bytes}
 use Rattle.grammar.specs.Tables.{_⇒_}
 use Rattle.grammar.specs.Reader.{State, Result, ok, refused, Reader, onto, unfit, go-to, give, cases}
 use Rattle.grammar.specs.Grammar.{⟨source-name⟩, source-name, production, reading}
@@ -39,15 +40,15 @@ tagged pre k w = give (pre ++ (w ++ closers k))
 -- a text that is given as a part of a text that is given
 give-give : (pre y : Text) (k : ℕ) (σ : State) → onto (tagged pre k) (give y σ) ≡ give (pre ++ (y ++ closers k)) σ
 unfolding onto give tagged if_then_else_
-give-give pre y k σ = go (leb (length y) 16384) refl
+give-give pre y k σ = go (leb (length y) most-text-bytes) refl
   where
     told : Bool → Text → State → Result Text
     told q t = if q then (λ u. ok t u) else (λ _. refused 11)
 
-    go : (q : Bool) → leb (length y) 16384 ≡ q → onto (tagged pre k) (told q y σ) ≡ told (leb (length (pre ++ (y ++ closers k))) 16384) (pre ++ (y ++ closers k)) σ
+    go : (q : Bool) → leb (length y) most-text-bytes ≡ q → onto (tagged pre k) (told q y σ) ≡ told (leb (length (pre ++ (y ++ closers k))) most-text-bytes) (pre ++ (y ++ closers k)) σ
     go true e = refl
     go false e = ap (λ (q : Bool). told q (pre ++ (y ++ closers k)) σ)
-        (sym (lt-leb (length (pre ++ (y ++ closers k))) 16384 (omega (arith, leb-false (length y) 16384 e, length-append pre (y ++ closers k), length-append y (closers k)))))
+        (sym (lt-leb (length (pre ++ (y ++ closers k))) most-text-bytes (omega (arith, leb-false (length y) most-text-bytes e, length-append pre (y ++ closers k), length-append y (closers k)))))
 
 -- an identifier with a tag behind it
 abbrev with-tag : Text → Text → Reader Text

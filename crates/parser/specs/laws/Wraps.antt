@@ -14,6 +14,7 @@ use Rattle.grammar.specs.Tables.{_⇒_, Table}
 use Rattle.grammar.specs.Reader.{State, Reader, word-for}
 use Rattle.grammar.specs.Grammar.{at-slots}
 use Rattle.grammar.specs.laws.Text.{both}
+use Rattle.grammar.specs.Limits.{most-entry-bytes, most-length, kept-bytes}
 use Rattle.grammar.specs.Words.{spelled, word-of, Picks, Picked-inside, Inside}
 use Rattle.grammar.specs.declared.codes.Word.{Word}
 use Rattle.grammar.specs.declared.codes.Picked.{Picked}
@@ -38,20 +39,20 @@ pub reads-at : {f : Reader Text} {k : ℕ} {s : Text} {m m' : Memory} {p q : Par
 reads-at {f} {k} {s} {m} {m'} {p} {q} {r} e h = subst (λ (x : Parser). Reads f k (x .at) s m m' x r) e h
 
 -- so many bytes are there after a text was put
-pub puts-least : {text text' : Text} {p p' : Parser} {t : Text} → Stack text (p .top) → Puts text text' p p' t → min (p .top) 34816 + length t ≤ p' .top
+pub puts-least : {text text' : Text} {p p' : Parser} {t : Text} → Stack text (p .top) → Puts text text' p p' t → min (p .top) kept-bytes + length t ≤ p' .top
 puts-least {text} {text'} {p} {p'} {t} c u =
     let e = ap length (u .put .is) in
     let x = length-append (drop (u .put .lost) (take (p .top) text)) t in
     let y = length-drop (u .put .lost) (take (p .top) text) in
     omega (arith, top-size c, top-size (u .put .stack), u .put .most)
 
-pub puts-top : {text text' : Text} {p p' : Parser} {t : Text} (n : ℕ) → Stack text (p .top) → Puts text text' p p' t → n ≤ p .top → n ≤ 34816 → n + length t ≤ p' .top
+pub puts-top : {text text' : Text} {p p' : Parser} {t : Text} (n : ℕ) → Stack text (p .top) → Puts text text' p p' t → n ≤ p .top → n ≤ kept-bytes → n + length t ≤ p' .top
 puts-top n c u l m = omega (arith, puts-least c u)
 
 -- ---------------------------------------------------------------- a text more on the stack, and one in place of another
 
 module _ {k d : ℕ} {s base : Text} {from : ℕ} {text text₁ store ends : Text} {p p₁ : Parser} {n : ℕ} {t : Text} {σ : State} (h : Stands k d s base from (mem text store ends) p n t σ) where
-  pub stands-puts : {r : Text} {n₁ : ℕ} → Puts text text₁ p p₁ r → n₁ ≡ min (length (t ++ r)) 65536 → Stands k d s base from (mem text₁ store ends) p₁ n₁ (t ++ r) σ
+  pub stands-puts : {r : Text} {n₁ : ℕ} → Puts text text₁ p p₁ r → n₁ ≡ min (length (t ++ r)) most-length → Stands k d s base from (mem text₁ store ends) p₁ n₁ (t ++ r) σ
   stands-puts u e = record {
     holds = holds-puts u (h .holds);
     tail = tail-puts u base t (h .holds) (h .most) (h .tail);
@@ -63,7 +64,7 @@ module _ {k d : ℕ} {s base : Text} {from : ℕ} {text text₁ store ends : Tex
   }
 
   pub stands-replaced : {text₂ : Text} {p₂ : Parser} {r : Text} {n₁ : ℕ} → Puts text text₁ p p₁ r → Cuts text₁ text₂ p₁ p₂ n n₁
-      → length t ≡ n → length r ≡ n₁ → n ≤ n₁ → n ≤ 32768 → n₁ ≤ 65536 → Stands k d s base from (mem text₂ store ends) p₂ n₁ r σ
+      → length t ≡ n → length r ≡ n₁ → n ≤ n₁ → n ≤ most-entry-bytes → n₁ ≤ most-length → Stands k d s base from (mem text₂ store ends) p₂ n₁ r σ
   stands-replaced {text₂} {p₂} {r} {n₁} u v e f i j l =
       let w : Tail k (take (p .top) text) (base ++ (t ++ [])) = rw append-nil (h .tail) in
       let x : Cut text₁ text₂ (p₁ .top) (p₂ .top) (length t) (length r) = rw (e, f) (v .cut) in
@@ -80,7 +81,7 @@ module _ {k d : ℕ} {s base : Text} {from : ℕ} {text text₁ store ends : Tex
 -- the newest bytes, as the stack's functions take them
 pub newest-text :
     {k d : ℕ} {s base : Text} {from : ℕ} {m : Memory} {p : Parser} {n : ℕ} {t : Text} {σ : State} →
-    Stands k d s base from m p n t σ → length t ≤ 32768 → newest (m .text) (p .top) n ≡ t
+    Stands k d s base from m p n t σ → length t ≤ most-entry-bytes → newest (m .text) (p .top) n ≡ t
 newest-text {base = base} {m = m} {p = p} {n = n} {t = t} h l =
     let z : length (take (p .top) (m .text)) ≡ p .top = top-size (h .holds .text) in
     ap (λ (j : ℕ). drop j (take (p .top) (m .text))) {x = p .top - n} {y = length (take (p .top) (m .text)) - length t} (omega (arith, h .size)) ∙ newest-is base t (h .tail) (omega (arith, h .least)) .1
@@ -91,7 +92,7 @@ newest-size {text} {top} n h l = omega (arith, length-drop (top - n) (take top t
 -- the newest text's front and end
 pub below-text :
     {k d : ℕ} {s base : Text} {from : ℕ} {m : Memory} {p : Parser} {n : ℕ} (x y : Text) {σ : State} →
-    Stands k d s base from m p n (x ++ y) σ → length (x ++ y) ≤ 32768 → below-newest (m .text) (p .top) (length y) (length x) ≡ x
+    Stands k d s base from m p n (x ++ y) σ → length (x ++ y) ≤ most-entry-bytes → below-newest (m .text) (p .top) (length y) (length x) ≡ x
 below-text {m = m} {p = p} {n = n} x y h l =
     let e : n ≡ length x + length y = omega (arith, h .size, length-append x y) in
     let i : n ≤ p .top = omega (arith, newest-part h l .0) in
@@ -103,7 +104,7 @@ below-text {m = m} {p = p} {n = n} x y h l =
 
 pub end-text :
     {k d : ℕ} {s base : Text} {from : ℕ} {m : Memory} {p : Parser} {n : ℕ} (x y : Text) {σ : State} →
-    Stands k d s base from m p n (x ++ y) σ → length (x ++ y) ≤ 32768 → newest (m .text) (p .top) (length y) ≡ y
+    Stands k d s base from m p n (x ++ y) σ → length (x ++ y) ≤ most-entry-bytes → newest (m .text) (p .top) (length y) ≡ y
 end-text {m = m} {p = p} {n = n} x y h l =
     let e : n ≡ length x + length y = omega (arith, h .size, length-append x y) in
     let i : n ≤ p .top = omega (arith, newest-part h l .0) in
@@ -114,7 +115,7 @@ end-text {m = m} {p = p} {n = n} x y h l =
 
 -- a text that is put on the stack is kept besides what was kept
 put-tail-more :
-    {k : ℕ} {text text' full : Text} {top top' : ℕ} (t : Text) → Stack text top → k ≤ 34816 → Put text text' top top' t
+    {k : ℕ} {text text' full : Text} {top top' : ℕ} (t : Text) → Stack text top → k ≤ kept-bytes → Put text text' top top' t
     → Tail k (take top text) full → Tail (k + length t) (take top' text') (full ++ t)
 put-tail-more {k} {text} {text'} {full} {top} t c l p h =
     let s = size h in
@@ -132,7 +133,7 @@ put-tail-more {k} {text} {text'} {full} {top} t c l p h =
 
 -- the front of the newest text once more behind it and w, and away from where it was
 module _ {k d : ℕ} {s base : Text} {from : ℕ} {text text₁ store ends : Text} {p p₁ : Parser} {n c m : ℕ} (x y w : Text) {σ : State} (h : Stands k d s base from (mem text store ends) p n (x ++ y) σ)
-    (e : length x ≡ c) (f : length y ≡ m) (g : length w ≡ 1) (i : c + m ≤ 32768) (u : Puts text text₁ p p₁ w) where
+    (e : length x ≡ c) (f : length y ≡ m) (g : length w ≡ 1) (i : c + m ≤ most-entry-bytes) (u : Puts text text₁ p p₁ w) where
   spaced : Tail (k + 1) (take (p₁ .top) text₁) (base ++ (x ++ (y ++ w)))
   spaced = rw g at (simp append-assoc at (put-tail-more w (h .holds .text) (h .most) (u .put) (h .tail)))
 
@@ -153,7 +154,7 @@ module _ {k d : ℕ} {s base : Text} {from : ℕ} {text text₁ store ends : Tex
       let a : Puts text₁ text₂ p₁ p₂ x = rw front at v in
       let z : length (y ++ w ++ x) ≡ m + 1 + c = simp length-append (omega arith) in
       let r : Cut text₂ text₃ (p₂ .top) (p₃ .top) (length x) (length (y ++ w ++ x)) = rw (e, z) (o .cut) in
-      let j : ℕ = min (k + 1) 34816 in
+      let j : ℕ = min (k + 1) kept-bytes in
       record {
         holds = holds-cuts o (holds-puts a (holds-puts u (h .holds)));
         tail =

@@ -7,6 +7,7 @@ use Prim.Native.Nat.{ℕ, _+_, _≤_, _<_, min}
 use native.Mathlib.Omega.{arith}
 use lib.ListN.{length, take, drop, length-append}
 use Rattle.grammar.specs.Text.{Text, b, choose, join, starts}
+use Rattle.grammar.specs.Limits.{most-entry-bytes, most-length}
 use Rattle.grammar.specs.Reader.{State, Result, ok, refused, Reader, onto, unfit, see, set-args, set-templated, push-sub}
 use Rattle.grammar.specs.Grammar.{reading, ⟨template-args⟩, last, onto-last}
 use Rattle.grammar.specs.Grammar as g
@@ -87,7 +88,7 @@ pub argued-parts :
     {s base text store ends : Text} {from : ℕ} {m' : Memory} {p r p' : Parser} {q : Parts} {m : ℕ} {ps : g.Parts} {a : Text} {σ τ : State} →
     Parted (keep (p .depth)) (p .depth) s base from (mem text store ends) p q ps σ → r ≡ args-to p 0 0 →
     Wrote (keep (r .depth + 1)) (r .depth) s (take (r .top) text) (r .at + 1) m' p' m a τ → 0 < length (ps .texts) →
-    (n l : ℕ) → n ≡ min (q .n + m) 65536 → l ≡ min (q .last + m) 65536 →
+    (n l : ℕ) → n ≡ min (q .n + m) most-length → l ≡ min (q .last + m) most-length →
     Parted (keep (p .depth)) (p .depth) s base (p .at + 1) m' p' (record { n = n; last = l; count = 1; structor = q .structor }) (argued ps a) τ
 argued-parts {s} {base} {text} {store} {ends} {from} {m'} {p} {r} {p'} {q} {m} {ps} {a} {σ} {τ} h e w z n l f g =
     let c = h .stands in
@@ -99,7 +100,7 @@ argued-parts {s} {base} {text} {store} {ends} {from} {m'} {p} {r} {p'} {q} {m} {
       stands = stands-sized n y refl (omega (arith, f, y .size));
       alike = rw (joined-args a (ps .texts) z) (alike-append a (h .alike));
       final = λ i.
-          let j : length (join (b "::") (ps .texts)) + length a ≤ 32768 = omega (arith, ap length (joined-args a (ps .texts) z), length-append (join (b "::") (ps .texts)) a) in
+          let j : length (join (b "::") (ps .texts)) + length a ≤ most-entry-bytes = omega (arith, ap length (joined-args a (ps .texts) z), length-append (join (b "::") (ps .texts)) a) in
           let o : length (h .shown) ≡ length (join (b "::") (ps .texts)) = ap length (shown-is (λ _ x. omega (arith, x, j)) (h .alike)) in
           rw (last-args a (ps .texts) z) (simp length-append (omega (arith, g, h .final (omega arith), h .within, c .size, w .size)));
       within = omega (arith, f, g, h .within);

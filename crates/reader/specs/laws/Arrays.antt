@@ -8,6 +8,7 @@ use borrow.Author.Tests.{ne-eqb, not-false}
 use lib.Dec.{eqb}
 use lib.ListN.{length, take, drop, length-append}
 use Rattle.grammar.specs.Text.{Text, b, holds, run, if_then_else_}
+use Rattle.grammar.specs.Limits.{most-text-bytes}
 use Rattle.grammar.specs.Reader.{State, refused, Reader, onto, every, need, give}
 use Rattle.grammar.specs.Grammar.{reading, ⟨type⟩}
 use Rattle.grammar.specs.Grammar as g
@@ -83,7 +84,7 @@ part-size {s} {p = p} h to l = length-part s (p .at) to l
 
 pub array-given :
     {k d : ℕ} {s base : Text} {from : ℕ} {text text₁ text₂ text₃ store ends : Text} {p p₁ p₂ p₃ : Parser} {n : ℕ} {t : Text} {σ : State} {j : ℕ} {r : Read} (v : Text) →
-    Stands k d s base from (mem text store ends) p n t σ → length t ≤ 16384 → length v ≤ 16384 →
+    Stands k d s base from (mem text store ends) p n t σ → length t ≤ most-text-bytes → length v ≤ most-text-bytes →
     Puts text text₁ p p₁ (32 ∷ 91 ∷ []) → Puts text₁ text₂ p₁ p₂ v → Puts text₂ text₃ p₂ p₃ (93 ∷ []) →
     j ≡ n + 3 + length v → r ≡ given-of p₃ j →
     Refines k d s base from (mem text₃ store ends) r (sized v t σ)

@@ -9,6 +9,7 @@ use lib.Dec.{eqb, leb}
 use lib.ListN.{length, take, drop, getD, length-append}
 use lib.Seq.{getD-take, getD-drop, getD-append-add}
 use Rattle.grammar.specs.Text.{Text, b, if_then_else_, starts, ends, join}
+use Rattle.grammar.specs.Limits.{most-open, most-text-bytes, most-length, kept-bytes}
 use Rattle.grammar.specs.Reader.{State, Result, ok, Reader, onto, return, refuse, give}
 use Rattle.grammar.specs.Grammar as g
 use Rattle.grammar.specs.laws.Loops.{closed}
@@ -25,22 +26,22 @@ use Rattle.reader.specs.laws.Closes.{closed-yes, behind-is, then-ok}
 
 pub bracket-stands :
     {s text text' store ends : List ℕ} {m'' : Memory} (p : Parser) {q r o last mv next : Parser} {at end n : ℕ} {t : Text} {ρ τ : State} →
-    r ≡ deeper q → q ≡ moved-to p at → p .depth < 96 → Holds s (mem text store ends) r ρ → Puts text text' r o (60 ∷ []) →
+    r ≡ deeper q → q ≡ moved-to p at → p .depth < most-open → Holds s (mem text store ends) r ρ → Puts text text' r o (60 ∷ []) →
     Stands (keep (o .depth)) (o .depth) s (take (o .top) text') (o .at) m'' last n t τ →
     mv ≡ moved-to last end → next ≡ at-depth mv (p .depth) → last .at ≤ end → end ≤ length s →
-    Stands (keep (p .depth + 1)) (p .depth) s (take (p .top) text) at m'' next (min (length (60 ∷ t)) 65536) (60 ∷ t) (at-level (p .depth) (moved (drop end s) τ))
+    Stands (keep (p .depth + 1)) (p .depth) s (take (p .top) text) at m'' next (min (length (60 ∷ t)) most-length) (60 ∷ t) (at-level (p .depth) (moved (drop end s) τ))
 bracket-stands {s} {text} {text'} {store} {ends} {m''} p {q} {r} {o} {last} {mv} {next} {at} {end} {n} {t} {ρ} {τ} e f d h u w g i l k =
     let x : r ≡ deeper (moved-to p at) = e ∙ ap deeper f in
     let y : o .depth ≡ p .depth + 1 = ap (λ (z : Parser). z .depth) (u .same) ∙ ap (λ (z : Parser). z .depth) x in
     let a : Tail (keep (o .depth)) (take (o .top) text') (take (r .top) text ++ (60 ∷ [])) =
-    weaken (omega (arith, y)) (put-tail (60 ∷ []) (h .text) (omega arith) (u .put) (whole 34816 (take (r .top) text))) in
+    weaken (omega (arith, y)) (put-tail (60 ∷ []) (h .text) (omega arith) (u .put) (whole kept-bytes (take (r .top) text))) in
     let v : Tail (keep (o .depth)) (take (last .top) (m'' .text)) (take (r .top) text ++ (60 ∷ t)) = both (take (r .top) text) (60 ∷ []) t a (w .tail) in
     let v' : Tail (keep (p .depth + 1)) (take (last .top) (m'' .text)) (take (r .top) text ++ (60 ∷ t)) =
     subst (λ (z : ℕ). Tail (keep z) (take (last .top) (m'' .text)) (take (r .top) text ++ (60 ∷ t))) y v in
     let v'' : Tail (keep (p .depth + 1)) (take (last .top) (m'' .text)) (take (p .top) text ++ (60 ∷ t)) =
     subst (λ (z : ℕ). Tail (keep (p .depth + 1)) (take (last .top) (m'' .text)) (take z text ++ (60 ∷ t))) (ap (λ (z : Parser). z .top) x) v' in
     let j : next ≡ at-depth (moved-to last end) (p .depth) = i ∙ ap (λ (z : Parser). at-depth z (p .depth)) g in
-    subst (λ (z : Parser). Stands (keep (p .depth + 1)) (p .depth) s (take (p .top) text) at m'' z (min (length (60 ∷ t)) 65536) (60 ∷ t) (at-level (p .depth) (moved (drop end s) τ))) (sym j) (record {
+    subst (λ (z : Parser). Stands (keep (p .depth + 1)) (p .depth) s (take (p .top) text) at m'' z (min (length (60 ∷ t)) most-length) (60 ∷ t) (at-level (p .depth) (moved (drop end s) τ))) (sym j) (record {
       holds = holds-depth (holds-moved (w .holds) end k) (p .depth) (omega arith);
       tail = v'';
       size = refl;
@@ -85,7 +86,7 @@ module _ (ts : List Text) where
 
 give-level : (t : Text) (d : ℕ) (σ : State) → onto (λ t u. ok t (at-level d u)) (give t σ) ≡ give t (at-level d σ)
 unfolding give onto if_then_else_
-give-level t d σ = go (leb (length t) 16384)
+give-level t d σ = go (leb (length t) most-text-bytes)
   where
     go : (q : Bool) → onto (λ t u. ok t (at-level d u)) (if_then_else_ {A = Reader Text} q (return t) (refuse 11) σ) ≡ if_then_else_ {A = Reader Text} q (return t) (refuse 11) (at-level d σ)
     go true = refl

@@ -8,6 +8,7 @@ use Prim.Native.Char.{code}
 use lib.ListN.{length, drop}
 use lib.Seq.{drop-drop}
 use Rattle.grammar.specs.Text.{Text, b, choose, join, starts}
+use Rattle.grammar.specs.Limits.{most-open}
 use Rattle.grammar.specs.Reader.{State, Result, ok, refused, Reader, onto, return, go-to, give, entered, up-to-E, one-more}
 use Rattle.grammar.specs.Grammar.{reading, ⟨type⟩, ⟨template-args⟩, ⟨template-arg⟩, ⟨expr-primary⟩, skipped}
 use Rattle.grammar.specs.Grammar as g
@@ -148,11 +149,11 @@ module _ (s : Text) (at : ℕ) (σ : State) (e : σ .rest ≡ drop at s) where
   unfolding b onto g.production g.template-args
   args-in h = reading-is ⟨template-args⟩ σ ∙ ap (onto (λ _. entered bracketed)) (need-yes "I" σ h) ∙ ap (entered bracketed) (behind-is s at σ e)
 
-  pub args-8 : starts (σ .rest) (73 ∷ []) ≡ true → 96 ≤ σ .depth → reading ⟨template-args⟩ σ ≡ refused 8
+  pub args-8 : starts (σ .rest) (73 ∷ []) ≡ true → most-open ≤ σ .depth → reading ⟨template-args⟩ σ ≡ refused 8
   args-8 h d = args-in h ∙ entered-8 bracketed (moved (drop (at + 1) s) σ) d
 
   pub args-is :
-      starts (σ .rest) (73 ∷ []) ≡ true → σ .depth < 96 →
+      starts (σ .rest) (73 ∷ []) ≡ true → σ .depth < most-open →
       reading ⟨template-args⟩ σ ≡ onto (λ t u. ok t (at-level (σ .depth) u)) (onto (λ ts. give (g.angled ts)) (onto closed (looped Arguments [] (at-level (σ .depth + 1) (moved (drop (at + 1) s) σ)))))
   args-is h d =
       args-in h
@@ -160,6 +161,6 @@ module _ (s : Text) (at : ℕ) (σ : State) (e : σ .rest ≡ drop at s) where
       ∙ ap (λ (x : Result (List Text)). onto (λ t u. ok t (at-level (σ .depth) u)) (onto (λ ts. give (g.angled ts)) x)) (up-arguments (at-level (σ .depth + 1) (moved (drop (at + 1) s) σ)))
 
 pub args-open :
-    {s : Text} {m : Memory} {p q r : Parser} {at : ℕ} {σ : State} → r ≡ deeper q → q ≡ moved-to p at → p .depth < 96 → at ≤ length s → Holds s m p σ →
+    {s : Text} {m : Memory} {p q r : Parser} {at : ℕ} {σ : State} → r ≡ deeper q → q ≡ moved-to p at → p .depth < most-open → at ≤ length s → Holds s m p σ →
     Holds s m r (at-level (σ .depth + 1) (moved (drop at s) σ))
 args-open {at = at} e f d l h = by-state (e ∙ ap deeper f) (holds-entered (holds-moved h at l) d)

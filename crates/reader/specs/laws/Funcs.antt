@@ -11,6 +11,7 @@ use Rattle.grammar.specs.Reader.{State, ok, Reader, onto, recorded, up-to-E, on
 use Rattle.grammar.specs.Grammar.{reading, ⟨type⟩, slot, only-void}
 use Rattle.grammar.specs.Grammar as g
 use Rattle.grammar.specs.laws.Text.{same→eq}
+use Rattle.grammar.specs.Limits.{most-open, most-text-bytes, most-entry-bytes, most-length}
 use Rattle.grammar.specs.laws.Loops.{closed}
 use Rattle.store.specs.Stack.{Tail, Cut, newest}
 use Rattle.store.specs.laws.Tails.{size, dropped}
@@ -43,18 +44,18 @@ module _ (σ : State) where
 
 pub func-stands :
     {d : ℕ} {s base : Text} {from : ℕ} {text text' store ends : Text} {m : Memory} {q o last : Parser} {r n : ℕ} {t u : Text} {τ ρ : State} →
-    Wrote (keep (d + 1)) d s base from (mem text store ends) q r t τ → Puts text text' q o opening → d ≤ 96 →
+    Wrote (keep (d + 1)) d s base from (mem text store ends) q r t τ → Puts text text' q o opening → d ≤ most-open →
     Stands (keep (o .depth + 1)) (o .depth) s (window (mem text' store ends) o) (o .at) m last n u ρ →
-    Stands (keep (d + 1)) d s base from m last (min (r + (5 + n)) 65536) (t ++ (opening ++ u)) ρ
+    Stands (keep (d + 1)) d s base from m last (min (r + (5 + n)) most-length) (t ++ (opening ++ u)) ρ
 func-stands w v l z = stands-behind (stands w (omega arith) (omega arith)) v z (omega (arith, ap (λ (y : Parser). y .depth) (v .same), w .level)) (omega (arith, ap (λ (y : Parser). y .at) (v .same), w .more))
 
 pub func-ended :
     {d : ℕ} {s base : Text} {from : ℕ} {m m' : Memory} {p : Parser} {r n count : ℕ} {x : Read} {σ : State} (t : Text) (ts : List Text) →
-    FuncEnd m m' p r n count x → Stands (keep (d + 1)) d s base from m p (min (r + (5 + n)) 65536) (t ++ (opening ++ join (b ", ") ts)) σ →
-    r ≡ length t → n ≡ min (length (join (b ", ") ts)) 65536 → count ≡ length ts →
+    FuncEnd m m' p r n count x → Stands (keep (d + 1)) d s base from m p (min (r + (5 + n)) most-length) (t ++ (opening ++ join (b ", ") ts)) σ →
+    r ≡ length t → n ≡ min (length (join (b ", ") ts)) most-length → count ≡ length ts →
     Refines (keep d) d s base from m' x (recorded (function-text t ts) σ)
 func-ended {d} {s} {base} {from} {m} {m'} {p} {r} {n} {count} {x} {σ} t ts h w e f i =
-    subst (λ (j : ℕ). Stands (keep (j + 1)) j s base from m p (min (r + (5 + n)) 65536) (t ++ (opening ++ join (b ", ") ts)) σ → Refines (keep j) j s base from m' x (recorded (function-text t ts) σ)) (w .level)
+    subst (λ (j : ℕ). Stands (keep (j + 1)) j s base from m p (min (r + (5 + n)) most-length) (t ++ (opening ++ join (b ", ") ts)) σ → Refines (keep j) j s base from m' x (recorded (function-text t ts) σ)) (w .level)
     (λ v. h s base from t ts σ v e f i) w
 
 -- ---------------------------------------------------------------- the text, as it is put together
@@ -103,14 +104,15 @@ not-only (t ∷ u ∷ ts) h = refl
 
 -- the newest text has four bytes, and it goes
 module _ {k d : ℕ} {s base : Text} {from : ℕ} {text store ends : Text} {p : Parser} {n : ℕ} {σ : State} (t u : Text)
-    (h : Stands k d s base from (mem text store ends) p n (t ++ (opening ++ u)) σ) (l : length t ≤ 16384) (e : length u ≡ 4) where
+    (h : Stands k d s base from (mem text store ends) p n (t ++ (opening ++ u)) σ) (l : length t ≤ most-text-bytes) (e : length u ≡ 4) where
   apart : Stands k d s base from (mem text store ends) p n ((t ++ opening) ++ u) σ
   apart = subst (λ (y : Text). Stands k d s base from (mem text store ends) p n y σ) (sym (append-assoc t opening u)) h
 
   pub newest-four : newest text (p .top) 4 ≡ u
   newest-four = ap (newest text (p .top)) (sym e) ∙ end-text (t ++ opening) u apart (omega (arith, length-append (t ++ opening) u, length-append t opening))
 
-  pub stands-without : (j : ℕ) {text' : Text} {p' : Parser} → 32768 ≤ j → j + 4 ≤ k → Cuts text text' p p' 4 0 → Stands j d s base from (mem text' store ends) p' (length t + 5) (t ++ opening) σ
+  pub stands-without : (j : ℕ) {text' : Text} {p' : Parser} → most-entry-bytes ≤ j → j + 4 ≤ k → Cuts text text' p p' 4 0
+      → Stands j d s base from (mem text' store ends) p' (length t + 5) (t ++ opening) σ
   stands-without j {text'} {p'} i o c =
       let a : Text = base ++ (t ++ opening) in
       let w : Tail k (take (p .top) text) (a ++ (u ++ [])) =

@@ -7,6 +7,7 @@ use native.Mathlib.Omega.{arith}
 use lib.ListN.{length, take, drop, length-append, length-drop}
 use lib.Seq.{drop-drop}
 use Rattle.grammar.specs.Text.{Text, b, if_then_else_, same, starts, join}
+use Rattle.grammar.specs.Limits.{most-open, most-text-bytes, most-entry-bytes, most-length, kept-bytes}
 use Rattle.grammar.specs.Reader.{State, Result, ok, refused, Reader, onto, return, push-arg, while, one-more}
 use Rattle.grammar.specs.Grammar.{reading, ⟨type⟩, ⟨template-arg⟩, ended}
 use Rattle.grammar.specs.laws.Places.{starts-byte}
@@ -96,7 +97,7 @@ on-byte Arguments c {t} {u} e f = rw e (ap not (starts-byte c 69 u ∙ f))
 
 -- ---------------------------------------------------------------- the list so far
 
-pub kept-bounds : (kind : Kind) (d : ℕ) → d ≤ 96 → (32768 ≤ kept-by kind d) × (kept-by kind d ≤ 34816)
+pub kept-bounds : (kind : Kind) (d : ℕ) → d ≤ most-open → (most-entry-bytes ≤ kept-by kind d) × (kept-by kind d ≤ kept-bytes)
 kept-bounds Parameters d h = (omega arith, omega arith)
 kept-bounds Types d h = (omega arith, omega arith)
 kept-bounds Arguments d h = (omega arith, omega arith)
@@ -155,7 +156,7 @@ pub listed-more :
     {kind : Kind} {s : Text} {m₀ : Memory} {p₀ : Parser} {text text' store ends : List ℕ} {m'' : Memory} {p q p'' : Parser} {n count x n' : ℕ} {σ₀ : State}
     (l : Listed kind s m₀ p₀ (mem text store ends) p n count σ₀) → Puts text text' p q (before-text count) → goes-on kind (l .state .rest) ≡ true →
     Got (kept-by kind (q .depth)) (q .depth) s (take (q .top) text') (q .at + 1) m'' p'' x (item-of kind (l .state)) →
-    n' ≡ min (n + (2 * min count 1 + x)) 65536 → Listed kind s m₀ p₀ m'' p'' n' (count + 1) σ₀
+    n' ≡ min (n + (2 * min count 1 + x)) most-length → Listed kind s m₀ p₀ m'' p'' n' (count + 1) σ₀
 listed-more {kind} {s} {m₀} {p₀} {text} {text'} {store} {ends} {m''} {p} {q} {p''} {n} {count} {x} {n'} {σ₀} l u i h e =
     let d : q .depth ≡ p₀ .depth = ap (λ (z : Parser). z .depth) (u .same) ∙ l .stands .level in
     let t : Text = h .said in
@@ -175,16 +176,16 @@ listed-more {kind} {s} {m₀} {p₀} {text} {text'} {store} {ends} {m''} {p} {q}
 -- a comma was put behind n bytes, if there was a text before
 pub record Spaced (text text' : Text) (p p' : Parser) (n n' count : ℕ) : Type 0 where
   pub puts : Puts text text' p p' (before-text count)
-  pub size : n' ≡ min (n + 2 * min count 1) 65536
+  pub size : n' ≡ min (n + 2 * min count 1) most-length
 
 pub spaced-some :
-    {text text' text'' : Text} {p p' p'' : Parser} {n n' n'' count : ℕ} → 0 < count → Puts text text' p p' (44 ∷ 32 ∷ []) → n' ≡ min (n + 2) 65536 →
+    {text text' text'' : Text} {p p' p'' : Parser} {n n' n'' count : ℕ} → 0 < count → Puts text text' p p' (44 ∷ 32 ∷ []) → n' ≡ min (n + 2) most-length →
     text'' ≡ text' → p'' ≡ p' → n'' ≡ n' → Spaced text text'' p p'' n n'' count
 unfolding b
 spaced-some {count = count} l u e f g h = rw (f, g, h) (record { puts = puts-some (b ", ") count l u; size = omega arith })
 
 pub spaced-none :
-    {text text'' : Text} {p p'' : Parser} {n n'' count : ℕ} → count ≤ 0 → Stack text (p .top) → n ≤ 65536 →
+    {text text'' : Text} {p p'' : Parser} {n n'' count : ℕ} → count ≤ 0 → Stack text (p .top) → n ≤ most-length →
     text'' ≡ text → p'' ≡ p → n'' ≡ n → Spaced text text'' p p'' n n'' count
 spaced-none {text} {p = p} {count = count} l c e f g h =
     rw (f, g, h) (record {
@@ -199,8 +200,8 @@ pub record Listing (kind : Kind) (s : Text) (m₀ : Memory) (p₀ : Parser) (m :
   pub ends-same : length (m .ends) ≡ length (m₀ .ends)
   pub far : p₀ .at + count ≤ p .at
   pub inside : p .at ≤ length s
-  pub short : length s ≤ 16384
-  pub small : n ≤ 65536
+  pub short : length s ≤ most-text-bytes
+  pub small : n ≤ most-length
   pub so-far : (σ₀ : State) → Holds s m₀ p₀ σ₀ → Listed kind s m₀ p₀ m p n count σ₀
 
 pub listing-start : (kind : Kind) {s : Text} {m : Memory} {p : Parser} {σ : State} → Holds s m p σ → Listing kind s m p m p 0 0
@@ -220,7 +221,7 @@ pub listing-more :
     Listing kind s m₀ p₀ (mem text store ends) p n count → Holds s m₀ p₀ σ → Spaced text text' p q n j count →
     peeked (drop (p .at) s) ≡ peeked-as.Byte c → stops-at kind c ≡ false → r ≡ read p'' x →
     Reads (item-of kind) (kept-by kind (q .depth)) (q .at + 1) s (mem text' store ends) m'' q r →
-    n' ≡ min (j + x) 65536 → Listing kind s m₀ p₀ m'' p'' n' (count + 1)
+    n' ≡ min (j + x) most-length → Listing kind s m₀ p₀ m'' p'' n' (count + 1)
 listing-more {kind} {s} {m₀} {p₀} {text} {text'} {store} {ends} {m''} {p} {q} {p''} {n} {j} {count} {x} {n'} {c} {r} {σ} i h u e f g k o =
     let l = i .so-far σ h in
     let w = got g (k (l .state) (holds-puts (u .puts) (l .stands .holds))) in

@@ -9,6 +9,7 @@ use borrow.Author.Tests.{eq-eqb, ne-eqb, lt-leb}
 use lib.Dec.{eqb, leb}
 use lib.ListN.{length, take, drop, length-append}
 use Rattle.grammar.specs.Text.{Text, b, choose, join, starts, holds, digit, digit-value, if_then_else_}
+use Rattle.grammar.specs.Limits.{most-entries, most-entry-bytes, most-length}
 use Rattle.grammar.specs.Reader.{State, Result, ok, refused, Reader, onto, see, bytes-of, fits, push-sub, find, at-code}
 use Rattle.grammar.specs.Grammar.{reading, Production, ⟨template-param⟩, ⟨unqualified-name⟩, ⟨source-name⟩, ⟨substitution⟩, last, digit-ahead, structor-ahead}
 use Rattle.grammar.specs.Grammar as g
@@ -50,7 +51,7 @@ pub alike-append : {u t : Text} (v : Text) → Alike u t → Alike (u ++ v) (t +
 alike-append v (same-text e) = same-text (ap (λ (y : Text). y ++ v) e)
 alike-append {u} {t} v (both-long i j) = both-long (omega (arith, length-append u v)) (omega (arith, length-append t v))
 
-pub shown-is : {u t : Text} → (32768 < length u → 32768 < length t → ⊥) → Alike u t → u ≡ t
+pub shown-is : {u t : Text} → (most-entry-bytes < length u → most-entry-bytes < length t → ⊥) → Alike u t → u ≡ t
 shown-is n (same-text e) = e
 shown-is n (both-long i j) = absurd (n i j)
 
@@ -115,11 +116,11 @@ pushed-on {k} {d} {n} {i} {s} {base} {from} {m} {m'} {p} {p'} {q} {ps} {σ} {r} 
 
 -- ---------------------------------------------------------------- what an entry and an answer tell of the parts
 
-long-unfit : (l : List Text) (t : Text) → 32768 < length t → fits (l ++ (t ∷ [])) ≡ false
+long-unfit : (l : List Text) (t : Text) → most-entry-bytes < length t → fits (l ++ (t ∷ [])) ≡ false
 unfolding fits
-long-unfit l t i = ap (λ (q : Bool). leb (length (l ++ (t ∷ []))) 1024 && q) (lt-leb (bytes-of (l ++ (t ∷ []))) 32768 (omega (arith, bytes-append l (t ∷ []), bytes-one t))) ∙ and-false (leb (length (l ++ (t ∷ []))) 1024)
+long-unfit l t i = ap (λ (q : Bool). leb (length (l ++ (t ∷ []))) most-entries && q) (lt-leb (bytes-of (l ++ (t ∷ []))) most-entry-bytes (omega (arith, bytes-append l (t ∷ []), bytes-one t))) ∙ and-false (leb (length (l ++ (t ∷ []))) most-entries)
 
-pub push-long : (t : Text) (σ : State) → 32768 < length t → push-sub t σ ≡ refused 9
+pub push-long : (t : Text) (σ : State) → most-entry-bytes < length t → push-sub t σ ≡ refused 9
 unfolding push-sub onto if_then_else_
 push-long t σ i = rw (long-unfit (σ .subs) t i)
 
@@ -153,11 +154,11 @@ module _ (ps : g.Parts) (x : Text) (τ : State) where
 
 pub more-top :
     {k d : ℕ} {s text text₁ : Text} {from : ℕ} {m' : Memory} {p p₁ p' : Parser} (q : Parts) {m : ℕ} {x : Text} {τ : State} →
-    Stack text (p .top) → Puts text text₁ p p₁ (before-part (q .count)) → Wrote k d s (take (p₁ .top) text₁) from m' p' m x τ → 32768 ≤ k →
-    min (q .n) 32768 ≤ p .top → min (min (q .n + (2 * min (q .count) 1 + m)) 65536) 32768 ≤ p' .top
+    Stack text (p .top) → Puts text text₁ p p₁ (before-part (q .count)) → Wrote k d s (take (p₁ .top) text₁) from m' p' m x τ → most-entry-bytes ≤ k →
+    min (q .n) most-entry-bytes ≤ p .top → min (min (q .n + (2 * min (q .count) 1 + m)) most-length) most-entry-bytes ≤ p' .top
 more-top q c u w l i =
-    let a = puts-top (min (q .n) 32768) c u i (omega arith) in
-    omega (arith, wrote-least (u .put .stack) w l (min (q .n) 32768 + length (before-part (q .count))) (omega (arith, a)), colons-size (q .count))
+    let a = puts-top (min (q .n) most-entry-bytes) c u i (omega arith) in
+    omega (arith, wrote-least (u .put .stack) w l (min (q .n) most-entry-bytes + length (before-part (q .count))) (omega (arith, a)), colons-size (q .count))
 
 -- the parts that a function hands back
 pub parted-as : {k d : ℕ} {s base : Text} {from : ℕ} {m : Memory} {p : Parser} {q q' : Parts} {ps : g.Parts} {σ : State} → q' ≡ q → Parted k d s base from m p q ps σ → Parted k d s base from m p q' ps σ

@@ -8,6 +8,7 @@ use borrow.Author.Tests.{not-false}
 use lib.Dec.{eqb}
 use lib.ListN.{length, take, drop, getD, length-append}
 use Rattle.grammar.specs.Text.{Text, b, starts, run}
+use Rattle.grammar.specs.Limits.{most-text-bytes}
 use Rattle.grammar.specs.Tables.{_⇒_}
 use Rattle.grammar.specs.Reader.{State, ok, refused, Reader, onto, give, by-code, eat, need, every}
 use Rattle.grammar.specs.Grammar.{reading, production, expr-primary, literal, local-name, local-encoding, ⟨expr-primary⟩, ⟨name⟩, ⟨type⟩}
@@ -155,11 +156,11 @@ module _ {s : Text} {m : Memory} {p q : Parser} {σ : State} (h : Holds s m p σ
           E-ahead x = starts-one s to 69 x ∙ not-false _ (subst (λ (j : ℕ). not-E (getD s j 0) ≡ false) (sym (o .0)) (run-stops not-E s (next .at) (omega (arith, o .0))))
 
           pub lit-ready : to < length s → {next' : Parser} → next' ≡ moved-to next (to + 1)
-              → (Stack (m' .text) (next' .top)) × ((n ≤ next' .top) × ((n ≤ 16384) × ((next .at ≤ to) × ((to ≤ length s) × (length s ≤ 16384)))))
+              → (Stack (m' .text) (next' .top)) × ((n ≤ next' .top) × ((n ≤ most-text-bytes) × ((next .at ≤ to) × ((to ≤ length s) × (length s ≤ most-text-bytes)))))
           lit-ready x {next'} z =
               let w = lit-type-got .wrote in
               let a = newest-part (stands w (omega arith) (omega (arith, h .deep))) (omega (arith, w .short)) .0 in
-              subst (λ (v : Parser). (Stack (m' .text) (v .top)) × ((n ≤ v .top) × ((n ≤ 16384) × ((next .at ≤ to) × ((to ≤ length s) × (length s ≤ 16384)))))) (sym z)
+              subst (λ (v : Parser). (Stack (m' .text) (v .top)) × ((n ≤ v .top) × ((n ≤ most-text-bytes) × ((next .at ≤ to) × ((to ≤ length s) × (length s ≤ most-text-bytes)))))) (sym z)
               (w .holds .text, (a, (omega (arith, w .size, w .short), (omega (arith, o .0), (omega arith, h .source)))))
 
 pub lit-given :
@@ -167,7 +168,7 @@ pub lit-given :
     (g : starts (drop (p .at + 1) s) (95 ∷ []) ≡ false) (i : q ≡ moved-to p (p .at + 1)) {text store ends text' : Text} {r : Read}
     (f : Reads (reading ⟨type⟩) (keep (q .depth + 1)) (q .at + 1) s m (mem text store ends) q r) {next : Parser} {n : ℕ} (e : r ≡ read next n)
     {to : ℕ} (o : (to ≡ next .at + length (run (λ x. not (eqb x 69)) (drop (next .at) s))) × (to ≤ length s)) → to < length s → {next' : Parser} → next' ≡ moved-to next (to + 1) →
-    {v : Read} → Gives s text text' next' n v 16384 (λ t. literal t (part s (next .at) to)) → Primary s m (mem text' store ends) p v σ
+    {v : Read} → Gives s text text' next' n v most-text-bytes (λ t. literal t (part s (next .at) to)) → Primary s m (mem text' store ends) p v σ
 unfolding onto b
 lit-given {s} {m} {p} {q} {σ} h l g i {text} {store} {ends} {text'} {r} f {next} {n} e {to} o x {next'} z {v} k =
     let y = lit-type-got h l g i f e in
@@ -177,7 +178,7 @@ lit-given {s} {m} {p} {q} {σ} h l g i {text} {store} {ends} {text'} {r} f {next
     (valued-is h l g i f e o
     ∙ ap (onto (λ _. give (literal (y .said) (run not-E (drop (next .at) s))))) (need-here "E" s to (moved (drop to s) (y .state)) refl (E-ahead h l g i f e o x))
     ∙ ap (λ (u : Text). give (literal (y .said) u) (moved (drop (to + 1) s) (y .state))) (value-part h l g i f e o))
-    (subst (λ (w : Parser). Gives s text text' w n v 16384 (λ t. literal t (part s (next .at) to))) z k store ends (keep (p .depth)) (p .depth) (window m p) (p .at + 1) (y .said) _ st (y .wrote .short) (omega arith))
+    (subst (λ (w : Parser). Gives s text text' w n v most-text-bytes (λ t. literal t (part s (next .at) to))) z k store ends (keep (p .depth)) (p .depth) (window m p) (p .at + 1) (y .said) _ st (y .wrote .short) (omega arith))
 
 -- ---------------------------------------------------------------- local names
 

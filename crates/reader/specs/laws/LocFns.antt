@@ -6,6 +6,7 @@ use Prim.Native.Nat.{ℕ, _+_, _≤_, _<_}
 use native.Mathlib.Omega.{arith}
 use lib.ListN.{length, drop, length-append}
 use Rattle.grammar.specs.Text.{Text, b, if_then_else_, starts, join}
+use Rattle.grammar.specs.Limits.{most-text-bytes}
 use Rattle.grammar.specs.Reader.{State, Result, ok, Reader, onto, give, see, need, while, one-more}
 use Rattle.grammar.specs.Grammar.{reading, local-encoding, ⟨name⟩, ⟨type⟩}
 use Rattle.grammar.specs.laws.Agree.{moved}
@@ -131,12 +132,12 @@ module _ {s : Text} {m : Memory} {p : Parser} {σ : State} (h : Holds s m p σ) 
           unfolding onto
           listed-is = opened-is ∙ ap (λ (l : Result (List Text)). onto (closing (fn-got .said)) (onto listed-on l)) (fn-listing .is)
 
-          pub fn-long : {m' : Memory} → 16384 < k → Encoded s m m' p (Refused 11) σ
+          pub fn-long : {m' : Memory} → most-text-bytes < k → Encoded s m m' p (Refused 11) σ
           unfolding onto
           fn-long l = by (listed-is ∙ ap (λ (z : Result Text). onto (closing (fn-got .said)) (onto bracketed z)) (give-long words (fn-listing .state) (omega (arith, fn-listing .stands .size)))) refuses
 
-          module _ (l : k ≤ 16384) where
-            short : length words ≤ 16384
+          module _ (l : k ≤ most-text-bytes) where
+            short : length words ≤ most-text-bytes
             short = omega (arith, fn-listing .stands .size)
 
             given-is : local-encoding reading σ ≡ closing (fn-got .said) ((b "(" ++ words) ++ b ")") (fn-listing .state)

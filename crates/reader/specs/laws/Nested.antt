@@ -8,6 +8,7 @@ use borrow.Author.Tests.{eq-eqb, ne-eqb}
 use lib.Dec.{eqb}
 use lib.ListN.{length, take, drop}
 use Rattle.grammar.specs.Text.{Text, b, choose, join, starts, each, run, if_then_else_}
+use Rattle.grammar.specs.Limits.{most-entry-bytes, most-length}
 use Rattle.grammar.specs.Reader.{State, Result, ok, refused, Reader, onto, return, need, every, give, set-cv, set-templated, while, up-to-E}
 use Rattle.grammar.specs.Grammar.{reading, ⟨nested-name⟩, last, qualifier}
 use Rattle.grammar.specs.Grammar as g
@@ -264,7 +265,7 @@ prefixing-more {σ = σ} i h e n x f =
 -- what one part more asks for
 pub ready-for :
     {s : Text} {m₀ : Memory} {p₀ : Parser} {m : Memory} {p : Parser} {q : Parts} {σ₀ : State} → Prefixed s m₀ p₀ m p q σ₀ →
-    (q .n ≤ 65536) × ((q .last ≤ q .n) × (min (q .n) 32768 ≤ p .top))
+    (q .n ≤ most-length) × ((q .last ≤ q .n) × (min (q .n) most-entry-bytes ≤ p .top))
 ready-for l = (omega (arith, l .here .stands .size), (l .here .within, stands-least (l .here .stands)))
 
 -- the answer behind N and the qualifiers is the whole answer

@@ -7,6 +7,7 @@ use Prim.Native.String.{String}
 use native.Mathlib.Omega.{arith}
 use lib.ListN.{length, take, drop}
 use Rattle.grammar.specs.Text.{Text, b, holds, if_then_else_}
+use Rattle.grammar.specs.Limits.{most-open, most-text-bytes}
 use Rattle.grammar.specs.Tables.{_⇒_}
 use Rattle.grammar.specs.Reader.{State, Result, ok, Reader, onto, return, at-code, entered, recorded}
 use Rattle.grammar.specs.Grammar.{Production, reading, ⟨type⟩, ⟨name⟩, ⟨substitution⟩, std-ahead, slot, at-slots}
@@ -28,24 +29,24 @@ at-of e = ap (λ (x : Parser). x .at) e
 
 -- ---------------------------------------------------------------- one level down
 
-pub ready-entered : {s : Text} {m : Memory} {p q : Parser} → q ≡ deeper p → Ready s m p → p .depth < 96 → Ready s m q
+pub ready-entered : {s : Text} {m : Memory} {p q : Parser} → q ≡ deeper p → Ready s m p → p .depth < most-open → Ready s m q
 ready-entered e h l = (at-level (h .0 .depth + 1) (h .0), by-state e (holds-entered (h .1) l))
 
 abbrev leaving : ℕ → Text → Reader Text
 leaving d t u = ok t (at-level d u)
 
 module _ (k : Production) (f : Reader Text) (opens : (σ : State) → g.production reading k σ ≡ entered f σ) {s : Text} {m : Memory} {p : Parser} where
-  is-in : {σ : State} → Holds s m p σ → p .depth < 96 → reading k σ ≡ onto (leaving (p .depth)) (f (at-level (σ .depth + 1) σ))
+  is-in : {σ : State} → Holds s m p σ → p .depth < most-open → reading k σ ≡ onto (leaving (p .depth)) (f (at-level (σ .depth + 1) σ))
   is-in {σ} h l =
       reading-is k σ
       ∙ opens σ
       ∙ entered-in f σ (omega (arith, h .depth))
       ∙ ap (λ (d : ℕ). onto (leaving d) (f (at-level (σ .depth + 1) σ))) (h .depth)
 
-  pub too-deep : {m' : Memory} → 96 ≤ p .depth → Reads (reading k) (keep (p .depth + 1)) (p .at + 1) s m m' p (Refused 8)
+  pub too-deep : {m' : Memory} → most-open ≤ p .depth → Reads (reading k) (keep (p .depth + 1)) (p .at + 1) s m m' p (Refused 8)
   too-deep l σ h = by (reading-is k σ ∙ opens σ ∙ entered-8 f σ (omega (arith, h .depth))) refuses
 
-  module _ {m' : Memory} {q : Parser} {r : Read} (l : p .depth < 96) (e : q ≡ deeper p) (h : Reads f (keep (q .depth)) (q .at + 1) s m m' q r) where
+  module _ {m' : Memory} {q : Parser} {r : Read} (l : p .depth < most-open) (e : q ≡ deeper p) (h : Reads f (keep (q .depth)) (q .at + 1) s m m' q r) where
     inner : Reads f (keep (p .depth + 1)) (p .at + 1) s m m' (deeper p) r
     inner = subst (λ (x : Parser). Reads f (keep (x .depth)) (x .at + 1) s m m' x r) e h
 
@@ -75,7 +76,7 @@ module _ {k d : ℕ} {s base : Text} {from : ℕ} {m : Memory} {p : Parser} {n :
   unfolding onto
   on-got c w = ap (onto c) (w .is)
 
-  pub wrote-fits : {t : Text} {σ : State} → Wrote k d s base from m p n t σ → 16384 ≤ k → (n ≤ p .top) × (n ≤ 16384)
+  pub wrote-fits : {t : Text} {σ : State} → Wrote k d s base from m p n t σ → most-text-bytes ≤ k → (n ≤ p .top) × (n ≤ most-text-bytes)
   wrote-fits {t} w l =
       let z : length (take (p .top) (m .text)) ≡ p .top = top-size (w .holds .text) in
       let i = newest-is base t (w .tail) (omega (arith, w .short)) in

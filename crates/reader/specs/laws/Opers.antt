@@ -14,6 +14,7 @@ use Rattle.grammar.specs.Reader.{State, refused, Reader, onto, give, unfit, go-
 use Rattle.grammar.specs.Grammar.{reading, production, operator-name, unnamed-type-name, ⟨operator-name⟩, ⟨type⟩, ⟨unqualified-name⟩, ⟨source-name⟩}
 use Rattle.grammar.specs.laws.Agree.{moved}
 use Rattle.grammar.specs.laws.Text.{both, starts-nothing}
+use Rattle.grammar.specs.Limits.{kept-bytes}
 use Rattle.grammar.specs.laws.Fuel.{reading-is}
 use Rattle.grammar.specs.laws.Finds.{all-of, by-word}
 use Rattle.grammar.specs.laws.Steps.{by-code-none}
@@ -134,7 +135,7 @@ module _ (s : Text) (at : ℕ) (σ : State) (e : σ .rest ≡ drop at s) where
 
 module _ {s text store ends : Text} {p q : Parser} {σ : State} (h : Holds s (mem text store ends) p σ) (l : p .at + 1 < length s) (m : q ≡ moved-to p (p .at + 2)) {x : Picked}
     (k : Picks operators (getD s (p .at) 0 ∷ getD s (p .at + 1) 0 ∷ []) x) where
-  pub oper-word : {text' : Text} {r : Read} {w : Word} → x ≡ At w → Reads (give (spelled w)) 34816 (q .at) s (mem text store ends) (mem text' store ends) q r
+  pub oper-word : {text' : Text} {r : Read} {w : Word} → x ≡ At w → Reads (give (spelled w)) kept-bytes (q .at) s (mem text store ends) (mem text' store ends) q r
       → Refines (keep (p .depth)) (p .depth) s (window (mem text store ends) p) (p .at + 1) (mem text' store ends) r (reading ⟨operator-name⟩ σ)
   oper-word e g =
       less (omega (arith, h .deep)) (by (operator-word s (p .at) σ (h .rest) l _ (picked-at k e .0)) (reads-moved m g h (omega arith) (omega arith)))
@@ -235,7 +236,7 @@ module _ {s text store ends : Text} {p q : Parser} {σ : State} {to : ℕ} (h : 
             (by (as-byte y f ∙ ap (λ (t : Text). reading ⟨unqualified-name⟩ (moved (y ∷ t) σ)) (behind-two l) ∙ g (drop (to + 2) s) (getD s (to + 1) 0))
             (wrote-one (holds-moved h (to + 2) (omega arith)) (puts-from from-two u) z (omega arith) (omega (arith, n .0))))
 
-      pub unq-U : {text' : Text} {q₁ : Parser} {v : Read} → c ≡ 85 → q₁ ≡ moved-to q (to + 1) → Reads unnamed-type-name 34816 (q₁ .at) s (mem text store ends) (mem text' store ends) q₁ v
+      pub unq-U : {text' : Text} {q₁ : Parser} {v : Read} → c ≡ 85 → q₁ ≡ moved-to q (to + 1) → Reads unnamed-type-name kept-bytes (q₁ .at) s (mem text store ends) (mem text' store ends) q₁ v
           → Unqualified s (mem text store ends) (mem text' store ends) p v σ
       unq-U f i g =
           less (omega (arith, h .deep))
@@ -246,11 +247,12 @@ module _ {s text store ends : Text} {p q : Parser} {σ : State} {to : ℕ} (h : 
       none-of x y z = rw (ne-eqb c 67 x, ne-eqb c 68 y, ne-eqb c 85 z, not-L)
 
       module _ (x : c ≡ 67 → ⊥) (y : c ≡ 68 → ⊥) (z : c ≡ 85 → ⊥) where
-        pub unq-digit : {text' : Text} {v : Read} → digit 10 c ≡ true → Reads (reading ⟨source-name⟩) 34816 (q .at + 1) s (mem text store ends) (mem text' store ends) q v
+        pub unq-digit : {text' : Text} {v : Read} → digit 10 c ≡ true → Reads (reading ⟨source-name⟩) kept-bytes (q .at + 1) s (mem text store ends) (mem text' store ends) q v
             → Unqualified s (mem text store ends) (mem text' store ends) p v σ
         unq-digit d g =
             less (omega (arith, h .deep)) (sooner (omega (arith, n .0))
-            (by (unq-is here ∙ unqualified-digit c (drop (to + 1) s) σ (none-of x y z) d ∙ ap (λ (t : Text). reading ⟨source-name⟩ (moved t σ)) (sym here)) (call-moved (λ _. 34816) m g h (n .1))))
+            (by (unq-is here ∙ unqualified-digit c (drop (to + 1) s) σ (none-of x y z) d ∙ ap (λ (t : Text). reading ⟨source-name⟩ (moved t σ)) (sym here))
+            (call-moved (λ _. kept-bytes) m g h (n .1))))
 
         pub unq-operator : {m' : Memory} {v : Read} → digit 10 c ≡ false → Reads (reading ⟨operator-name⟩) (keep (q .depth)) (q .at + 1) s (mem text store ends) m' q v
             → Unqualified s (mem text store ends) m' p v σ

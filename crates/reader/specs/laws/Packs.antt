@@ -9,6 +9,7 @@ use lib.Dec.{eqb, leb, ltb}
 use lib.ListN.{length, take, drop, getD, set, length-append}
 use lib.Seq.{getD-set-same, getD-set-other}
 use Rattle.grammar.specs.Text.{Text, b, if_then_else_, starts, join}
+use Rattle.grammar.specs.Limits.{most-text-bytes, most-length}
 use Rattle.grammar.specs.Reader.{State, Result, ok, refused, Reader, onto, return, give, while, one-more}
 use Rattle.grammar.specs.Grammar.{reading, ⟨template-arg⟩}
 use Rattle.grammar.specs.Grammar as g
@@ -109,7 +110,7 @@ join-size [] = refl
 join-size (x ∷ []) = omega arith
 join-size (x ∷ y ∷ ts) = omega (arith, join-size (y ∷ ts), length-append x (44 ∷ 32 ∷ join (44 ∷ 32 ∷ []) (y ∷ ts)))
 
-some-weight : (ts : List Text) {n : ℕ} → n ≡ min (weight ts) 65536 → min n 1 ≡ min (length ts) 1
+some-weight : (ts : List Text) {n : ℕ} → n ≡ min (weight ts) most-length → min n 1 ≡ min (length ts) 1
 some-weight [] e = omega arith
 some-weight (t ∷ ts) e = omega arith
 
@@ -121,7 +122,7 @@ under (o ∷ os) = under os ++ (join (b ", ") o ++ before-text (length o))
 -- the sizes of the packs around the innermost, the outermost first
 abbrev Sizes : List ℕ → List (List Text) → Type 0
 Sizes outer [] = Unit {0}
-Sizes outer (o ∷ os) = (getD outer (length os) 0 ≡ min (weight o) 65536) × Sizes outer os
+Sizes outer (o ∷ os) = (getD outer (length os) 0 ≡ min (weight o) most-length) × Sizes outer os
 
 sizes-set : (outer : List ℕ) (i a : ℕ) (os : List (List Text)) → length os ≤ i → Sizes outer os → Sizes (set outer i a) os
 sizes-set outer i a [] h f = tt
@@ -138,7 +139,7 @@ pub record Packed (s : Text) (m₀ : Memory) (p₀ : Parser) (m : Memory) (p : P
   pub depth : p .depth ≡ p₀ .depth
   pub more : p₀ .at ≤ p .at
   pub level-is : level ≡ length around
-  pub size : n ≡ min (weight texts) 65536
+  pub size : n ≡ min (weight texts) most-length
   pub sizes : Sizes outer around
   pub same : g.pack reading σ₀ ≡ outward around (rest-of texts state)
 
@@ -249,13 +250,13 @@ module _ {s : Text} {m₀ : Memory} {p₀ : Parser} {text text' store ends : Lis
       (subst (λ (x : Read). Refines k d s' base from m x (refused j)) (sym f) refuses)
 
   module _ {p'' : Parser} {x : ℕ} (f : r ≡ read p'' x) where
-    pub text-short : x ≤ 16384
+    pub text-short : x ≤ most-text-bytes
     text-short = let w = got f told .wrote in omega (arith, w .size, w .short)
 
     pub text-further : p .at < p'' .at
     text-further = omega (arith, got f told .wrote .more, ap (λ (z : Parser). z .at) (u .same))
 
-    pub packed-more : {n' : ℕ} → n' ≡ min (n + (x + 2)) 65536 → Packed s m₀ p₀ m'' p'' outer level n' σ₀
+    pub packed-more : {n' : ℕ} → n' ≡ min (n + (x + 2)) most-length → Packed s m₀ p₀ m'' p'' outer level n' σ₀
     packed-more {n'} o =
         let h = got f told in
         let w = h .wrote in
@@ -302,12 +303,12 @@ module _ {s : Text} {m₀ : Memory} {p₀ : Parser} {m : Memory} {p : Parser} {o
   shown-size : length shown ≡ weight (l .texts) - 2
   shown-size = join-size (l .texts)
 
-  pub packed-closes : {p' : Parser} {n' : ℕ} → ends-pack level n ≡ false → p' ≡ moved-to p (p .at + 1) → n' ≡ min (getD outer (level - 1) 0 + (n - 2 + 2)) 65536 → Packed s m₀ p₀ m p' outer (level - 1) n' σ₀
+  pub packed-closes : {p' : Parser} {n' : ℕ} → ends-pack level n ≡ false → p' ≡ moved-to p (p .at + 1) → n' ≡ min (getD outer (level - 1) 0 + (n - 2 + 2)) most-length → Packed s m₀ p₀ m p' outer (level - 1) n' σ₀
   unfolding onto
   packed-closes {p'} {n'} a f o =
       subst (λ (x : Parser). Packed s m₀ p₀ m x outer (level - 1) n' σ₀) (sym f) (go (l .around) (l .tail) (l .level-is) (l .sizes) (l .same))
     where
-      short : length shown ≤ 16384
+      short : length shown ≤ most-text-bytes
       short = omega (arith, inner-E level n a .1, l .size, shown-size)
 
       go : (around : List (List Text)) → Tail (keep (p₀ .depth)) (window m p) (window m₀ p₀ ++ (under around ++ shown)) → level ≡ length around → Sizes outer around →
@@ -332,10 +333,10 @@ module _ {s : Text} {m₀ : Memory} {p₀ : Parser} {m : Memory} {p : Parser} {o
       }
 
   -- the sizes that are there are small
-  pub outer-small : 0 < level → getD outer (level - 1) 0 ≤ 65536
+  pub outer-small : 0 < level → getD outer (level - 1) 0 ≤ most-length
   outer-small a = go (l .around) (l .level-is) (l .sizes)
     where
-      go : (around : List (List Text)) → level ≡ length around → Sizes outer around → getD outer (level - 1) 0 ≤ 65536
+      go : (around : List (List Text)) → level ≡ length around → Sizes outer around → getD outer (level - 1) 0 ≤ most-length
       go [] k z = absurd (omega arith)
       go (y ∷ os) k z = omega (arith, ap (λ (x : ℕ). getD outer x 0) {x = level - 1} {y = length os} (omega (arith, k)), z .0)
 
@@ -343,27 +344,27 @@ module _ {s : Text} {m₀ : Memory} {p₀ : Parser} {m : Memory} {p : Parser} {o
       Refines (keep (p₀ .depth)) (p₀ .depth) s (window m₀ p₀) (p₀ .at + 1) m r (g.pack reading σ₀)
   unfolding given-of if_then_else_
   packed-ends {p'} {j} {r} a f o k =
-      subst (λ (x : Read). Refines (keep (p₀ .depth)) (p₀ .depth) s (window m₀ p₀) (p₀ .at + 1) m x (g.pack reading σ₀)) (sym (k ∙ ap (λ (x : Parser). given-of x j) f)) (go (leb j 16384) refl (l .around) (l .tail) (l .level-is) (l .same))
+      subst (λ (x : Read). Refines (keep (p₀ .depth)) (p₀ .depth) s (window m₀ p₀) (p₀ .at + 1) m x (g.pack reading σ₀)) (sym (k ∙ ap (λ (x : Parser). given-of x j) f)) (go (leb j most-text-bytes) refl (l .around) (l .tail) (l .level-is) (l .same))
     where
       answer : Bool → Read
       answer q = if q then read (moved-to p (p .at + 1)) j else Refused 11
 
-      go : (q : Bool) → leb j 16384 ≡ q → (around : List (List Text)) → Tail (keep (p₀ .depth)) (window m p) (window m₀ p₀ ++ (under around ++ shown)) → level ≡ length around →
+      go : (q : Bool) → leb j most-text-bytes ≡ q → (around : List (List Text)) → Tail (keep (p₀ .depth)) (window m p) (window m₀ p₀ ++ (under around ++ shown)) → level ≡ length around →
           g.pack reading σ₀ ≡ outward around (rest-of (l .texts) (l .state)) → Refines (keep (p₀ .depth)) (p₀ .depth) s (window m₀ p₀) (p₀ .at + 1) m (answer q) (g.pack reading σ₀)
       go false x around t d h =
-          let y : 16384 < length shown = omega (arith, leb-false j 16384 x, o, l .size, shown-size) in
+          let y : most-text-bytes < length shown = omega (arith, leb-false j most-text-bytes x, o, l .size, shown-size) in
           by (h ∙ ap (outward around) (given ∙ give-long shown behind y) ∙ out-refused around 11) refuses
       go true x [] t d h =
-          let y : length shown ≤ 16384 = omega (arith, leb-true j 16384 x, o, l .size, shown-size) in
+          let y : length shown ≤ most-text-bytes = omega (arith, leb-true j most-text-bytes x, o, l .size, shown-size) in
           by (h ∙ given ∙ give-short shown behind y) (reads (record {
             holds = holds-moved (l .holds) (p .at + 1) (omega (arith, inside l e));
             tail = t;
-            size = omega (arith, leb-true j 16384 x, o, l .size, shown-size);
+            size = omega (arith, leb-true j most-text-bytes x, o, l .size, shown-size);
             short = y;
             level = l .depth;
             more = omega (arith, l .more);
           }))
-      go true x (y ∷ os) t d h = absurd (omega (arith, outer-E level n a (omega (arith, d)), leb-true j 16384 x, o))
+      go true x (y ∷ os) t d h = absurd (omega (arith, outer-E level n a (omega (arith, d)), leb-true j most-text-bytes x, o))
 
 -- ---------------------------------------------------------------- the loop so far
 

@@ -6,6 +6,7 @@ use Prim.Native.Nat.{ℕ, _+_, _≤_, min}
 use native.Mathlib.Omega.{arith}
 use lib.ListN.{length, take, drop, length-append}
 use Rattle.grammar.specs.Text.{Text}
+use Rattle.grammar.specs.Limits.{most-text-bytes, most-entry-bytes, most-length, kept-bytes}
 use Rattle.grammar.specs.Reader.{State, give}
 use Rattle.grammar.specs.Grammar as g
 use Rattle.grammar.specs.laws.Agree.{moved}
@@ -59,7 +60,7 @@ pub stands-templated :
 stands-templated {m = m} b h e =
     stands-kept h (by-state e (holds-templated (h .holds) b)) (ap (window m) e) (ap (λ (x : Parser). x .depth) e) (omega (arith, h .more, ap (λ (x : Parser). x .at) e))
 
-pub stands-sized : {k d : ℕ} {s base : Text} {from : ℕ} {m : Memory} {p : Parser} {n : ℕ} {t u : Text} {σ : State} (j : ℕ) → Stands k d s base from m p n t σ → u ≡ t → j ≡ min (length u) 65536 → Stands k d s base from m p j u σ
+pub stands-sized : {k d : ℕ} {s base : Text} {from : ℕ} {m : Memory} {p : Parser} {n : ℕ} {t u : Text} {σ : State} (j : ℕ) → Stands k d s base from m p n t σ → u ≡ t → j ≡ min (length u) most-length → Stands k d s base from m p j u σ
 stands-sized {k} {base = base} {m = m} {p = p} j h e f = record {
   holds = h .holds;
   tail = subst (λ (x : Text). Tail k (window m p) (base ++ x)) (sym e) (h .tail);
@@ -101,18 +102,18 @@ pub wrote-moved :
     Wrote k d s base to m p n t σ → j ≤ k → from ≤ at → at ≤ length s → Wrote j d s base from m (moved-to p at) n t (moved (drop at s) σ)
 wrote-moved at w l u v = wrote-kept w l (holds-moved (w .holds) at v) refl (w .level) u
 
-pub stands-least : {k d : ℕ} {s base : Text} {from : ℕ} {m : Memory} {p : Parser} {n : ℕ} {t : Text} {σ : State} → Stands k d s base from m p n t σ → min n 32768 ≤ p .top
+pub stands-least : {k d : ℕ} {s base : Text} {from : ℕ} {m : Memory} {p : Parser} {n : ℕ} {t : Text} {σ : State} → Stands k d s base from m p n t σ → min n most-entry-bytes ≤ p .top
 stands-least {base = base} {t = t} h = omega (arith, h .least, h .tail .most, size (h .tail), top-size (h .holds .text), length-append base t, h .size)
 
 -- so many bytes are there after a text was read behind n bytes
 pub wrote-least :
     {k d : ℕ} {s text : Text} {from top : ℕ} {m : Memory} {p : Parser} {j : ℕ} {t : Text} {σ : State} →
-    Stack text top → Wrote k d s (take top text) from m p j t σ → 32768 ≤ k → (n : ℕ) → min n 32768 ≤ top → min (n + j) 32768 ≤ p .top
+    Stack text top → Wrote k d s (take top text) from m p j t σ → most-entry-bytes ≤ k → (n : ℕ) → min n most-entry-bytes ≤ top → min (n + j) most-entry-bytes ≤ p .top
 wrote-least {text = text} {top = top} {t = t} c w l n i = omega (arith, top-size c, top-size (w .holds .text), size (w .tail), w .tail .most, length-append (take top text) t, w .size)
 
 pub stands-at :
     {k d : ℕ} {s base : Text} {from : ℕ} {m : Memory} {p : Parser} {n : ℕ} {t : Text} {σ : State} (j to : ℕ) →
-    Wrote k d s base from m p n t σ → j ≤ k → to ≤ from → 32768 ≤ j → j ≤ 34816 → Stands j d s base to m p n t σ
+    Wrote k d s base from m p n t σ → j ≤ k → to ≤ from → most-entry-bytes ≤ j → j ≤ kept-bytes → Stands j d s base to m p n t σ
 stands-at j to w l i x y = record {
   holds = w .holds;
   tail = weaken l (w .tail);
@@ -124,7 +125,7 @@ stands-at j to w l i x y = record {
 }
 
 -- no text yet
-pub stands-nothing : {k : ℕ} {s : Text} {m : Memory} {p : Parser} {σ : State} → Holds s m p σ → 32768 ≤ k → k ≤ 34816 → Stands k (p .depth) s (window m p) (p .at) m p 0 [] σ
+pub stands-nothing : {k : ℕ} {s : Text} {m : Memory} {p : Parser} {σ : State} → Holds s m p σ → most-entry-bytes ≤ k → k ≤ kept-bytes → Stands k (p .depth) s (window m p) (p .at) m p 0 [] σ
 stands-nothing {k} {m = m} {p = p} h l u = record {
   holds = h;
   tail = rw append-nil (whole k (window m p));
@@ -140,7 +141,7 @@ stands-nothing {k} {m = m} {p = p} h l u = record {
 pub stands-joined :
     {k k' d : ℕ} {s base : Text} {from from' to : ℕ} {m m' : Memory} {p p' : Parser} {n n' : ℕ} {t u : Text} {σ σ' : State} →
     Stands k d s base from m p n t σ → Stands k' (p .depth) s (window m p) from' m' p' n' u σ' → k ≤ k' → to ≤ from' →
-    Stands k d s base to m' p' (min (n + n') 65536) (t ++ u) σ'
+    Stands k d s base to m' p' (min (n + n') most-length) (t ++ u) σ'
 stands-joined {base = base} {t = t} {u = u} h w l i = record {
   holds = w .holds;
   tail = both base t u (h .tail) (weaken l (w .tail));
@@ -155,18 +156,18 @@ stands-joined {base = base} {t = t} {u = u} h w l i = record {
 module _ {k d : ℕ} {s base : Text} {from from' to : ℕ} {text text' store ends : Text} {m : Memory} {p q r : Parser} {n j : ℕ} {t z x : Text} {σ τ : State} where
   pub stands-behind :
       {k' : ℕ} → Stands k d s base from (mem text store ends) p n t σ → Puts text text' p q z → Stands k' (q .depth) s (take (q .top) text') from' m r j x τ → k ≤ k' → to ≤ from' →
-      Stands k d s base to m r (min (n + (length z + j)) 65536) (t ++ (z ++ x)) τ
+      Stands k d s base to m r (min (n + (length z + j)) most-length) (t ++ (z ++ x)) τ
   stands-behind h u w l i =
       stands-sized _ (stands-joined (stands-puts h u refl) w l i) (sym (append-assoc t z x)) (omega (arith, h .size, w .size, length-append t (z ++ x), length-append z x))
 
   pub wrote-behind :
       {k' : ℕ} → Stands k d s base from (mem text store ends) p n t σ → Puts text text' p q z → Wrote k' (q .depth) s (take (q .top) text') from' m r j x τ → k ≤ k' → to ≤ from' →
-      Stands k d s base to m r (min (n + (length z + j)) 65536) (t ++ (z ++ x)) τ
+      Stands k d s base to m r (min (n + (length z + j)) most-length) (t ++ (z ++ x)) τ
   wrote-behind h u w l i = stands-behind h u (stands-at k from' w l (omega arith) (h .least) (h .most)) (omega arith) i
 
 pub joined :
     {k k' d : ℕ} {s base : Text} {from from' : ℕ} {m m' : Memory} {p p' : Parser} {n n' : ℕ} {t u : Text} {σ σ' : State} →
-    Stands k d s base from m p n t σ → Wrote k' (p .depth) s (window m p) from' m' p' n' u σ' → k ≤ k' → length t ≤ 32768 →
+    Stands k d s base from m p n t σ → Wrote k' (p .depth) s (window m p) from' m' p' n' u σ' → k ≤ k' → length t ≤ most-entry-bytes →
     Stands k d s base from' m' p' (n + n') (t ++ u) σ'
 joined {k} {from' = from'} {n = n} {n' = n'} {t = t} {u = u} h w l i =
     stands-sized (n + n') (stands-joined h (stands-at k from' w l (omega arith) (h .least) (h .most)) (omega arith) (omega arith)) refl
@@ -175,7 +176,7 @@ joined {k} {from' = from'} {n = n} {n' = n'} {t = t} {u = u} h w l i =
 pub stands-both :
     {k k' d : ℕ} {s base : Text} {from from' : ℕ} {m m' : Memory} {p p' : Parser} {n n' : ℕ} {t t' : Text} {σ σ' : State} (j to : ℕ) →
     Wrote k d s base from m p n t σ → Wrote k' (p .depth) s (window m p) from' m' p' n' t' σ' →
-    j ≤ k → j ≤ k' → to ≤ from' → 32768 ≤ j → j ≤ 34816 → Stands j d s base to m' p' (n + n') (t ++ t') σ'
+    j ≤ k → j ≤ k' → to ≤ from' → most-entry-bytes ≤ j → j ≤ kept-bytes → Stands j d s base to m' p' (n + n') (t ++ t') σ'
 stands-both {from = from} {n = n} {n' = n'} {t = t} {t' = t'} j to w v l l' i x y =
     stands-sized (n + n') (stands-joined (stands-at j from w l (omega arith) x y) (stands-at j to v l' i x y) (omega arith) (omega arith)) refl
     (omega (arith, w .size, w .short, v .size, v .short, length-append t t'))
@@ -188,7 +189,7 @@ module _ {s text text' store ends : Text} {p a q : Parser} {at : ℕ} {word : Te
 
   -- the word, and a text that was read behind it
   pub word-joined :
-      {m : Memory} {r : Parser} {n j : ℕ} {x : Text} {σ' : State} → p .at ≤ at → length word ≤ 16384 → n ≡ j + length word →
+      {m : Memory} {r : Parser} {n j : ℕ} {x : Text} {σ' : State} → p .at ≤ at → length word ≤ most-text-bytes → n ≡ j + length word →
       Wrote (keep (q .depth)) (q .depth) s (window (mem text' store ends) q) (q .at + 1) m r j x σ' →
       Stands (keep (p .depth)) (p .depth) s (window (mem text store ends) p) (p .at + 1) m r n (word ++ x) σ'
   word-joined {x = x} i b z w =

@@ -9,6 +9,7 @@ use lib.ListN.{length, take, drop, length-append, length-drop, take-append-drop}
 use lib.Seq.{take-take, take-all, take-append-le, drop-at, drop-drop, length-take-le}
 use borrow.Author.Tests.{leb-true, leb-false, eq-eqb, ne-eqb}
 use Rattle.grammar.specs.Text.{Text, b, choose, join, if_then_else_, run, after-last}
+use Rattle.grammar.specs.Limits.{most-text-bytes, most-entry-bytes, most-length, kept-bytes}
 use Rattle.grammar.specs.Reader.{State, ok, onto, go-to}
 use Rattle.grammar.specs.Grammar.{reading, last, class-of}
 use Rattle.grammar.specs.Grammar as g
@@ -125,7 +126,7 @@ stands-two {s = s} {m = m} {p = p} {σ = σ} {t = t} from' h e l =
 
 module _ {s base : Text} {from : ℕ} {m : Memory} {p : Parser} {q : Parts} {ps : g.Parts} {σ : State} (h : Parted (keep (p .depth)) (p .depth) s base from m p q ps σ) {c x : ℕ} {t : Text} (e : σ .rest ≡ c ∷ x ∷ t) where
   -- the parts are too long already
-  pub structor-long : {r : Parser} → r ≡ moved-to p (p .at + 2) → 32768 < q .n → Parting (keep (p .depth)) (p .depth) s base (p .at + 1) m (prefix-as.Parts r (record { n = q .n; last = 0; count = 1; structor = true })) (g.ctor-dtor-name reading ps σ)
+  pub structor-long : {r : Parser} → r ≡ moved-to p (p .at + 2) → most-entry-bytes < q .n → Parting (keep (p .depth)) (p .depth) s base (p .at + 1) m (prefix-as.Parts r (record { n = q .n; last = 0; count = 1; structor = true })) (g.ctor-dtor-name reading ps σ)
   structor-long f l = rw f (parts-by (ctor-dtor-is ps σ c x t e) (parted {ps = structor-more ps c} (record {
     shown = h .shown;
     stands = stands-two (p .at + 1) (h .stands) e (omega arith);
@@ -139,7 +140,7 @@ module _ {s base : Text} {from : ℕ} {m : Memory} {p : Parser} {q : Parts} {ps 
       grown : length (join (b "::") (ps .texts)) ≤ length (join (b "::") (ps .texts ++ ((tilde-of c ++ class-of (ps .texts)) ∷ [])))
       grown = omega (arith, ap length (join-more (b "::") (q .count) (ps .texts) (tilde-of c ++ class-of (ps .texts)) (omega (arith, h .count))), length-append (join (b "::") (ps .texts)) (before-part (q .count) ++ (tilde-of c ++ class-of (ps .texts))))
 
-      long : Alike (h .shown) (join (b "::") (ps .texts)) → 32768 < length (join (b "::") (ps .texts))
+      long : Alike (h .shown) (join (b "::") (ps .texts)) → most-entry-bytes < length (join (b "::") (ps .texts))
       long (same-text f) = omega (arith, ap length f, h .stands .size)
       long (both-long i j) = j
 
@@ -150,21 +151,21 @@ module _ {s base : Text} {from : ℕ} {m : Memory} {p : Parser} {q : Parts} {ps 
 
 -- a class of which no more than 16,384 bytes are put: the rest can only be missing where the parts are too long
 alike-class :
-    (j z y k : Text) {m n : ℕ} → m ≡ min n 16384 → n ≡ length k → n ≤ length j → (0 < n → length z ≡ 2) → Alike (((j ++ z) ++ y) ++ take m k) (j ++ (z ++ (y ++ k)))
-alike-class j z y k {m} {n} e f l w = go (leb n 16384) refl
+    (j z y k : Text) {m n : ℕ} → m ≡ min n most-text-bytes → n ≡ length k → n ≤ length j → (0 < n → length z ≡ 2) → Alike (((j ++ z) ++ y) ++ take m k) (j ++ (z ++ (y ++ k)))
+alike-class j z y k {m} {n} e f l w = go (leb n most-text-bytes) refl
   where
-    go : (q : Bool) → leb n 16384 ≡ q → Alike (((j ++ z) ++ y) ++ take m k) (j ++ (z ++ (y ++ k)))
-    go true i = same-text (ap (λ (v : Text). ((j ++ z) ++ y) ++ v) (take-all m k (omega (arith, leb-true n 16384 i))) ∙ simp append-assoc refl)
+    go : (q : Bool) → leb n most-text-bytes ≡ q → Alike (((j ++ z) ++ y) ++ take m k) (j ++ (z ++ (y ++ k)))
+    go true i = same-text (ap (λ (v : Text). ((j ++ z) ++ y) ++ v) (take-all m k (omega (arith, leb-true n most-text-bytes i))) ∙ simp append-assoc refl)
     go false i =
-        let o = leb-false n 16384 i in
+        let o = leb-false n most-text-bytes i in
         let x : length z ≡ 2 = w (omega arith) in
         both-long (simp length-append (omega (arith, length-take-le m k (omega arith)))) (simp length-append (omega arith))
 
 pub structor-short :
     {s base text text₁ text₂ text₃ store ends : Text} {from : ℕ} {p p₁ p₂ p₃ : Parser} {q : Parts} {ps : g.Parts} {σ : State} {c d m : ℕ} {class : Class} →
-    (h : Parted (keep (p .depth)) (p .depth) s base from (mem text store ends) p q ps σ) → q .n ≤ 32768 → (x : ℕ) (t : Text) → σ .rest ≡ c ∷ x ∷ t →
+    (h : Parted (keep (p .depth)) (p .depth) s base from (mem text store ends) p q ps σ) → q .n ≤ most-entry-bytes → (x : ℕ) (t : Text) → σ .rest ≡ c ∷ x ∷ t →
     Classed (newest text (p .top) (q .last)) (q .last) class → Puts text text₁ p p₁ (before-part (q .count)) → Puts text₁ text₂ p₁ p₂ (tilde-of c) →
-    m ≡ min (class .n) 16384 → d ≡ class .back + (2 * min (q .count) 1 + length (tilde-of c)) → Puts text₂ text₃ p₂ p₃ (take m (drop (p₂ .top - d) text₂)) →
+    m ≡ min (class .n) most-text-bytes → d ≡ class .back + (2 * min (q .count) 1 + length (tilde-of c)) → Puts text₂ text₃ p₂ p₃ (take m (drop (p₂ .top - d) text₂)) →
     Parted (keep (p .depth)) (p .depth) s base (p .at + 1) (mem text₃ store ends) (moved-to p₃ (p .at + 2))
     (record { n = q .n + (2 * min (q .count) 1 + (length (tilde-of c) + m)); last = length (tilde-of c) + m; count = 1; structor = true }) (structor-more ps c) (moved t σ)
 unfolding choose
@@ -191,8 +192,8 @@ structor-short {s} {base} {text} {text₁} {text₂} {text₃} {store} {ends} {f
     ∙ ap (take m) (sym named) in
     let s₄ = stands-puts s₃ (subst (λ (a : Text). Puts text₂ text₃ p₂ p₃ a) at w) refl in
     let same : p₃ .at ≡ p .at = ap (λ (a : Parser). a .at) (w .same) ∙ ap (λ (a : Parser). a .at) (v .same) ∙ ap (λ (a : Parser). a .at) (u .same) in
-    let s₅ : Stands (keep (p .depth)) (p .depth) s base (p .at + 1) (mem text₃ store ends) (moved-to p₃ (p .at + 2)) (min (length ((((f ++ last-part ts) ++ z) ++ y) ++ take m (class-of ts))) 65536) ((((f ++ last-part ts) ++ z) ++ y) ++ take m (class-of ts)) (moved t σ) =
-    subst (λ (a : ℕ). Stands (keep (p .depth)) (p .depth) s base (p .at + 1) (mem text₃ store ends) (moved-to p₃ (a + 2)) (min (length ((((f ++ last-part ts) ++ z) ++ y) ++ take m (class-of ts))) 65536) ((((f ++ last-part ts) ++ z) ++ y) ++ take m (class-of ts)) (moved t σ)) same (stands-two (p .at + 1) s₄ e (omega arith)) in
+    let s₅ : Stands (keep (p .depth)) (p .depth) s base (p .at + 1) (mem text₃ store ends) (moved-to p₃ (p .at + 2)) (min (length ((((f ++ last-part ts) ++ z) ++ y) ++ take m (class-of ts))) most-length) ((((f ++ last-part ts) ++ z) ++ y) ++ take m (class-of ts)) (moved t σ) =
+    subst (λ (a : ℕ). Stands (keep (p .depth)) (p .depth) s base (p .at + 1) (mem text₃ store ends) (moved-to p₃ (a + 2)) (min (length ((((f ++ last-part ts) ++ z) ++ y) ++ take m (class-of ts))) most-length) ((((f ++ last-part ts) ++ z) ++ y) ++ take m (class-of ts)) (moved t σ)) same (stands-two (p .at + 1) s₄ e (omega arith)) in
     let join' : join (b "::") (ts ++ ((y ++ class-of ts) ∷ [])) ≡ j ++ (z ++ (y ++ class-of ts)) = join-more (b "::") (q .count) ts (y ++ class-of ts) (omega (arith, h .count)) in
     let count : 0 < class .n → length z ≡ 2 = λ (n : 0 < class .n). omega (arith, colons-size (q .count), h .count, some-part ts (omega (arith, cls .inside))) in
     let all : length ((((f ++ last-part ts) ++ z) ++ y) ++ take m (class-of ts)) ≡ q .n + (2 * min (q .count) 1 + (length y + m)) =
@@ -210,21 +211,22 @@ structor-short {s} {base} {text} {text₁} {text₂} {text₃} {store} {ends} {f
 -- as the code hands it back
 pub structor-named :
     {s base text text₁ text₂ text₃ store ends : Text} {from : ℕ} {p p₁ p₂ p₃ p₄ : Parser} {q : Parts} {ps : g.Parts} {σ : State} {c d m n j : ℕ} {class : Class} →
-    (h : Parted (keep (p .depth)) (p .depth) s base from (mem text store ends) p q ps σ) → q .n ≤ 32768 → (x : ℕ) (t : Text) → σ .rest ≡ c ∷ x ∷ t →
+    (h : Parted (keep (p .depth)) (p .depth) s base from (mem text store ends) p q ps σ) → q .n ≤ most-entry-bytes → (x : ℕ) (t : Text) → σ .rest ≡ c ∷ x ∷ t →
     Classed (newest text (p .top) (q .last)) (q .last) class → Puts text text₁ p p₁ (before-part (q .count)) → Puts text₁ text₂ p₁ p₂ (tilde-of c) →
-    m ≡ min (class .n) 16384 → d ≡ class .back + (2 * min (q .count) 1 + length (tilde-of c)) → Puts text₂ text₃ p₂ p₃ (take m (drop (p₂ .top - d) text₂)) →
+    m ≡ min (class .n) most-text-bytes → d ≡ class .back + (2 * min (q .count) 1 + length (tilde-of c)) → Puts text₂ text₃ p₂ p₃ (take m (drop (p₂ .top - d) text₂)) →
     p₄ ≡ moved-to p₃ (p .at + 2) → n ≡ q .n + (2 * min (q .count) 1 + (length (tilde-of c) + m)) → j ≡ length (tilde-of c) + m →
     Parting (keep (p .depth)) (p .depth) s base (p .at + 1) (mem text₃ store ends) (prefix-as.Parts p₄ (record { n = n; last = j; count = 1; structor = true })) (g.ctor-dtor-name reading ps σ)
 structor-named {p₄ = p₄} {ps = ps} {σ = σ} {c = c} h l x t e r u v i o w f a k = rw (f, a, k) (parts-by (ctor-dtor-is ps σ c x t e) (parted {ps = structor-more ps c} (structor-short h l x t e r u v i o w)))
 
 -- ---------------------------------------------------------------- how far below the top the class is
 
-module _ (count : ℕ) {n n' m t : ℕ} (e : n' ≡ min (n + (2 * min count 1 + (t + m))) 65536) (l : n ≤ 32768) (i : m ≤ 16384) (j : t ≤ 1) where
+module _ (count : ℕ) {n n' m t : ℕ} (e : n' ≡ min (n + (2 * min count 1 + (t + m))) most-length) (l : n ≤ most-entry-bytes) (i : m ≤ most-text-bytes) (j : t ≤ 1) where
   pub exact : n' ≡ n + (2 * min count 1 + (t + m))
   exact = omega arith
 
   pub between : n' - n - m ≡ 2 * min count 1 + t
   between = omega (arith, exact)
 
-pub again-room : {back top m x y : ℕ} → x ≡ y → m ≤ back → back + y ≤ top → y ≤ 3 → back ≤ 32768 → m ≤ 16384 → (m ≤ back + x) × ((back + x ≤ top) × ((back + x ≤ 34816) × (m ≤ 16384)))
+pub again-room : {back top m x y : ℕ} → x ≡ y → m ≤ back → back + y ≤ top → y ≤ 3 → back ≤ most-entry-bytes → m ≤ most-text-bytes
+    → (m ≤ back + x) × ((back + x ≤ top) × ((back + x ≤ kept-bytes) × (m ≤ most-text-bytes)))
 again-room e i j k l o = (omega arith, (omega arith, (omega arith, o)))

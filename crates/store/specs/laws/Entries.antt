@@ -8,6 +8,7 @@ use native.Mathlib.Omega.{arith}
 use lib.ListN.{length, take, drop, getD, set, getElem?, length-append}
 use lib.Seq.{take-at, drop-at, take-nil}
 use Rattle.grammar.specs.Text.{Text}
+use Rattle.grammar.specs.Limits.{most-entries, most-entry-bytes}
 use Rattle.grammar.specs.Reader.{bytes-of}
 use Rattle.store.specs.Table.{Front, concat, ends-from, Entries, Sized, Placed}
 use Rattle.store.specs.laws.Fronts.{front-none, front-as, front-at, front-written, front-set}
@@ -127,7 +128,7 @@ module _ {l : List Text} {store ends : List ℕ} {count bytes : ℕ} (h : Entrie
   entries-sized = record { store-size = h .store-is .size; ends-size = h .ends-is .size }
 
   -- what `push` leaves: a text of k bytes more
-  pub pushed : (t : Text) (k : ℕ) (store' ends' : List ℕ) → length t ≡ k → count < 1024 → bytes + k ≤ 32768
+  pub pushed : (t : Text) (k : ℕ) (store' ends' : List ℕ) → length t ≡ k → count < most-entries → bytes + k ≤ most-entry-bytes
       → length store' ≡ length store → take (bytes + k) store' ≡ take bytes store ++ t → ends' ≡ set ends count (bytes + k)
       → Entries (l ++ (t ∷ [])) store' ends' (count + 1) (bytes + k)
   pushed t k store' ends' m more fits z e f =

@@ -6,7 +6,8 @@ use native.Mathlib.Omega.{arith}
 use lib.ListN.{length, take, drop, length-append, length-drop}
 use lib.Seq.{drop-append-le, drop-drop, take-at, drop-at, length-take-le, take-take}
 use Rattle.grammar.specs.Text.{Text}
-use Rattle.store.specs.Stack.{kept-bytes, Stack, Tail, Put, Cut, lent}
+use Rattle.grammar.specs.Limits.{kept-bytes}
+use Rattle.store.specs.Stack.{Stack, Tail, Put, Cut, lent}
 use Rattle.store.specs.laws.Lists.{drop-take}
 
 pub whole : (k : ℕ) (w : Text) → Tail k w w

@@ -6,12 +6,13 @@ use native.Mathlib.Omega.{arith}
 use borrow.Author.Needs.{needs}
 use lib.ListN.{length, length-set}
 use lib.Seq.{length-take-le}
+use Rattle.listing.specs.Cut.{most-kept}
 use Rattle.console.proofs.input.list_input.Statement.{statement}
 use Rattle.console.proofs.input.list_input.Tie as tie
 
 abbrev Inv-loop : tie.InvT-loop
 Inv-loop kind chunk₀ lines₀ out₀ name₀ text₀ store₀ ends₀ used₀ goes-on₀ turns₀ chunk lines out name text store ends used goes-on turns =
-    (used ≤ 4097) × ((length chunk ≡ length chunk₀) × ((length lines ≡ length lines₀) × ((length out ≡ length out₀) × ((length name ≡ length name₀) × ((length text ≡ length text₀) × ((length store ≡ length store₀) × (length ends ≡ length ends₀)))))))
+    (used ≤ most-kept) × ((length chunk ≡ length chunk₀) × ((length lines ≡ length lines₀) × ((length out ≡ length out₀) × ((length name ≡ length name₀) × ((length text ≡ length text₀) × ((length store ≡ length store₀) × (length ends ≡ length ends₀)))))))
 
 abbrev μ-loop : tie.MeasureT-loop
 μ-loop kind chunk₀ lines₀ out₀ name₀ text₀ store₀ ends₀ used₀ goes-on₀ turns₀ chunk lines out name text store ends used goes-on turns =

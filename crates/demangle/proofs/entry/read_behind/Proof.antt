@@ -4,6 +4,7 @@ use native.Mathlib.Omega.{arith}
 use lib.ListN.{length, length-drop}
 use lib.Seq.{length-take-le}
 use Rattle.grammar.specs.Text.{Text}
+use Rattle.grammar.specs.Limits.{least-text, least-store, least-ends}
 use Rattle.grammar.specs.Names.{within, mangled-name}
 use Rattle.store.specs.laws.Lists.{second-lent}
 use Rattle.demangle.specs.laws.Tells.{tells-as}
@@ -12,13 +13,13 @@ use Rattle.demangle.proofs.entry.read_behind.Statement.{statement}
 use Rattle.demangle.proofs.entry.read_behind.Tie as tie
 
 slice-aggregate-read : tie.Need-slice-aggregate-read
-slice-aggregate-read c = sym (length-take-le 51200 (c .before .before .before .before .before .before .before .before .args .text .now) (c .before .before .before .before .before .before .before .before .pre .1 .text))
+slice-aggregate-read c = sym (length-take-le least-text (c .before .before .before .before .before .before .before .before .args .text .now) (c .before .before .before .before .before .before .before .before .pre .1 .text))
 
 slice-aggregate-read-2 : tie.Need-slice-aggregate-read-2
-slice-aggregate-read-2 c = sym (length-take-le 65536 (c .before .before .before .before .before .before .before .before .before .args .store .now) (c .before .before .before .before .before .before .before .before .before .pre .1 .store))
+slice-aggregate-read-2 c = sym (length-take-le least-store (c .before .before .before .before .before .before .before .before .before .args .store .now) (c .before .before .before .before .before .before .before .before .before .pre .1 .store))
 
 slice-aggregate-read-3 : tie.Need-slice-aggregate-read-3
-slice-aggregate-read-3 c = sym (length-take-le 2048 (c .before .before .before .before .before .before .before .before .before .before .args .ends .now) (c .before .before .before .before .before .before .before .before .before .before .pre .1 .ends))
+slice-aggregate-read-3 c = sym (length-take-le least-ends (c .before .before .before .before .before .before .before .before .before .before .args .ends .now) (c .before .before .before .before .before .before .before .before .before .before .pre .1 .ends))
 
 read-requires : tie.Need-read-requires
 read-requires c κs =
@@ -26,9 +27,9 @@ read-requires c κs =
     let l = s .pre .1 in (
       omega (arith, ap length (second-lent (s .args .at) (s .args .s .now)) ∙ length-drop (s .args .at) (s .args .s .now), s .pre .0),
       record {
-        text = length-take-le 51200 (s .args .text .now) (l .text);
-        store = length-take-le 65536 (s .args .store .now) (l .store);
-        ends = length-take-le 2048 (s .args .ends .now) (l .ends);
+        text = length-take-le least-text (s .args .text .now) (l .text);
+        store = length-take-le least-store (s .args .store .now) (l .store);
+        ends = length-take-le least-ends (s .args .ends .now) (l .ends);
       },
     )
 

@@ -4,6 +4,7 @@ use lib.ListN.{drop}
 use borrow.Author.Tests.{not-true, not-false}
 use Rattle.grammar.specs.Text.{run, digit}
 use Rattle.grammar.specs.laws.Places.{starts-inside}
+use Rattle.normal_steps.specs.Answers.{most-index}
 use Rattle.normal_steps.specs.laws.Leaves.{index-none, index-some, ref-open, ref-small, ref-zero, ref-right}
 use borrow.Author.Needs.{needs}
 use native.Mathlib.Omega.{arith}
@@ -70,7 +71,7 @@ returns-5 c =
     let h = sym (c .before .before .before .before .before .before .before .before .starts-with .ensures) ∙ not-false _ (c .before .before .before .before .before .before .before .if1 .left) in
     let p = sym (c .before .before .before .before .before .before .all-in .ensures) ∙ not-false _ (c .before .before .before .before .before .if2 .left) in
     let q = sym (c .before .before .before .before .leading-zero .ensures) ∙ c .before .before .before .if3 .left in
-    ref-right (a .s .now) (a .at) _ (d .behind) h p q 65536 (omega (arith, d .is, index-some (run (digit 36) (drop (a .at) (a .s .now))) (omega (arith, d .behind))))
+    ref-right (a .s .now) (a .at) _ (d .behind) h p q most-index (omega (arith, d .is, index-some (run (digit 36) (drop (a .at) (a .s .now))) (omega (arith, d .behind))))
 
 returns-6 : tie.Need-returns-6
 returns-6 c =

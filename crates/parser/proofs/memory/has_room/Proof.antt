@@ -4,6 +4,7 @@ use Prim.Native.Nat.{ℕ, _-_}
 use native.Mathlib.Omega.{arith}
 use borrow.Author.Needs.{needs}
 use borrow.Author.Tests.{leb-true, leb-false}
+use Rattle.grammar.specs.Limits.{most-entry-bytes}
 use Rattle.parser.proofs.memory.has_room.Statement.{statement}
 use Rattle.parser.proofs.memory.has_room.Tie as tie
 
@@ -13,7 +14,7 @@ returns c = record { yes = λ e. absurd (false≢true e); no = λ _ i j. omega (
 returns-2 : tie.Need-returns-2
 returns-2 c =
     let a = c .before .before .before .args in
-    let m : ℕ = 32768 - a .table .bytes in
+    let m : ℕ = most-entry-bytes - a .table .bytes in
     record { yes = λ e. (omega (arith, c .before .if1 .left), omega (arith, leb-true (a .n) m e)); no = λ e i j. omega (arith, leb-false (a .n) m e) }
 
 pub has-room-spec : {M : Type 1} → statement M

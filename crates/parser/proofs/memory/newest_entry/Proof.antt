@@ -6,6 +6,7 @@ use borrow.Author.Needs.{needs}
 use lib.ListN.{take, drop}
 use Rattle.grammar.specs.Text.{same}
 use Rattle.grammar.specs.laws.Text.{same-not}
+use Rattle.grammar.specs.Limits.{most-entry-bytes}
 use Rattle.store.specs.laws.Entries.{entries-sized}
 use Rattle.parser.specs.Holds.{low-bytes, low-ends}
 use Rattle.parser.specs.laws.Halves.{newest-part, last-none, last-chosen}
@@ -63,7 +64,7 @@ returns-3 c k d s base from t σ g l =
     c .same-long-part .ensures
     ∙ ap₂ same
     (ap (λ (j : ℕ). take j (drop (a .p .top - a .n) (a .text .now))) {x = a .n} {y = a .p .top - (a .p .top - a .n)} (omega (arith, x .0)) ∙ x .1)
-    (ap (λ (j : ℕ). take j (drop (r .from) (take 32768 (a .store .now)))) {x = a .n} {y = r .to - r .from} (omega (arith, c .before .before .if2 .left)) ∙ q .is)
+    (ap (λ (j : ℕ). take j (drop (r .from) (take most-entry-bytes (a .store .now)))) {x = a .n} {y = r .to - r .from} (omega (arith, c .before .before .if2 .left)) ∙ q .is)
     ∙ sym (last-chosen (σ .subs) (j - 1) t (omega (arith, i, h .subs .count-is)))
 
 pub newest-entry-spec : {M : Type 1} → statement M

@@ -6,6 +6,7 @@ use native.Mathlib.Omega.{arith}
 use lib.ListN.{take, drop, length-drop}
 use lib.Seq.{length-take-le}
 use Rattle.grammar.specs.Text.{Text, b}
+use Rattle.grammar.specs.Limits.{most-text-bytes}
 use Rattle.store.specs.Stack.{Stack}
 use Rattle.parser.specs.declared.state.Parser.{Parser}
 use Rattle.parser.specs.Holds.{Puts}
@@ -16,7 +17,7 @@ use Rattle.parser.proofs.memory.turned.Statement.{statement}
 use Rattle.parser.proofs.memory.turned.Tie as tie
 
 -- the c bytes stand once more on the top
-again-room : {text text₁ text₂ : Text} {p p₁ p₂ : Parser} {c m : ℕ} → Stack text (p .top) → c ≤ 16384 → m ≤ 16384 → c + m ≤ p .top
+again-room : {text text₁ text₂ : Text} {p p₁ p₂ : Parser} {c m : ℕ} → Stack text (p .top) → c ≤ most-text-bytes → m ≤ most-text-bytes → c + m ≤ p .top
     → Puts text text₁ p p₁ (32 ∷ []) → Puts text₁ text₂ p₁ p₂ (take c (drop (p₁ .top - (c + m + 1)) text₁)) → c + m + 1 + c ≤ p₂ .top
 again-room {text₁ = text₁} {p₁ = p₁} {c = c} {m = m} h i j l u v =
     let e = puts-top (c + m) h u l (omega arith) in

@@ -8,6 +8,7 @@ use borrow.Author.Needs.{needs}
 use lib.ListN.{length, drop, length-append, length-drop}
 use lib.Seq.{length-take-le}
 use Rattle.grammar.specs.Text.{Text, b}
+use Rattle.grammar.specs.Limits.{most-entry-bytes}
 use Rattle.grammar.specs.Reader.{State, recorded}
 use Rattle.grammar.specs.Grammar.{at-slots}
 use Rattle.store.specs.Stack.{Stack, slots-in, lent, newest, below-newest}
@@ -22,7 +23,7 @@ use Rattle.parser.proofs.types.wrap_member.Tie as tie
 -- the newest bytes are the member
 member :
     {k d : ℕ} {s base : Text} {from : ℕ} {m : Memory} {p : Parser} {n j : ℕ} (x y : Text) {σ : State} →
-    Stands k d s base from m p n (x ++ y) σ → length (x ++ y) ≤ 32768 → length y ≡ j → lent (m .text) (p .top) j ≡ y
+    Stands k d s base from m p n (x ++ y) σ → length (x ++ y) ≤ most-entry-bytes → length y ≡ j → lent (m .text) (p .top) j ≡ y
 member {m = m} {p = p} {j = j} x y h l f =
     sym (drop-take (p .top - j) (p .top) (m .text)) ∙ ap (λ (i : ℕ). newest (m .text) (p .top) i) (sym f) ∙ end-text x y h l
 
@@ -51,7 +52,7 @@ returns : tie.Need-returns
 returns c k d s base from x y σ e f h =
     let place-slots = c .before .before .before .before .before .before .before .before .before .before .before .before .before in let at-start = before-slots place-slots in
     let a = at-start in
-    let l : length (x ++ y) ≤ 32768 = omega (arith, length-append x y, e, f, a .pre .1 .0, a .pre .1 .1 .0) in
+    let l : length (x ++ y) ≤ most-entry-bytes = omega (arith, length-append x y, e, f, a .pre .1 .0, a .pre .1 .1 .0) in
     by (ap (λ (t : Text). recorded t σ) (behind y (at-slots (x ++ b "::*") y) (y ++ b " " ++ x ++ b "::*") (ap slots-in (sym (member x y h l f)) ∙ sym (place-slots .slots .ensures .0) ∙ c .before .before .before .before .before .before .before .before .before .before .before .before .if1 .taken)))
     (c .before .before .before .before .recorded .ensures k d s base from _ σ (c .before .before .before .before .before .before .before .before .before .before .class-behind .ensures .1 .1 k d s base from _ _ x y σ e f h))
 
@@ -60,7 +61,7 @@ unfolding b
 returns-2 c k d s base from x y σ e f h =
     let place-slots = c .before .before .before .before in let at-start = before-slots place-slots in
     let a = at-start in
-    let l : length (x ++ y) ≤ 32768 = omega (arith, length-append x y, e, f, a .pre .1 .0, a .pre .1 .1 .0) in
+    let l : length (x ++ y) ≤ most-entry-bytes = omega (arith, length-append x y, e, f, a .pre .1 .0, a .pre .1 .1 .0) in
     let g = ap slots-in (sym (member x y h l f)) ∙ sym (c .before .before .before .before .slots .ensures .0) in
     let z = woven-size (x ++ b "::*") y f g (length-append x (b "::*") ∙ ap (λ (j : ℕ). j + 3) e) in
     by (ap (λ (t : Text). recorded t σ) (inside y (at-slots (x ++ b "::*") y) (y ++ b " " ++ x ++ b "::*") (λ i. c .before .before .before .if1 .left (sym g ∙ i))))
@@ -100,7 +101,7 @@ returns-3 c k d s base from x y σ e f h =
     let at-else2 = c .before .before .before .before .before .before .before .before .before .before .before .before .before .before .before .before .before .before in
     let place-slots = before-else2 at-else2 in let at-start = before-slots place-slots in
     let a = at-start in
-    let l : length (x ++ y) ≤ 32768 = omega (arith, length-append x y, e, f, a .pre .1 .0, a .pre .1 .1 .0) in
+    let l : length (x ++ y) ≤ most-entry-bytes = omega (arith, length-append x y, e, f, a .pre .1 .0, a .pre .1 .1 .0) in
     let g = ap slots-in (sym (member x y h l f)) ∙ sym (place-slots .slots .ensures .0) in
     let z = woven-size (x ++ b "::*") y f g (length-append x (b "::*") ∙ ap (λ (j : ℕ). j + 3) e) in
     let v = puts-by (c .before .before .before .before .before .before .before .before .before .before .before .before .raised .ensures) (c .before .before .before .before .before .before .before .before .before .before .before .before .before .before .before .weave .ensures) in

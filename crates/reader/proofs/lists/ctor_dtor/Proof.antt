@@ -1,5 +1,6 @@
 -- `reader::lists::ctor_dtor` meets its contract. Assumes nothing.
 use borrow.Author.Needs.{needs}
+use Rattle.grammar.specs.Limits.{most-text-bytes, most-entry-bytes}
 use Rattle.reader.proofs.lists.ctor_dtor.Statement.{statement}
 use Rattle.reader.proofs.lists.ctor_dtor.Tie as tie
 use native.Mathlib.Omega.{arith}
@@ -58,7 +59,7 @@ gap-small : (c : tie.After-struct-known) → 2 * min
     (c .before .before .before .before .before .before .before .before .before .before .before .before .before .before .before .before .before .args .parts .count) 1 + c .before .before .before .before .before .before .before .before .before .before .before .tilde-size .result ≤ 3
 gap-small c = omega (arith, c .before .before .before .before .before .before .before .before .before .before .before .tilde-size .ensures, tilde-size (c .before .before .before .before .before .before .before .before .before .before .before .before .before .before .before .before .before .args .c))
 
-back-small : (c : tie.After-struct-known) → c .before .before .before .before .before .before .before .before .before .before .before .before .before .class-of .result .back ≤ 32768
+back-small : (c : tie.After-struct-known) → c .before .before .before .before .before .before .before .before .before .before .before .before .before .class-of .result .back ≤ most-entry-bytes
 back-small c = omega (
   arith,
   c .before .before .before .before .before .before .before .before .before .before .before .before .before .class-of .ensures .inside,
@@ -116,7 +117,7 @@ add-moved-2 c =
 returns-2 : tie.Need-returns-2
 returns-2 c s store ends base from ps σ x t e h =
     let at-longer = c .before .before .before .before .before .before .before .before .before .before .before .before .before .before in let at-start = before-longer at-longer in
-    let m : at-longer .before .before .shorter .result ≤ 16384 = omega (arith, at-longer .before .before .shorter .ensures) in
+    let m : at-longer .before .before .shorter .result ≤ most-text-bytes = omega (arith, at-longer .before .before .shorter .ensures) in
     let y : at-longer .before .tilde-size .result ≤ 1 = omega (arith, at-longer .before .tilde-size .ensures, tilde-size (at-start .args .c)) in
     let o = between (at-start .args .parts .count) (ap (λ (q : Parts). q .n) (at-longer .longer .ensures)) (at-longer .before .before .before .before .before .if1 .left) m y in
     let n = exact (at-start .args .parts .count) (ap (λ (q : Parts). q .n) (at-longer .longer .ensures)) (at-longer .before .before .before .before .before .if1 .left) m y in

@@ -8,6 +8,7 @@ use mathlib.Core.Path.{_≡_, sym, ap, _∙_}
 use Prim.Native.Nat.{ℕ, _+_, _≤_, min}
 use lib.ListN.{length, length-append}
 use Rattle.grammar.specs.Text.{Text, b, same, join}
+use Rattle.grammar.specs.Limits.{most-text-bytes, most-length}
 use Rattle.grammar.specs.Reader.{State, recorded}
 use Rattle.grammar.specs.Grammar.{only-void}
 use Rattle.parser.specs.Holds.{mem, Stands, keep}
@@ -22,7 +23,7 @@ use Rattle.reader.proofs.lists.func_end.Tie as tie
 listed :
     (c : tie.Joined1) {k d : ℕ} {s base : Text} {from : ℕ} {store ends : Text} {m : ℕ} {σ : State} (t : Text) (ts : List Text) →
     Stands k d s base from (mem (c .before .before .before .before .args .text .now) store ends) (c .before .before .before .before .args .p) m (t ++ (opening ++ join (b ", ") ts)) σ →
-    length t ≤ 16384 → c .before .before .before .before .args .n ≡ min (length (join (b ", ") ts)) 65536 →
+    length t ≤ most-text-bytes → c .before .before .before .before .args .n ≡ min (length (join (b ", ") ts)) most-length →
     c .before .before .before .before .args .count ≡ length ts → only-void ts ≡ false
 unfolding b
 listed c t ts h l f g =
@@ -54,7 +55,7 @@ returns c s base from t ts σ h e f g =
     let at-start = c .before .before .before .before .before .before .before .before .before .before .before .before .before .before .before .before .before .before .before .before .before .before .before .before .before .before in
     let a = at-start in
     let j : length (join (b ", ") ts) ≡ 4 = omega (arith, f, c .before .before .before .before .before .before .before .before .before .before .before .before .before .before .before .before .before .before .before .before .before .if2 .taken) in
-    let l : length t ≤ 16384 = omega (arith, e, a .pre .1 .0) in
+    let l : length t ≤ most-text-bytes = omega (arith, e, a .pre .1 .0) in
     let q = ap (λ (y : Text). same y (b "void")) (sym (newest-four t (join (b ", ") ts) h l j)) ∙ sym
     (c .before .before .before .before .before .before .before .before .before .before .before .before .before .before .before .before .before .before .same .ensures) ∙ c .before .before .before .before .before .before .before .before .before .before .before .before .before .before .before .before .before .if3 .taken in
     let w = stands-without t (join (b ", ") ts) h l j (keep (a .args .p .depth)) (omega arith) (omega arith) (c .before .before .before .before .before .before .before .before .before .before .before .before .before .before .before .cut .ensures) in

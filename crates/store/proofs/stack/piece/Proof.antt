@@ -5,6 +5,7 @@ use Prim.Native.Nat.{_+_, _≤_}
 use native.Mathlib.Omega.{arith}
 use borrow.Author.Needs.{needs}
 use lib.ListN.{length, length-set}
+use Rattle.grammar.specs.Limits.{stack-bytes}
 use Rattle.store.proofs.Stacks.{slot-room, byte-room, slot-put, byte-put}
 use Rattle.store.proofs.stack.piece.Statement.{statement}
 use Rattle.store.proofs.stack.piece.Tie as tie
@@ -13,7 +14,7 @@ shift-requires : tie.Need-shift-requires
 shift-requires c κs =
     let s = c .before .before .before .before in
     let a = s .args in
-    let r : a .top + a .d + length (a .word .now) + 1 ≤ 51200 = slot-room (a .low) (a .d) (a .word .now) (a .x) (s .pre .0) (s .pre .1 .0) (s .pre .1 .1) (c .before .if1 .taken) in
+    let r : a .top + a .d + length (a .word .now) + 1 ≤ stack-bytes = slot-room (a .low) (a .d) (a .word .now) (a .x) (s .pre .0) (s .pre .1 .0) (s .pre .1 .1) (c .before .if1 .taken) in
     (omega arith, (omega arith, inr (omega arith)))
 
 copy-requires : tie.Need-copy-requires

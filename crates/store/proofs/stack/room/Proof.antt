@@ -1,9 +1,9 @@
--- `store::stack::room` meets its contract: the stack is as it was, or `cut` leaves its newest 32,768 bytes.
+-- `store::stack::room` meets its contract: the stack is as it was, or `cut` leaves the newest bytes that are kept.
 -- Assumes nothing.
 use mathlib.Core.Path.{refl}
 use native.Mathlib.Omega.{arith}
 use borrow.Author.Needs.{needs}
-use Rattle.store.specs.Stack.{kept-bytes}
+use Rattle.grammar.specs.Limits.{kept-bytes}
 use Rattle.store.proofs.Stacks.{room-here, room-cut}
 use Rattle.store.proofs.stack.room.Statement.{statement}
 use Rattle.store.proofs.stack.room.Tie as tie

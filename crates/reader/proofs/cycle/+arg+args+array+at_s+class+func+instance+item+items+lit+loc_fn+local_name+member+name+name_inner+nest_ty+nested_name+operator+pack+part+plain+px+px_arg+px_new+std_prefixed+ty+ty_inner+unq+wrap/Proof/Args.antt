@@ -12,6 +12,7 @@ use Rattle.parser.specs.laws.Wraps.{stands-puts}
 use mathlib.Core.List.{[], _∷_}
 use lib.ListN.{length, take, drop, length-append}
 use Rattle.grammar.specs.Text.{Text, b, join, starts}
+use Rattle.grammar.specs.Limits.{most-open, most-length}
 use Rattle.grammar.specs.Reader.{State}
 use Rattle.grammar.specs.laws.Agree.{moved}
 use Rattle.grammar.specs.laws.Steps.{at-level}
@@ -74,7 +75,7 @@ module _ (t : ℕ) where
   inside : (c : Opened) → entry c .args .p .at < length (text (entry c))
   inside c = starts-inside (text (entry c)) (entry c .args .p .at) 73 (ahead c)
 
-  shallow : (c : Opened) → entry c .args .p .depth < 96
+  shallow : (c : Opened) → entry c .args .p .depth < most-open
   shallow c = omega (arith, c .before .before .before .before .before .if2 .left)
 
   -- the definition has entered as the code has
@@ -97,7 +98,7 @@ module _ (t : ℕ) where
       (mem (listed c .before .before .before .before .before .before .before .before .items .last .1 .0)
       (listed c .before .before .before .before .before .before .before .before .items .last .1 .1 .0)
       (listed c .before .before .before .before .before .before .before .before .items .last .1 .1 .1 .0)) (c .leave .result)
-      (min (length (60 ∷ join (b ", ") (items (listed c) h .texts))) 65536) (60 ∷ join (b ", ") (items (listed c) h .texts))
+      (min (length (60 ∷ join (b ", ") (items (listed c) h .texts))) most-length) (60 ∷ join (b ", ") (items (listed c) h .texts))
       (at-level (entry (opened (listed c)) .args .p .depth) (moved (drop (listed c .list .given .0 .0 .at + 1) (text (entry (opened (listed c))))) (items (listed c) h .state)))
   bracket c h =
       let o = opened (listed c) in

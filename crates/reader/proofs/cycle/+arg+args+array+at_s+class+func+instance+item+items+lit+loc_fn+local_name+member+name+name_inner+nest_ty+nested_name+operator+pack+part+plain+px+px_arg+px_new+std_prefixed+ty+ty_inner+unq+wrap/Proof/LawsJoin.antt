@@ -5,6 +5,7 @@ use Prim.Native.Nat.{ℕ, _+_, _≤_}
 use native.Mathlib.Omega.{arith}
 use lib.ListN.{length, take}
 use Rattle.grammar.specs.Text.{Text}
+use Rattle.grammar.specs.Limits.{most-entry-bytes, kept-bytes}
 use Rattle.grammar.specs.Reader.{State, Result, ok, Reader, onto}
 use Rattle.parser.specs.declared.state.Parser.{Parser}
 use Rattle.parser.specs.declared.state.Read.{Read}
@@ -61,7 +62,7 @@ stands-args {text = text} h e g = stands-kept h g (ap (λ (x : Parser). take (x 
 -- what `instance` promises, at the depth of the caller
 pub instance-at :
     {f : Text → Reader Text} {x : ℕ} {s : Text} {m m' : Memory} {p : Parser} {r : Read} {d : ℕ} {base : Text} {from : ℕ} {t : Text} {σ : State} {to : ℕ} →
-    Instance f x s m m' p r → Stands (keep d) d s base from m p x t σ → length t ≤ 32768 → to ≤ p .at + 1 →
+    Instance f x s m m' p r → Stands (keep d) d s base from m p x t σ → length t ≤ most-entry-bytes → to ≤ p .at + 1 →
     Refines (keep d) d s base to m' r (f t σ)
 instance-at {f} {x} {s} {m} {m'} {p} {r} {d} {base} {from} {t} {σ} {to} h w l i =
     sooner i (subst (λ (j : ℕ). Stands (keep j) j s base from m p x t σ → Refines (keep j) j s base (p .at + 1) m' r (f t σ)) (w .level) (λ v. h base from t σ v l) w)
@@ -69,11 +70,11 @@ instance-at {f} {x} {s} {m} {m'} {p} {r} {d} {base} {from} {t} {σ} {to} h w l i
 -- ---------------------------------------------------------------- room on the stack
 
 -- what a leaf keeps is more than what a reading at a depth does
-pub narrow : {s s' base : Text} {from : ℕ} {m m' : Memory} {p : Parser} {r : Read} {f : Result Text} {σ : State} → Holds s m p σ → Refines 34816 (p .depth) s' base from m' r f → Refines (keep (p .depth)) (p .depth) s' base from m' r f
+pub narrow : {s s' base : Text} {from : ℕ} {m m' : Memory} {p : Parser} {r : Read} {f : Result Text} {σ : State} → Holds s m p σ → Refines kept-bytes (p .depth) s' base from m' r f → Refines (keep (p .depth)) (p .depth) s' base from m' r f
 narrow h u = less (omega (arith, h .deep)) u
 
 pub stood : {d : ℕ} {s base : Text} {from : ℕ} {m : Memory} {p : Parser} {n : ℕ} {t : Text} {σ : State} → Wrote (keep d) d s base from m p n t σ → Stands (keep d) d s base from m p n t σ
 stood w = stands w (omega arith) (omega (arith, w .level, w .holds .deep))
 
-pub stands-top : {k d : ℕ} {s base : Text} {from : ℕ} {m : Memory} {p : Parser} {n : ℕ} {t : Text} {σ : State} → Stands k d s base from m p n t σ → length t ≤ 32768 → n ≤ p .top
+pub stands-top : {k d : ℕ} {s base : Text} {from : ℕ} {m : Memory} {p : Parser} {n : ℕ} {t : Text} {σ : State} → Stands k d s base from m p n t σ → length t ≤ most-entry-bytes → n ≤ p .top
 stands-top h l = newest-part h l .0

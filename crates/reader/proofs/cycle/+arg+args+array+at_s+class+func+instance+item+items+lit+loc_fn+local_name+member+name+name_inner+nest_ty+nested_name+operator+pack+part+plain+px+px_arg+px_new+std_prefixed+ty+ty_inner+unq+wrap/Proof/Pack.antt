@@ -2,6 +2,7 @@
 use mathlib.Core.Path.{_≡_, refl, sym, ap, _∙_}
 use Prim.Native.Nat.{ℕ, _+_, _-_, min}
 use lib.ListN.{length, drop, getD, length-set}
+use Rattle.grammar.specs.Limits.{most-length}
 use Rattle.parser.specs.declared.state.Parser.{Parser}
 use Rattle.parser.specs.declared.state.Peeked.the-variants as peeked-as
 use Rattle.parser.specs.Holds.{mem, refuses}
@@ -146,7 +147,7 @@ loop-again t c =
     packing (at-start .pre .1 .1) (at-loop .loop .inv .room) (omega (arith, at-loop .loop .inv .deep))
     (λ σ h. packed-closes (at-loop .loop .inv .so-far σ h) (looked t (at-known-told)) (c .before .before .before .before .before .if1 .taken)
     (sym (c .before .before .before .pack-ends .ensures) ∙ c .before .before .if2 .left) (c .before .before .before .before .moved .ensures)
-    (c .sum .ensures ∙ ap (λ (x : ℕ). min (getD (at-loop .loop .outer) (at-loop .loop .level - 1) 0 + (x + 2)) 65536) (c .before .joined-size2 .ensures)))
+    (c .sum .ensures ∙ ap (λ (x : ℕ). min (getD (at-loop .loop .outer) (at-loop .loop .level - 1) 0 + (x + 2)) most-length) (c .before .joined-size2 .ensures)))
 
 pub comma-requires : (t : ℕ) → lts.Need-comma-requires (pack-calls t) (pack-at t) pack.Post Inv-loop μ-loop
 comma-requires t c κs =

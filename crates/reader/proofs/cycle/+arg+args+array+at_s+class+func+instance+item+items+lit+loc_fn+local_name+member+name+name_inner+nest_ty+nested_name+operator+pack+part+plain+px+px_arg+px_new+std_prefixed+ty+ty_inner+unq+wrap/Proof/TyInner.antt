@@ -2,6 +2,7 @@
 use Prim.Native.Nat.{ℕ}
 use mathlib.Core.List.{[]}
 use Rattle.grammar.specs.Text.{b}
+use Rattle.grammar.specs.Limits.{kept-bytes}
 use Rattle.grammar.specs.Tables.{d-letters}
 use Rattle.grammar.specs.Reader.{by-code, give, refused}
 use Rattle.grammar.specs.Grammar.{reading, ⟨template-param⟩, type-inner, nested-type, s-type, class-type}
@@ -194,7 +195,7 @@ returns-7 t c =
     λ σ h.
     let l = byte-inside h (at-builtin .before .before .before .before .before .peek .ensures) (at-builtin .before .before .before .c .given .1) in
     by (from-text (type-inner reading) σ (byte-is h (at-builtin .before .before .before .before .before .peek .ensures) 117 (at-builtin .before .before .before .c .given .1) (c .before .before .before .before .match3 .keys6)) (inner-u _ σ))
-    (less (omega (arith, h .deep)) (sooner (omega arith) (call-moved (λ _. 34816) (at-builtin .before .moved .ensures) (c .before .before .source-name .ensures _ _) h (omega (arith, l)))))
+    (less (omega (arith, h .deep)) (sooner (omega arith) (call-moved (λ _. kept-bytes) (at-builtin .before .moved .ensures) (c .before .before .source-name .ensures _ _) h (omega (arith, l)))))
 
 pub same-length-13 : (t : ℕ) → lts.Need-same-length-13 (ty-inner-calls t) (ty-inner-at t) ty-inner.Post
 same-length-13 t c = search needs
