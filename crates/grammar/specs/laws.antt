@@ -10,3 +10,6 @@ pub mod NameSteps
 pub mod Examples
 pub mod Loops
 pub mod Decimals
+pub mod Alike
+pub mod AlikeReadings
+pub mod Dots

@@ -90,7 +90,7 @@ unfoldable pub all-coded : {A : Type 0} → List (Row A) → Bool
 all-coded [] = true
 all-coded ((w ⇒ x) ∷ rows) = coded w && all-coded rows
 
-each-row : {A : Type 0} (R : A → A → Type 0) → ((x : A) → R x x) → (rows : List (Row A)) → T (all-coded rows) → Rows R rows rows
+pub each-row : {A : Type 0} (R : A → A → Type 0) → ((x : A) → R x x) → (rows : List (Row A)) → T (all-coded rows) → Rows R rows rows
 unfolding all-coded
 each-row R f [] h = end
 each-row R f ((w ⇒ x) ∷ rows) h = let (p, q) = both (coded w) (all-coded rows) h in row p (f x) (each-row R f rows q)
@@ -142,7 +142,7 @@ unfolding if_then_else_
 pass-shorter true p x t l = omega arith
 pass-shorter false p x t l = omega arith
 
-past-shorter : (p : ℕ → Bool) (t : Text) → length (past p t) ≤ length t
+pub past-shorter : (p : ℕ → Bool) (t : Text) → length (past p t) ≤ length t
 unfolding past
 past-shorter p [] = omega arith
 past-shorter p (x ∷ t) = pass-shorter (p x) p x t (past-shorter p t)

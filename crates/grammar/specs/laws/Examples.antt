@@ -1,16 +1,17 @@
 -- Symbols and their answers, proved from the definition by computation.
 use mathlib.Core.Bool.{Bool, true, false, _&&_}
-use mathlib.Core.List.{List, [], _∷_}
-use mathlib.Core.Path.{_≡_, ap}
+use mathlib.Core.List.{List, [], _∷_, _++_}
+use mathlib.Core.Path.{_≡_, refl, ap, sym, _∙_}
 use Prim.Native.Nat.{ℕ}
 use Prim.Native.String.{String}
-use lib.Dec.{T, eqb, eqb→eq}
+use lib.Dec.{T, eqb, eqb→eq, leb→le}
 use Rattle.grammar.specs.Text as t
 use Rattle.grammar.specs.Tables as w
 use Rattle.grammar.specs.Reader as r
 use Rattle.grammar.specs.Grammar as g
 use Rattle.grammar.specs.Names as n
 use Rattle.grammar.specs.laws.Text.{both, same→eq}
+use Rattle.grammar.specs.laws.Dots.{left-in, left-of, Plain, behind-dot}
 use Rattle.grammar.specs.Text.{Text, b, same}
 use Rattle.grammar.specs.Limits.{most-symbol-bytes}
 use Rattle.grammar.specs.Tables.{Row, _⇒_}
@@ -219,3 +220,10 @@ by-test ((w ⇒ c) ∷ rows) h =
 pub departures-answered : Answered departures
 unfolding answered departures
 departures-answered = by-test departures tt
+
+-- `_Z1fv.isra.0`, `_Z1fv.cold` and any other bytes behind that dot
+pub behind-v : (u : Text) → Plain most-symbol-bytes (b "_Z1fv" ++ (b "." ++ u)) → demangle most-symbol-bytes (b "_Z1fv" ++ (b "." ++ u)) ≡ named (b "f(void)")
+unfolding answered left-of left-in
+behind-v u p =
+    sym (behind-dot most-symbol-bytes (b "_Z1fv") [] u refl (record { short = leb→le 6 most-symbol-bytes tt; low = refl }) p)
+    ∙ same-answer→eq _ _ tt

@@ -34,7 +34,7 @@ taken n m t h l =
     simp length-drop (omega arith)
 
 -- what is left behind an expression is no more than there was
-data Left (t : Text) : Option Text → Type 0 where
+pub data Left (t : Text) : Option Text → Type 0 where
   stuck : Left t none
   fewer : {u : Text} → length u ≤ length t → Left t (some u)
 
@@ -42,7 +42,7 @@ longer : {t : Text} {o : Option Text} (x : ℕ) → Left t o → Left (x ∷ t) 
 longer x stuck = stuck
 longer x (fewer {u = u} l) = fewer {u = u} (omega arith)
 
-skipped-shorter : (t : Text) (d : ℕ) → Left t (skipped t d)
+pub skipped-shorter : (t : Text) (d : ℕ) → Left t (skipped t d)
 unfolding skipped
 skipped-shorter [] zero = fewer {u = []} (omega arith)
 skipped-shorter [] (suc d) = stuck

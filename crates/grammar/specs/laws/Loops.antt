@@ -17,18 +17,24 @@ use Rattle.grammar.specs.Loops.{argument, before-E}
 abbrev pub Stepped : {A : Type 0} → (Text → Bool) → (A → Reader A) → A → State → Result A
 Stepped on step x s = (if on (s .rest) then (λ u. onto (λ y. while on step y) (step x u)) else return x) s
 
+-- each step reads a byte
+pub items-shrink : (k : Production) (l : List Text) (s : State) → Agree (unread s) (one-more (reading k) l s) (one-more (reading k) l s)
+items-shrink k l s = bind (reading-ends k s) λ t v h. reads h
+
+pub args-shrink : (l : List Text) (s : State) → Agree (unread s) (one-more argument l s) (one-more argument l s)
+args-shrink l s = bind (bind (reading-ends ⟨template-arg⟩ s) λ t v h. bind (push-arg-keeps t v h) λ _ w k. reads k) λ t v h. reads h
+
+pub parts-shrink : (p : Parts) (s : State) → Agree (unread s) (prefix reading p s) (prefix reading p s)
+parts-shrink p s = prefix-shrinks reading reading (suc (unread s)) (λ k v h. reading-ends k v) p s (omega arith)
+
 pub items-loop : (k : Production) (on : Text → Bool) (l : List Text) (s : State) → while on (one-more (reading k)) l s ≡ Stepped on (one-more (reading k)) l s
-items-loop k on l s = while-is (one-more (reading k)) (λ x u. bind (reading-ends k u) λ t v h. reads h) on l s
+items-loop k on l s = while-is (one-more (reading k)) (items-shrink k) on l s
 
 pub args-loop : (on : Text → Bool) (l : List Text) (s : State) → while on (one-more argument) l s ≡ Stepped on (one-more argument) l s
-args-loop on l s =
-    while-is (one-more argument)
-    (λ x u. bind (bind (reading-ends ⟨template-arg⟩ u) λ t v h. bind (push-arg-keeps t v h) λ _ w k. reads k) λ t v h. reads h)
-    on l s
+args-loop on l s = while-is (one-more argument) args-shrink on l s
 
 pub parts-loop : (on : Text → Bool) (p : Parts) (s : State) → while on (prefix reading) p s ≡ Stepped on (prefix reading) p s
-parts-loop on p s =
-    while-is (prefix reading) (λ q u. prefix-shrinks reading reading (suc (unread u)) (λ k v h. reading-ends k v) q u (omega arith)) on p s
+parts-loop on p s = while-is (prefix reading) parts-shrink on p s
 
 through :
     {A B : Type 0} {n : ℕ} {q r : Result A} (f g : A → Reader A) (h : A → Reader B) →
