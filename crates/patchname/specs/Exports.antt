@@ -24,10 +24,11 @@ pub told : {o : Outcome} {l' : Slices} {number bytes : ℕ} (r : Answer) → (nu
     → _≡_ {A = Outcome} (record { answer = r; slices = l' }) o → Returns o l' number bytes
 told {l' = l'} r (e, f) h = ap₂ (λ (n b : ℕ). record { number = n; bytes = b; slices = l' }) e f ∙ ap in-numbers h
 
-abbrev pub Returns-listing : Listing → Text → Slices → ℕ → ℕ → Type 0
-Returns-listing o out work taken written = _≡_ {A = Listing} (record { taken = taken; written = written; out = out; work = work }) o
+abbrev pub Returns-listing : Listing → Text → Slices → ℕ → ℕ → ℕ → Type 0
+Returns-listing o out work number taken written = _≡_ {A = Listing} (record { number = number; taken = taken; written = written; out = out; work = work }) o
 
 -- what was listed, taken apart
-pub told-listing : {o : Listing} {out : Text} {work : Slices} {taken written : ℕ} (r : Listed) → (taken ≡ r .taken) × (written ≡ r .written)
-    → Returns-listing o out work (r .taken) (r .written) → Returns-listing o out work taken written
-told-listing {o} {out} {work} r (e, f) h = ap₂ (λ (t w : ℕ). record { taken = t; written = w; out = out; work = work }) e f ∙ h
+pub told-listing : {o : Listing} {out : Text} {work : Slices} {number taken written : ℕ} (r : Listed)
+    → (number ≡ r .number) × ((taken ≡ r .taken) × (written ≡ r .written)) → Returns-listing o out work (r .number) (r .taken) (r .written)
+    → Returns-listing o out work number taken written
+told-listing {out = out} {work = work} r (e, (f, g)) h = (λ i. record { number = e i; taken = f i; written = g i; out = out; work = work }) ∙ h
