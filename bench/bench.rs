@@ -92,8 +92,10 @@ impl Lines {
         let Lent { entry, out, text, store, ends } = &mut self.lent;
         let (mut from, mut sum) = (0, 0);
         while from < self.lines.len() {
-            let mut written = 0;
-            from += entry.list(&self.lines[from..], &mut self.listing, out, text, store, ends, &mut written);
+            let (mut taken, mut written) = (0, 0);
+            let number = entry.list(&self.lines[from..], &mut self.listing, out, text, store, ends, &mut taken, &mut written);
+            assert_eq!(number, 0);
+            from += taken;
             show(&self.listing[..written]);
             sum += written;
         }

@@ -25,8 +25,8 @@ extern "C" {
 #define PATCHNAME_STORE_LENGTH 65536
 #define PATCHNAME_ENDS_LENGTH 2048
 
-/* What a call for one symbol returns, and what stands first in a line of a listing. Where more than one refusal would fit, the first in this order is told: 1, 2, 3, 14, then 4 and 7 to 11 as the reading
- * first meets them, 5, 6, 13, 12. */
+/* What a call for one symbol returns, and what stands first in a line of a listing. Where more than one refusal would fit, the first in this
+ * order is told: 1, 2, 3, 14, then 4 and 7 to 11 as the reading first meets them, 5, 6, 13, 12. A call for a listing returns 0, 12 or 14. */
 enum patchname_number {
     PATCHNAME_OK = 0,                     /* the result is in `out` */
     PATCHNAME_SYMBOL_TOO_LONG = 1,        /* the symbol is longer than 4,096 bytes */
@@ -96,36 +96,38 @@ uint8_t patchname_normalize(
  *                         line feed. With another number than 0 the length is 0 and there is no name. No other line stands in front.
  * name, name_length       one more work slice, of PATCHNAME_NAME_BYTES at least, for one name or normal symbol at a time.
  * text, store, ends       work slices, as for `patchname_demangle`.
- * written                 where the length of the listing goes; its value before the call doesn't matter.
+ * taken                   where it goes how many bytes of `input` were taken: the lines at its front whose listing fits into `out`.
+ * written                 where the length of the listing goes. The values of both before the call don't matter.
  *
- * Returned is how many bytes of `input` were taken: the lines at its front whose listing fits into `out`. Lines of any bytes and any length get a
- * line; 12 and 14 never stand in one. The first *written bytes of `out` are the listing, and those behind them are as they were. All work slices,
- * `name` too, end all zero. Call it again with the rest, until 0 is returned.
+ * Returned is PATCHNAME_WORK_TOO_SHORT where a work slice is below its least length; PATCHNAME_OUTPUT_TOO_SHORT where `input` has a complete line
+ * and the listing of the first one is longer than `out`, which is never so with PATCHNAME_LINE_BYTES; and PATCHNAME_OK otherwise. With another
+ * number than 0 nothing is taken or written. With 0 at least one line is taken where `input` has a complete one: call it again with the rest, until
+ * nothing is taken.
  *
- * 0 is returned, and *written is 0, where `input` has no line feed, where the first line's listing is longer than `out`, which is never so with
- * PATCHNAME_LINE_BYTES, and where a work slice is below its least length.
+ * Lines of any bytes and any length get a line; 12 and 14 never stand in one. The first *written bytes of `out` are the listing, and those behind
+ * them are as they were. All work slices, `name` too, end all zero.
  *
  * What a caller owes: each pointer and its length are a slice of memory that the caller may read, and, but for the input, write. No two of the
- * slices overlap, and none has *written in it. No pointer is null, not even where its length is 0. `ends` and `written` are aligned as their types
- * are. */
-size_t patchname_list_names(
+ * slices overlap, and none has *taken or *written in it, which are two places. No pointer is null, not even where its length is 0. `ends`,
+ * `taken` and `written` are aligned as their types are. */
+uint8_t patchname_list_names(
     const uint8_t *input, size_t input_length,
     uint8_t *out, size_t out_length,
     uint8_t *name, size_t name_length,
     uint8_t *text, size_t text_length,
     uint8_t *store, size_t store_length,
     uint16_t *ends, size_t ends_length,
-    size_t *written);
+    size_t *taken, size_t *written);
 
 /* The same with the normal symbol in the name's place, and PATCHNAME_NORMALIZE_ENDS_LENGTH as the least length of `ends`. */
-size_t patchname_list_normal_symbols(
+uint8_t patchname_list_normal_symbols(
     const uint8_t *input, size_t input_length,
     uint8_t *out, size_t out_length,
     uint8_t *name, size_t name_length,
     uint8_t *text, size_t text_length,
     uint8_t *store, size_t store_length,
     uint16_t *ends, size_t ends_length,
-    size_t *written);
+    size_t *taken, size_t *written);
 
 #ifdef __cplusplus
 }

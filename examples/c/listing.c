@@ -6,13 +6,14 @@
  *   ./listing < examples/symbols
  */
 #include <stdio.h>
+#include <stdlib.h>
 #include <string.h>
 
 #include "patchname.h"
 
 /* Both functions have these parameters. */
-typedef size_t list_function(
-    const uint8_t *, size_t, uint8_t *, size_t, uint8_t *, size_t, uint8_t *, size_t, uint8_t *, size_t, uint16_t *, size_t, size_t *);
+typedef uint8_t list_function(
+    const uint8_t *, size_t, uint8_t *, size_t, uint8_t *, size_t, uint8_t *, size_t, uint8_t *, size_t, uint16_t *, size_t, size_t *, size_t *);
 
 struct lister {
     list_function *function;
@@ -29,15 +30,18 @@ static uint8_t text[PATCHNAME_TEXT_LENGTH];
 static uint8_t store[PATCHNAME_STORE_LENGTH];
 static uint16_t ends[PATCHNAME_NORMALIZE_ENDS_LENGTH];
 
-/* Complete lines, so many bytes. `listing` has room for any line, so that at least one is taken each time. */
+/* Complete lines, so many bytes. `listing` has room for any line and the work slices are long enough, so that at least one is taken each time. */
 static void list(struct lister lister, size_t bytes)
 {
     size_t from = 0;
     while (from < bytes) {
-        size_t written;
-        from += lister.function(
+        size_t taken, written;
+        if (lister.function(
             lines + from, bytes - from, listing, sizeof listing, name, sizeof name, text, sizeof text, store, sizeof store,
-            ends, lister.ends_length, &written);
+            ends, lister.ends_length, &taken, &written) != PATCHNAME_OK) {
+            abort();
+        }
+        from += taken;
         fwrite(listing, 1, written, stdout);
     }
 }

@@ -242,6 +242,7 @@ impl Tried<'_> {
         input.extend(&b"_Z1fv"[..self.rubbish.random.below(6)]);
         let short = name < library::NAME || (0..3).any(|i| work[i] < self.entry.least[i]);
         let (count, listing) = if short { (0, vec![]) } else { fitting(&lines, out) };
+        let number = if short { 14 } else if count == 0 && !rows.is_empty() { 12 } else { 0 };
         let wanted: usize = rows[..count].iter().map(|row| row.symbol.len() + 1).sum();
 
         let Rubbish { random, bytes, numbers } = &mut self.rubbish;
@@ -250,18 +251,18 @@ impl Tried<'_> {
         let mut text = Lent::new(random, bytes, work[0]);
         let mut store = Lent::new(random, bytes, work[1]);
         let mut ends = Lent::new(random, numbers, work[2]);
-        let mut written = random.next() as usize;
-        let taken = self.entry.list(&input, out.slice(), name.slice(), text.slice(), store.slice(), ends.slice(), &mut written);
+        let (mut taken, mut written) = (random.next() as usize, random.next() as usize);
+        let told = self.entry.list(&input, out.slice(), name.slice(), text.slice(), store.slice(), ends.slice(), &mut taken, &mut written);
 
         let right = out.has(&listing);
         let zero = name.is_all(0) && text.is_all(0) && store.is_all(0) && ends.is_all(0);
         self.calls += 1;
-        if taken != wanted || written != listing.len() || !right || !zero {
+        if told != number || taken != wanted || written != listing.len() || !right || !zero {
             self.failures += 1;
             if self.failures <= 20 {
                 println!(
-                    "the listing of {}, {} lines from {:?}: {taken} bytes taken for {wanted}, {written} written for {}, output right: {right}, work slices zero: {zero}",
-                    self.entry.what, rows.len(), shown(rows[0].symbol), listing.len()
+                    "the listing of {}, {} lines from {:?}: {told} for {number}, {taken} bytes taken for {wanted}, {written} written for {}, output right: {right}, work slices zero: {zero}",
+                    self.entry.what, rows.len(), rows.first().map(|row| shown(row.symbol)), listing.len()
                 );
             }
         }
@@ -270,6 +271,12 @@ impl Tried<'_> {
     /// Stretches of the rows, with outputs around each length that decides how many lines fit.
     fn listings(&mut self, rows: &[Row]) {
         let least = self.entry.least;
+        for out in [0, 64] {
+            self.list(&[], out, library::NAME, least);
+        }
+        for (_, work) in works(least) {
+            self.list(&[], 64, library::NAME, work);
+        }
         let mut from = 0;
         while from < rows.len() {
             let end = rows.len().min(from + 1 + self.rubbish.random.below(6));

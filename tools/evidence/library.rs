@@ -15,8 +15,9 @@ functions!(Function(
 ) -> u8: patchname_demangle, patchname_normalize);
 functions!(Lister(
     input: *const u8, input_length: usize, out: *mut u8, out_length: usize, name: *mut u8, name_length: usize,
-    text: *mut u8, text_length: usize, store: *mut u8, store_length: usize, ends: *mut u16, ends_length: usize, written: *mut usize
-) -> usize: patchname_list_names, patchname_list_normal_symbols);
+    text: *mut u8, text_length: usize, store: *mut u8, store_length: usize, ends: *mut u16, ends_length: usize,
+    taken: *mut usize, written: *mut usize
+) -> u8: patchname_list_names, patchname_list_normal_symbols);
 
 /// The least length of the slice for one name, of either listing.
 #[allow(dead_code)]
@@ -60,15 +61,16 @@ impl Entry {
             )
         }
     }
-    /// The bytes taken of the input; those written go to `written`.
+    /// The number; the bytes taken of the input and those written go to `taken` and `written`.
     #[allow(dead_code, clippy::too_many_arguments)]
     pub fn list(
-        &self, input: &[u8], out: &mut [u8], name: &mut [u8], text: &mut [u8], store: &mut [u8], ends: &mut [u16], written: &mut usize,
-    ) -> usize {
+        &self, input: &[u8], out: &mut [u8], name: &mut [u8], text: &mut [u8], store: &mut [u8], ends: &mut [u16],
+        taken: &mut usize, written: &mut usize,
+    ) -> u8 {
         unsafe {
             (self.lister)(
                 input.as_ptr(), input.len(), out.as_mut_ptr(), out.len(), name.as_mut_ptr(), name.len(), text.as_mut_ptr(), text.len(),
-                store.as_mut_ptr(), store.len(), ends.as_mut_ptr(), ends.len(), written,
+                store.as_mut_ptr(), store.len(), ends.as_mut_ptr(), ends.len(), taken, written,
             )
         }
     }

@@ -50,8 +50,9 @@ functions!(Entry(
 ) -> u8: patchname_demangle, patchname_normalize);
 functions!(Lister(
     input: *const u8, input_length: usize, out: *mut u8, out_length: usize, name: *mut u8, name_length: usize,
-    text: *mut u8, text_length: usize, store: *mut u8, store_length: usize, ends: *mut u16, ends_length: usize, written: *mut usize
-) -> usize: patchname_list_names, patchname_list_normal_symbols);
+    text: *mut u8, text_length: usize, store: *mut u8, store_length: usize, ends: *mut u16, ends_length: usize,
+    taken: *mut usize, written: *mut usize
+) -> u8: patchname_list_names, patchname_list_normal_symbols);
 
 /// What a call is lent for work. The contents don't matter before it, and are zero after it.
 struct Work<'a> {
@@ -87,7 +88,7 @@ unsafe fn call(entry: Entry, symbol: &[u8], out: &mut [u8], work: Work) -> Resul
     }
 }
 
-/// How much was taken of the input, and how much was written to the output.
+/// How much was taken of the input, and how much was written to the output. Nothing is taken where the input has no line feed.
 #[derive(Clone, Copy, Debug, PartialEq, Eq)]
 pub struct Listed {
     /// The bytes of the lines that were listed, with their line feeds.
@@ -99,10 +100,10 @@ pub struct Listed {
 /// # Safety
 ///
 /// `lister` is a function of the library.
-unsafe fn list(lister: Lister, input: &[u8], out: &mut [u8], name: &mut [u8], work: Work) -> Listed {
-    let mut written = 0;
+unsafe fn list(lister: Lister, input: &[u8], out: &mut [u8], name: &mut [u8], work: Work) -> Result<Listed, Refusal> {
+    let mut listed = Listed { taken: 0, written: 0 };
     let Work { text, store, ends } = work;
-    let taken = lister(
+    let number = lister(
         input.as_ptr(),
         input.len(),
         out.as_mut_ptr(),
@@ -115,9 +116,13 @@ unsafe fn list(lister: Lister, input: &[u8], out: &mut [u8], name: &mut [u8], wo
         store.len(),
         ends.as_mut_ptr(),
         ends.len(),
-        &mut written,
+        &mut listed.taken,
+        &mut listed.written,
     );
-    Listed { taken, written }
+    match number {
+        0 => Ok(listed),
+        _ => Err(Refusal::of(number).expect("the library has another refusal")),
+    }
 }
 
 fn name_into(symbol: &[u8], out: &mut [u8], work: Work) -> Result<usize, Refusal> {
@@ -163,15 +168,16 @@ impl Demangler {
     }
 
     /// The listing of the complete lines at the front of `input`, one symbol a line, as many as fit into `out`: for each the number, the length
-    /// and the name, parted by commas, and a line feed. Call it again with the rest; where `out` has [`LINE_BYTES`] and `input` a line feed, a line
-    /// is always taken. For many symbols this is faster than [`Demangler::name`], which clears the work memory for each.
-    pub fn list_names(&mut self, input: &[u8], out: &mut [u8]) -> Listed {
+    /// and the name, parted by commas, and a line feed. Call it again with the rest; where `input` has a line feed, a line is always taken, or
+    /// `out` is too short for the first one: [`Refusal::OutputTooShort`], never with [`LINE_BYTES`]. For many symbols this is faster than
+    /// [`Demangler::name`], which clears the work memory for each.
+    pub fn list_names(&mut self, input: &[u8], out: &mut [u8]) -> Result<Listed, Refusal> {
         let (name, work) = self.lent(ENDS_LENGTH);
         unsafe { list(patchname_list_names, input, out, name, work) }
     }
 
     /// The same with normal symbols in the names' place.
-    pub fn list_normal_symbols(&mut self, input: &[u8], out: &mut [u8]) -> Listed {
+    pub fn list_normal_symbols(&mut self, input: &[u8], out: &mut [u8]) -> Result<Listed, Refusal> {
         let (name, work) = self.lent(NORMALIZE_ENDS_LENGTH);
         unsafe { list(patchname_list_normal_symbols, input, out, name, work) }
     }

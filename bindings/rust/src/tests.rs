@@ -222,11 +222,11 @@ fn listings() {
     let input = b"_Z1fv\n_Z0v\n\n_Z1fP1aPS_\n_Z1f";
     let mut out = vec![7; LINE_BYTES];
     let names = b"0,3,f()\n4,0,\n3,0,\n0,9,f(a*, a*)\n";
-    assert_eq!(Demangler::new().list_names(input, &mut out), Listed { taken: 23, written: names.len() });
+    assert_eq!(Demangler::new().list_names(input, &mut out), Ok(Listed { taken: 23, written: names.len() }));
     assert_eq!(&out[..names.len()], names);
     assert!(out[names.len()..].iter().all(|&x| x == 7));
     let symbols = b"0,5,_Z1fv\n4,0,\n3,0,\n0,10,_Z1fP1aS0_\n";
-    assert_eq!(Demangler::new().list_normal_symbols(input, &mut out), Listed { taken: 23, written: symbols.len() });
+    assert_eq!(Demangler::new().list_normal_symbols(input, &mut out), Ok(Listed { taken: 23, written: symbols.len() }));
     assert_eq!(&out[..symbols.len()], symbols);
 }
 
@@ -234,10 +234,19 @@ fn listings() {
 fn listing_with_little_output() {
     let mut demangler = Demangler::new();
     let mut out = [7; 12];
-    assert_eq!(demangler.list_names(b"_Z1fv\n_Z0v\n", &mut out), Listed { taken: 6, written: 8 });
+    assert_eq!(demangler.list_names(b"_Z1fv\n_Z0v\n", &mut out), Ok(Listed { taken: 6, written: 8 }));
     assert_eq!(&out, b"0,3,f()\n\x07\x07\x07\x07");
-    assert_eq!(demangler.list_names(b"_Z1fv\n", &mut out[..7]), Listed { taken: 0, written: 0 });
-    assert_eq!(demangler.list_names(b"_Z1fv", &mut out), Listed { taken: 0, written: 0 });
+    assert_eq!(demangler.list_names(b"_Z1fv\n", &mut out[..7]), Err(Refusal::OutputTooShort));
+    assert_eq!(demangler.list_names(b"_Z1fv", &mut out), Ok(Listed { taken: 0, written: 0 }));
+    assert_eq!(demangler.list_names(b"_Z1fv", &mut []), Ok(Listed { taken: 0, written: 0 }));
+}
+
+#[test]
+fn listing_with_little_work() {
+    let mut demangler = Demangler::new();
+    let (name, work) = demangler.lent(ENDS_LENGTH - 1);
+    let listed = unsafe { list(patchname_list_names, b"_Z1fv\n", &mut [7; 12], name, work) };
+    assert_eq!(listed, Err(Refusal::WorkTooShort));
 }
 
 #[test]
@@ -249,7 +258,7 @@ fn listing_leaves_the_memory_zero() {
     demangler.ends.fill(7);
     let mut out = vec![0; 3 * LINE_BYTES];
     let listed = demangler.list_normal_symbols(b"_Z1fP1aPS_\n_Z1f1aIiE1b\n_ZN1a1bEi\n", &mut out);
-    assert_eq!(listed.taken, 33);
+    assert_eq!(listed.map(|l| l.taken), Ok(33));
     assert!(demangler.out.iter().chain(demangler.text.iter()).chain(demangler.store.iter()).all(|&x| x == 0));
     assert!(demangler.ends.iter().all(|&x| x == 0));
 }

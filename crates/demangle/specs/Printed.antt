@@ -5,7 +5,7 @@ use Prim.Native.Nat.{ℕ}
 use lib.ListN.{length}
 use Rattle.grammar.specs.Text.{Text}
 use Rattle.grammar.specs.Reader.{State, ok}
-use Rattle.grammar.specs.Names.{number-of, length-of, written, within, finished}
+use Rattle.grammar.specs.Names.{written, within, finished}
 use Rattle.grammar.specs.Names as n
 use Rattle.store.specs.Stack.{zeros}
 use Rattle.parser.specs.declared.state.Parser.{Parser}
@@ -17,12 +17,11 @@ use Rattle.demangle.specs.declared.symbol.Front.the-variants as front-as
 use Rattle.parser.specs.declared.state.Read.{Read}
 use Rattle.parser.specs.declared.state.Read.the-variants as read-as
 use Rattle.encoding.specs.Encodings.{Prints}
-use Rattle.demangle.specs.Outcome.{number-in, bytes-in}
+use Rattle.demangle.specs.Outcome.{told}
 
 -- the code's answer and the output are the definition's
 pub record Tells (a : n.Answer) (before after : Text) (r : Answer) : Type 0 where
-  pub number : number-in r ≡ number-of a
-  pub bytes : bytes-in r ≡ length-of a
+  pub answer : r ≡ told a
   pub out : after ≡ written a before
 
 -- a text of n bytes on the stack, as a name

@@ -1,12 +1,15 @@
--- The entry for listings: the lengths of its work slices, the lines that it takes, and what it leaves. Assumes nothing.
+-- What the entry for listings leaves before its work slices are cleared. Assumes nothing.
 use mathlib.Core.List.{List, []}
 use lib.ListN.{length}
 use Rattle.grammar.specs.Text.{Text, if_then_else_}
 use Rattle.demangle.specs.Outcome.{Slices}
-use Rattle.listing.specs.Listing.{lines, fitting, sized, work-sized}
+use Rattle.listing.specs.Listing.{lines, fitting, number-for, work-sized}
+use Rattle.listing.specs.Lines.{Goes}
 use Rattle.listing.specs.declared.listing.Kind.{Kind}
+use Rattle.listing.specs.declared.listing.Listed.{Listed}
 
--- ---------------------------------------------------------------- the lines that are taken
-
-abbrev pub taken-lines : Kind → Text → Text → Slices → List Text
-taken-lines kind input out work = if work-sized kind work then fitting kind (length out) (lines input) else []
+-- the number is told, and the lines that fit are taken, or none
+abbrev pub Tried : Kind → Text → Text → Text → Slices → Listed → Type 0
+Tried kind input out out' work r =
+    let ss : List Text = fitting kind (length out) (lines input) in
+    Goes kind (number-for (work-sized kind work) (lines input) ss) out out' (if work-sized kind work then ss else []) r

@@ -1,20 +1,30 @@
 -- The lines that are taken, one after another. Assumes nothing.
-use mathlib.Core.Bool.{not}
+use mathlib.Core.Bool.{true, not}
 use mathlib.Core.List.{List, _++_}
 use mathlib.Core.Path.{_≡_}
 use Prim.Native.Nat.{ℕ, _+_, _-_, _≤_}
 use lib.Dec.{eqb}
 use lib.ListN.{length, drop}
-use Rattle.grammar.specs.Text.{Text, run}
-use Rattle.listing.specs.Listing.{lines, bytes-taken, listing, fitting}
+use Rattle.grammar.specs.Text.{Text, if_then_else_, run}
+use Rattle.listing.specs.Listing.{lines, bytes-taken, listing, fitting, number-for}
 use Rattle.listing.specs.declared.listing.Kind.{Kind}
 use Rattle.listing.specs.declared.listing.Listed.{Listed}
 
--- the lines ss were taken and listed
-pub record Goes (kind : Kind) (out out' : Text) (ss : List Text) (r : Listed) : Type 0 where
+-- the lines ss were taken and listed, and the number is told
+pub record Goes (kind : Kind) (number : ℕ) (out out' : Text) (ss : List Text) (r : Listed) : Type 0 where
+  pub told : r .number ≡ number
   pub taken : r .taken ≡ bytes-taken ss
   pub written : r .written ≡ length (listing kind ss)
   pub is : out' ≡ listing kind ss ++ drop (length (listing kind ss)) out
+
+-- the same of the lines that fit, with work slices that are long enough
+abbrev pub GoesOn : Kind → Text → Text → Text → Listed → Type 0
+GoesOn kind input out out' r =
+    let ss : List Text = fitting kind (length out) (lines input) in Goes kind (number-for true (lines input) ss) out out' ss r
+
+-- the number where the next line does not fit
+abbrev pub full-number : ℕ → ℕ
+full-number taken = if eqb taken 0 then 12 else 0
 
 -- ---------------------------------------------------------------- the first line
 

@@ -1,5 +1,5 @@
 -- The listing: for each line of the input a line with the number, the length and the name or the normal symbol that the symbol gets.
-use mathlib.Core.Bool.{Bool, _&&_}
+use mathlib.Core.Bool.{Bool, true, false, _&&_}
 use mathlib.Core.List.{List, [], _∷_, _++_}
 use mathlib.Core.Path.{_≡_}
 use Prim.Native.Nat.{ℕ, _+_, _-_}
@@ -88,14 +88,28 @@ sized kind name text store ends = leb least-name name && (leb least-text text &&
 unfoldable pub work-sized : Kind → Slices → Bool
 work-sized kind l = sized kind (length (l .out)) (length (l .text)) (length (l .store)) (length (l .ends))
 
+-- where none of the lines fits
+unfoldable pub none-fits : List Text → ℕ
+none-fits [] = 0
+none-fits (s ∷ ss) = 12
+
+-- by the work slices, the lines, and those of them that fit. 14: a work slice is below its least length; 12: the output is shorter than what
+-- is written of the first line; 0 otherwise, where there is no line too
+unfoldable pub number-for : Bool → List Text → List Text → ℕ
+number-for false ss ts = 14
+number-for true ss [] = none-fits ss
+number-for true ss (t ∷ ts) = 0
+
 pub record Outcome : Type 0 where
+  pub number : ℕ
   pub taken : ℕ
   pub written : ℕ
   pub out : Text
   pub work : Slices
 
-unfoldable pub lists : Kind → List Text → Text → Slices → Outcome
-lists kind ss out work = record {
+unfoldable pub lists : Kind → ℕ → List Text → Text → Slices → Outcome
+lists kind number ss out work = record {
+  number = number;
   taken = bytes-taken ss;
   written = length (listing kind ss);
   out = listing kind ss ++ drop (length (listing kind ss)) out;
@@ -104,8 +118,10 @@ lists kind ss out work = record {
 
 -- the definition of the entry: with work slices that are too short no line is taken
 unfoldable pub listed : Kind → Text → Text → Slices → Outcome
-listed kind input out work = lists kind (if work-sized kind work then fitting kind (length out) (lines input) else []) out work
+listed kind input out work =
+    lists kind (number-for (work-sized kind work) (lines input) (fitting kind (length out) (lines input)))
+    (if work-sized kind work then fitting kind (length out) (lines input) else []) out work
 
 abbrev pub Lists : Kind → Text → Text → Text → Slices → Slices → Listed → Type 0
 Lists kind input out out' work work' r =
-    _≡_ {A = Outcome} (record { taken = r .taken; written = r .written; out = out'; work = work' }) (listed kind input out work)
+    _≡_ {A = Outcome} (record { number = r .number; taken = r .taken; written = r .written; out = out'; work = work' }) (listed kind input out work)

@@ -14,11 +14,11 @@ ghost use Prim.Native.Nat.{_≤_, _<_};
 ghost use lib.ListN.{length};
 ghost use Rattle.demangle.specs.Outcome.{slices, number-in, bytes-in};
 ghost use Rattle.demangle.specs.Printed.{Tells};
-ghost use Rattle.listing.specs.Listing.{line, answer-of, listing-line, fitting, lines, least-ends-of, sized, Lists};
+ghost use Rattle.listing.specs.Listing.{line, answer-of, listing-line, least-ends-of, sized, Lists};
 ghost use Rattle.listing.specs.Printed.{Heads, Printed};
-ghost use Rattle.listing.specs.Lines.{Goes};
+ghost use Rattle.listing.specs.Lines.{GoesOn, full-number};
 ghost use Rattle.listing.specs.Kinds.{LongFor};
-ghost use Rattle.listing.specs.Entry.{taken-lines};
+ghost use Rattle.listing.specs.Entry.{Tried};
 
 // The least length of the slice for a name or a normal symbol; those of the others are the entries'.
 pub const NAME: usize = Parser::TEXT;
@@ -29,8 +29,10 @@ pub enum Kind {
     Symbols,
 }
 
-// How many bytes of the input were taken, and how many of the output written.
+// How many bytes of the input were taken, and how many of the output written. The number is 14 where a work slice is too
+// short, 12 where the output is too short for the first line, and 0 otherwise.
 pub struct Listed {
+    pub number: u8,
     pub taken: usize,
     pub written: usize,
 }
@@ -121,6 +123,16 @@ fn write_line(
     print_line(out, at, number, &name[..bytes])
 }
 
+// The number where the next line does not fit.
+fn full(taken: usize) -> u8
+    ensures { λ r. ⌜ r ≡ full-number taken ⌝ }
+{
+    if taken == 0 {
+        return 12;
+    }
+    0
+}
+
 // The lines one after another, as long as their listing fits.
 fn write_lines(
     kind: Kind,
@@ -132,7 +144,7 @@ fn write_lines(
     ends: &mut [u16],
 ) -> Listed
     requires { ⌜ LongFor kind (slices (now name) (now text) (now store) (now ends)) ⌝ }
-    ensures { λ r. ⌜ Goes kind (now (out .entry)) (now (out .exit)) (fitting kind (length (now (out .entry))) (lines (now (input .entry)))) r ⌝ }
+    ensures { λ r. ⌜ GoesOn kind (now (input .entry)) (now (out .entry)) (now (out .exit)) r ⌝ }
 {
     let mut at: usize = 0;
     let mut end: usize = 0;
@@ -140,6 +152,7 @@ fn write_lines(
         let feed = line_end(input, at);
         if input.len() <= feed {
             return Listed {
+                number: 0,
                 taken: at,
                 written: end,
             };
@@ -147,6 +160,7 @@ fn write_lines(
         let n = write_line(kind, &input[at..feed], out, end, name, text, store, ends);
         if n == 0 {
             return Listed {
+                number: full(at),
                 taken: at,
                 written: end,
             };
@@ -155,6 +169,7 @@ fn write_lines(
         end += n;
     }
     Listed {
+        number: 0,
         taken: at,
         written: end,
     }
@@ -188,11 +203,12 @@ fn list_uncleared(
     store: &mut [u8],
     ends: &mut [u16],
 ) -> Listed
-    ensures { λ r. ⌜ Goes kind (now (out .entry)) (now (out .exit)) (taken-lines kind (now (input .entry)) (now (out .entry))
-        (slices (now (name .entry)) (now (text .entry)) (now (store .entry)) (now (ends .entry)))) r ⌝ }
+    ensures { λ r. ⌜ Tried kind (now (input .entry)) (now (out .entry)) (now (out .exit))
+        (slices (now (name .entry)) (now (text .entry)) (now (store .entry)) (now (ends .entry))) r ⌝ }
 {
     if !long_enough(kind, name.len(), text.len(), store.len(), ends.len()) {
         return Listed {
+            number: 14,
             taken: 0,
             written: 0,
         };

@@ -69,7 +69,7 @@ pub fn normalize_uncleared(
     write_within(s, out, store, ends)
 }
 
-// The reading for the name: the number of its refusal, or 0. Its contract settles the number, and not the variant that tells it.
+// The reading for the name: the number of its refusal, or 0.
 fn accepted(s: &[u8], text: &mut [u8], store: &mut [u8], ends: &mut [u16]) -> u8
     requires { ⌜ Long least-normal-ends (slices [] (now text) (now store) (now ends)) ⌝ }
     ensures { λ r. ⌜ r ≡ number-of (demangle most-symbol-bytes (now (s .entry))) ⌝ }

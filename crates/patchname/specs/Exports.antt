@@ -1,5 +1,5 @@
 -- What the C functions promise: the same equations as the entries and the listing.
-use mathlib.Core.Path.{_≡_, ap₂, _∙_}
+use mathlib.Core.Path.{_≡_, ap, ap₂, _∙_}
 use Prim.Native.Nat.{ℕ}
 use Rattle.grammar.specs.Text.{Text}
 use Rattle.demangle.specs.declared.entry.Answer.{Answer}
@@ -7,18 +7,28 @@ use Rattle.demangle.specs.Outcome.{Slices, Outcome, number-in, bytes-in}
 use Rattle.listing.specs.Listing.{Outcome as Listing}
 use Rattle.listing.specs.declared.listing.Listed.{Listed}
 
+-- an outcome, its answer as document 01's number and value
+pub record Numbers : Type 0 where
+  pub number : ℕ
+  pub bytes : ℕ
+  pub slices : Slices
+
+abbrev pub in-numbers : Outcome → Numbers
+in-numbers o = record { number = number-in (o .answer); bytes = bytes-in (o .answer); slices = o .slices }
+
 abbrev pub Returns : Outcome → Slices → ℕ → ℕ → Type 0
-Returns o l' number bytes = _≡_ {A = Outcome} (record { number = number; bytes = bytes; slices = l' }) o
+Returns o l' number bytes = _≡_ {A = Numbers} (record { number = number; bytes = bytes; slices = l' }) (in-numbers o)
 
 -- the entry's answer, taken apart
 pub told : {o : Outcome} {l' : Slices} {number bytes : ℕ} (r : Answer) → (number ≡ number-in r) × (bytes ≡ bytes-in r)
-    → Returns o l' (number-in r) (bytes-in r) → Returns o l' number bytes
-told {o} {l'} r (e, f) h = ap₂ (λ (n b : ℕ). record { number = n; bytes = b; slices = l' }) e f ∙ h
+    → _≡_ {A = Outcome} (record { answer = r; slices = l' }) o → Returns o l' number bytes
+told {l' = l'} r (e, f) h = ap₂ (λ (n b : ℕ). record { number = n; bytes = b; slices = l' }) e f ∙ ap in-numbers h
 
-abbrev pub Returns-listing : Listing → Text → Slices → ℕ → ℕ → Type 0
-Returns-listing o out work taken written = _≡_ {A = Listing} (record { taken = taken; written = written; out = out; work = work }) o
+abbrev pub Returns-listing : Listing → Text → Slices → ℕ → ℕ → ℕ → Type 0
+Returns-listing o out work number taken written = _≡_ {A = Listing} (record { number = number; taken = taken; written = written; out = out; work = work }) o
 
 -- what was listed, taken apart
-pub told-listing : {o : Listing} {out : Text} {work : Slices} {taken written : ℕ} (r : Listed) → (taken ≡ r .taken) × (written ≡ r .written)
-    → Returns-listing o out work (r .taken) (r .written) → Returns-listing o out work taken written
-told-listing {o} {out} {work} r (e, f) h = ap₂ (λ (t w : ℕ). record { taken = t; written = w; out = out; work = work }) e f ∙ h
+pub told-listing : {o : Listing} {out : Text} {work : Slices} {number taken written : ℕ} (r : Listed)
+    → (number ≡ r .number) × ((taken ≡ r .taken) × (written ≡ r .written)) → Returns-listing o out work (r .number) (r .taken) (r .written)
+    → Returns-listing o out work number taken written
+told-listing {out = out} {work = work} r (e, (f, g)) h = (λ i. record { number = e i; taken = f i; written = g i; out = out; work = work }) ∙ h

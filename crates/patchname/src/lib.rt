@@ -62,15 +62,17 @@ pub extern "C" fn patchname_normalize(
     tell(answer, bytes)
 }
 
-// The bytes taken; those written go to `written`.
-fn tell_listing(listed: Listed, written: &mut usize) -> usize
-    ensures { λ r. ⌜ (r ≡ listed .taken) × (now (written .exit) ≡ listed .written) ⌝ }
+// The number of a listing; the bytes taken and those written go to `taken` and `written`.
+fn tell_listing(listed: Listed, taken: &mut usize, written: &mut usize) -> u8
+    ensures { λ r. ⌜ (r ≡ listed .number) × ((now (taken .exit) ≡ listed .taken) × (now (written .exit) ≡ listed .written)) ⌝ }
 {
+    *taken = listed.taken;
     *written = listed.written;
-    listed.taken
+    listed.number
 }
 
-// The listing of the complete lines at the front of `input`: the bytes taken are returned, and those written go to `written`.
+// The listing of the complete lines at the front of `input`: the number is returned, and the bytes taken and those written go to
+// `taken` and `written`.
 #[no_mangle]
 pub extern "C" fn patchname_list_names(
     input: &[u8],
@@ -79,13 +81,14 @@ pub extern "C" fn patchname_list_names(
     text: &mut [u8],
     store: &mut [u8],
     ends: &mut [u16],
+    taken: &mut usize,
     written: &mut usize,
-) -> usize
+) -> u8
     ensures { λ r. ⌜ Returns-listing (listed Names (now (input .entry)) (now (out .entry)) (slices (now (name .entry)) (now (text .entry)) (now (store .entry)) (now (ends .entry))))
-        (now (out .exit)) (slices (now (name .exit)) (now (text .exit)) (now (store .exit)) (now (ends .exit))) r (now (written .exit)) ⌝ }
+        (now (out .exit)) (slices (now (name .exit)) (now (text .exit)) (now (store .exit)) (now (ends .exit))) r (now (taken .exit)) (now (written .exit)) ⌝ }
 {
     let listed = list_lines(Kind::Names, input, out, name, text, store, ends);
-    tell_listing(listed, written)
+    tell_listing(listed, taken, written)
 }
 
 // The same with normal symbols in the names' place.
@@ -97,11 +100,12 @@ pub extern "C" fn patchname_list_normal_symbols(
     text: &mut [u8],
     store: &mut [u8],
     ends: &mut [u16],
+    taken: &mut usize,
     written: &mut usize,
-) -> usize
+) -> u8
     ensures { λ r. ⌜ Returns-listing (listed Symbols (now (input .entry)) (now (out .entry)) (slices (now (name .entry)) (now (text .entry)) (now (store .entry)) (now (ends .entry))))
-        (now (out .exit)) (slices (now (name .exit)) (now (text .exit)) (now (store .exit)) (now (ends .exit))) r (now (written .exit)) ⌝ }
+        (now (out .exit)) (slices (now (name .exit)) (now (text .exit)) (now (store .exit)) (now (ends .exit))) r (now (taken .exit)) (now (written .exit)) ⌝ }
 {
     let listed = list_lines(Kind::Symbols, input, out, name, text, store, ends);
-    tell_listing(listed, written)
+    tell_listing(listed, taken, written)
 }

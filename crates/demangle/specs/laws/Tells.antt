@@ -16,23 +16,42 @@ use Rattle.store.specs.laws.Tails.{newest-lent}
 use Rattle.parser.specs.declared.state.Parser.{Parser}
 use Rattle.parser.specs.declared.state.Read.{Read}
 use Rattle.parser.specs.declared.state.Read.the-variants.{Text as read, Refused as unread}
-use Rattle.parser.specs.Holds.{Memory, mem, keep}
-use Rattle.demangle.specs.declared.entry.Answer as told
+use Rattle.parser.specs.Holds.{Memory, mem}
+use Rattle.demangle.specs.declared.entry.Answer.{Answer as Code}
 use Rattle.demangle.specs.declared.entry.Answer.the-variants.{Name, Refused}
 use Rattle.encoding.specs.Encodings.{Prints, Encodes, encodes, refuses}
+use Rattle.demangle.specs.Outcome.{told, number-in, bytes-in}
 use Rattle.demangle.specs.Printed.{Tells, unread-of}
 use Rattle.demangle.specs.laws.Slotless.{slotless-length}
 
+-- the number and the length of what is told
+pub number-told : (a : Answer) → number-in (told a) ≡ number-of a
+unfolding told number-of
+number-told (named t) = refl
+number-told (refusal r) = refl
+
+pub bytes-told : (a : Answer) → bytes-in (told a) ≡ length-of a
+unfolding told length-of
+bytes-told (named t) = refl
+bytes-told (refusal r) = refl
+
 module _ {a : Answer} {out : Text} where
   pub tells-refusal : {r : ℕ} → a ≡ refusal r → Tells a out out (Refused r)
-  unfolding number-of length-of written
-  tells-refusal e = record { number = sym (ap number-of e); bytes = sym (ap length-of e); out = sym (ap (λ (x : Answer). written x out) e) }
+  unfolding told written
+  tells-refusal e = record { answer = sym (ap told e); out = sym (ap (λ (x : Answer). written x out) e) }
 
   pub tells-name : {t out' : Text} {n : ℕ} → a ≡ named t → n ≡ length t → out' ≡ t ++ drop (length t) out → Tells a out out' (Name n)
-  unfolding number-of length-of written
-  tells-name e f g = record { number = sym (ap number-of e); bytes = f ∙ sym (ap length-of e); out = g ∙ sym (ap (λ (x : Answer). written x out) e) }
+  unfolding told written
+  tells-name e f g = record { answer = ap Name f ∙ sym (ap told e); out = g ∙ sym (ap (λ (x : Answer). written x out) e) }
 
-pub tells-as : {a c : Answer} {before after : Text} {r : told.Answer} → a ≡ c → Tells a before after r → Tells c before after r
+module _ {a : Answer} {before after : Text} {r : Code} (h : Tells a before after r) where
+  pub tells-number : number-in r ≡ number-of a
+  tells-number = ap number-in (h .answer) ∙ number-told a
+
+  pub tells-bytes : bytes-in r ≡ length-of a
+  tells-bytes = ap bytes-in (h .answer) ∙ bytes-told a
+
+pub tells-as : {a c : Answer} {before after : Text} {r : Code} → a ≡ c → Tells a before after r → Tells c before after r
 tells-as {before = before} {after = after} {r = r} e h = subst (λ (x : Answer). Tells x before after r) e h
 
 -- ---- the definition's answer, by its tests
@@ -88,7 +107,7 @@ module _ {k : ℕ} {s base : Text} {m : Memory} where
   was-read refuses e = absurd (let z : _≡_ {A = ℕ} 0 1 = cc in omega arith)
 
 -- a reading that was refused
-pub tells-unread : {k : ℕ} {s base : Text} (out : Text) {m : Memory} {g : Read} {r : ℕ} {x : told.Answer} → Encodes k s base m g (reading ⟨encoding⟩ (start s)) → g ≡ unread r
+pub tells-unread : {k : ℕ} {s base : Text} (out : Text) {m : Memory} {g : Read} {r : ℕ} {x : Code} → Encodes k s base m g (reading ⟨encoding⟩ (start s)) → g ≡ unread r
     → x ≡ unread-of g → Tells (within (length out) (mangled-name s)) out out x
 unfolding mangled-name finished within
 tells-unread {s = s} out h e f =

@@ -70,7 +70,7 @@ module _ {s : Text} {f : Front} (h : Fronts s f) where
 pub told-leaves : {a : n.Answer} (l m : Slices) {r : Answer} → Tells a (l .out) (m .out) r → m .text ≡ zeros (length (l .text)) → m .store ≡ zeros (length (l .store))
     → m .ends ≡ zeros (length (l .ends)) → Leaves a l m r
 unfolding leaves
-told-leaves l m h e f g = λ i. record { number = h .number i; bytes = h .bytes i; slices = record { out = h .out i; text = e i; store = f i; ends = g i } }
+told-leaves l m h e f g = λ i. record { answer = h .answer i; slices = record { out = h .out i; text = e i; store = f i; ends = g i } }
 
 pub told-demangles : (s : Text) (l m : Slices) {r : Answer} → Tells (answer most-symbol-bytes (lent l) s) (l .out) (m .out) r → m .text ≡ zeros (length (l .text))
     → m .store ≡ zeros (length (l .store)) → m .ends ≡ zeros (length (l .ends)) → Demangles s l m r

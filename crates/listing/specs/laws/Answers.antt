@@ -7,6 +7,7 @@ use Rattle.grammar.specs.Text.{Text}
 use Rattle.grammar.specs.Names.{Answer, named, refusal, number-of, length-of, written}
 use Rattle.demangle.specs.Outcome.{number-in, bytes-in}
 use Rattle.demangle.specs.Printed.{Tells}
+use Rattle.demangle.specs.laws.Tells.{tells-number, tells-bytes}
 use Rattle.demangle.specs.declared.entry.Answer.{Answer as Code}
 use Rattle.listing.specs.Listing.{name-of, line, line-for}
 
@@ -25,5 +26,5 @@ pub line-is : {a : Answer} {out out' : Text} {r : Code} (number bytes : ℕ) →
     → line number (length (take bytes out')) (take bytes out') ≡ line-for a
 unfolding line-for
 line-is {a} {out} {out'} number bytes h e f =
-    let t : take bytes out' ≡ name-of a = ap₂ take (f ∙ h .bytes) (h .out) ∙ name-front a out in
-    ap₂ (λ (n : ℕ) (u : Text). line n (length u) u) (e ∙ h .number) t ∙ ap (λ (j : ℕ). line (number-of a) j (name-of a)) (name-length a)
+    let t : take bytes out' ≡ name-of a = ap₂ take (f ∙ tells-bytes h) (h .out) ∙ name-front a out in
+    ap₂ (λ (n : ℕ) (u : Text). line n (length u) u) (e ∙ tells-number h) t ∙ ap (λ (j : ℕ). line (number-of a) j (name-of a)) (name-length a)

@@ -11,12 +11,12 @@ use Rattle.store.specs.Stack.{zeros}
 use Rattle.demangle.specs.Outcome.{Slices, fit}
 use Rattle.demangle.specs.laws.Told.{fit-long}
 use Rattle.demangle.specs.laws.Fronts.{both-true}
-use Rattle.listing.specs.Listing.{lines, fitting, bytes-taken, listing, least-ends-of, sized, work-sized, lists, listed, Lists, least-name}
+use Rattle.listing.specs.Listing.{bytes-taken, listing, number-for, least-ends-of, sized, work-sized, lists, listed, Lists}
 use Rattle.listing.specs.Kinds.{LongFor}
-use Rattle.listing.specs.Lines.{Goes}
+use Rattle.listing.specs.Lines.{GoesOn}
 use Rattle.listing.specs.declared.listing.Kind.{Kind}
 use Rattle.listing.specs.declared.listing.Listed.{Listed}
-use Rattle.listing.specs.Entry.{taken-lines}
+use Rattle.listing.specs.Entry.{Tried}
 
 -- ---------------------------------------------------------------- the lengths
 
@@ -37,23 +37,24 @@ module _ (kind : Kind) (work : Slices) {q : Bool} (e : q ≡ sized kind (length 
       let (x, i) = both-true (leb least-name (length (work .out))) (fit (least-ends-of kind) work) (sym e ∙ f) in
       record { name = leb-true least-name (length (work .out)) x; work = fit-long (least-ends-of kind) work i }
 
-  pub goes-none : (input out : Text) → q ≡ false → Goes kind out out (taken-lines kind input out work) (record { taken = 0; written = 0 })
-  unfolding work-sized bytes-taken listing if_then_else_
-  goes-none input out f = rw (sym e ∙ f) (record { taken = refl; written = refl; is = refl })
+  pub goes-none : (input out : Text) → q ≡ false → Tried kind input out out work (record { number = 14; taken = 0; written = 0 })
+  unfolding work-sized number-for bytes-taken listing if_then_else_
+  goes-none input out f = rw (sym e ∙ f) (record { told = refl; taken = refl; written = refl; is = refl })
 
-  pub goes-some : (input : Text) {out out' : Text} {r : Listed} → q ≡ true → Goes kind out out' (fitting kind (length out) (lines input)) r
-      → Goes kind out out' (taken-lines kind input out work) r
+  pub goes-some : (input : Text) {out out' : Text} {r : Listed} → q ≡ true → GoesOn kind input out out' r
+      → Tried kind input out out' work r
   unfolding work-sized if_then_else_
   goes-some input f g = rw (sym e ∙ f) g
 
 -- ---------------------------------------------------------------- the outcome
 
 -- the lines were taken, and the work slices cleared
-pub goes-lists : (kind : Kind) (input : Text) {out out' : Text} (work work' : Slices) {r : Listed} → Goes kind out out' (taken-lines kind input out work) r
+pub goes-lists : (kind : Kind) (input : Text) {out out' : Text} (work work' : Slices) {r : Listed} → Tried kind input out out' work r
     → work' .out ≡ zeros (length (work .out)) → work' .text ≡ zeros (length (work .text)) → work' .store ≡ zeros (length (work .store)) → work' .ends ≡ zeros (length (work .ends))
     → Lists kind input out out' work work' r
 unfolding listed lists
 goes-lists kind input work work' g e f h k = λ i. record {
+  number = g .told i;
   taken = g .taken i;
   written = g .written i;
   out = g .is i;

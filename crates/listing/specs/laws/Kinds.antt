@@ -13,9 +13,9 @@ use Rattle.grammar.specs.Names.{Answer, named, refusal, mangled-name, front, de
 use Rattle.catalogue.specs.Recogniser.{classify}
 use Rattle.catalogue.specs.Answer.{normal-in, normal-told, normal-after, normal-symbol, normal-work-fits, normal-answer}
 use Rattle.demangle.specs.laws.Lengths.{short-answer, within-is, answer-is}
-use Rattle.demangle.specs.Outcome.{Slices, lent}
+use Rattle.demangle.specs.Outcome.{Slices, lent, bytes-in}
 use Rattle.demangle.specs.Printed.{Tells}
-use Rattle.demangle.specs.laws.Tells.{tells-as}
+use Rattle.demangle.specs.laws.Tells.{tells-bytes, tells-as}
 use Rattle.demangle.specs.laws.Told.{long-fit}
 use Rattle.demangle.specs.declared.entry.Answer.{Answer as Code}
 use Rattle.normalize.specs.laws.Runs.{normal-behind}
@@ -54,6 +54,9 @@ pub short-answer-of : (kind : Kind) (s : Text) → length-of (answer-of kind s) 
 unfolding answer-of normal-symbol
 short-answer-of Names s = short-answer s
 short-answer-of Symbols s = omega (arith, after-short s (demangle most-symbol-bytes s))
+
+pub short-told : (kind : Kind) (s : Text) {out out' : Text} {r : Code} → Tells (answer-of kind s) out out' r → bytes-in r ≤ most-text-bytes
+short-told kind s h = omega (arith, tells-bytes h, short-answer-of kind s)
 
 too-long-for-name : (s : Text) → most-symbol-bytes < length s → demangle most-symbol-bytes s ≡ refusal 1
 unfolding demangle front if_then_else_

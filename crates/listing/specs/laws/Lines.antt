@@ -4,17 +4,17 @@ use mathlib.Core.List.{List, [], _∷_, _++_, append-assoc, append-nil}
 use mathlib.Core.Path.{_≡_, refl, sym, ap, ap₂, _∙_, subst}
 use Prim.Native.Nat.{ℕ, zero, suc, _+_, _-_, _≤_, _<_}
 use native.Mathlib.Omega.{arith}
-use borrow.Author.Tests.{ne-eqb, eqb-true, not-false, le-leb, lt-leb}
+use borrow.Author.Tests.{eq-eqb, ne-eqb, eqb-true, not-false, le-leb, lt-leb}
 use lib.Dec.{eqb}
 use lib.ListN.{length, take, drop, getD, length-append, length-drop, drop-of-length-le}
 use lib.Seq.{paste, paste-zero, take-at, drop-append-add, drop-drop, take-length, length-paste}
 use Rattle.grammar.specs.Text.{Text, if_then_else_, run}
 use Rattle.grammar.specs.laws.Runs.{run-more, run-stops}
-use Rattle.listing.specs.Listing.{line, line-for, listing-line, in-front, lines, bytes-taken, listing, fitting}
+use Rattle.listing.specs.Listing.{line, line-for, listing-line, in-front, lines, bytes-taken, listing, fitting, none-fits, number-for}
 use Rattle.listing.specs.Printed.{Printed}
 use Rattle.listing.specs.laws.Printed.{prints, prints-not}
 use Rattle.listing.specs.declared.listing.Kind.{Kind}
-use Rattle.listing.specs.Lines.{Goes, before-feed, feed-from, Gone}
+use Rattle.listing.specs.Lines.{Goes, GoesOn, full-number, before-feed, feed-from, Gone}
 
 module _ (s : Text) where
   -- none of the next n bytes is a line feed
@@ -62,15 +62,15 @@ feed-front (x ∷ t) = go (not (eqb x 10)) (feed-front t) where
 
 -- ---------------------------------------------------------------- lines that fit
 
-fits-first : (kind : Kind) (room : ℕ) (s : Text) (ss : List Text) → length (listing-line kind s) ≤ room → fitting kind room (s ∷ ss) ≡ s ∷ fitting kind (room - length (listing-line kind s)) ss
+pub fits-first : (kind : Kind) (room : ℕ) (s : Text) (ss : List Text) → length (listing-line kind s) ≤ room → fitting kind room (s ∷ ss) ≡ s ∷ fitting kind (room - length (listing-line kind s)) ss
 unfolding fitting if_then_else_
 fits-first kind room s ss h = rw (le-leb (length (listing-line kind s)) room h)
 
-fits-none : (kind : Kind) (room : ℕ) (s : Text) (ss : List Text) → room < length (listing-line kind s) → fitting kind room (s ∷ ss) ≡ []
+pub fits-none : (kind : Kind) (room : ℕ) (s : Text) (ss : List Text) → room < length (listing-line kind s) → fitting kind room (s ∷ ss) ≡ []
 unfolding fitting if_then_else_
 fits-none kind room s ss h = rw (lt-leb (length (listing-line kind s)) room h)
 
-fits-no-line : (kind : Kind) (room : ℕ) → fitting kind room [] ≡ []
+pub fits-no-line : (kind : Kind) (room : ℕ) → fitting kind room [] ≡ []
 unfolding fitting
 fits-no-line kind room = refl
 
@@ -88,6 +88,22 @@ unfolding listing
 listing-one kind [] s = append-nil (listing-line kind s)
 listing-one kind (x ∷ ss) s = ap (λ (t : Text). listing-line kind x ++ t) (listing-one kind ss s) ∙ sym (append-assoc (listing-line kind x) (listing kind ss) (listing-line kind s))
 
+-- ---------------------------------------------------------------- the number
+
+-- no line is left
+number-last : (done ls ss : List Text) → ss ≡ done → (bytes-taken done ≡ 0 → ls ≡ []) → 0 ≡ number-for true ls ss
+unfolding number-for none-fits bytes-taken
+number-last [] ls ss e f = sym (ap₂ (number-for true) (f refl) e)
+number-last (d ∷ ds) ls ss e f = sym (ap (number-for true ls) e)
+
+-- the next line does not fit
+number-full : (s : Text) (rest done ls ss : List Text) → ss ≡ done → (bytes-taken done ≡ 0 → ls ≡ s ∷ rest) → full-number (bytes-taken done) ≡ number-for true ls ss
+unfolding number-for none-fits bytes-taken if_then_else_
+number-full s rest [] ls ss e f = sym (ap₂ (number-for true) (f refl) e)
+number-full s rest (d ∷ ds) ls ss e f = rw (ne-eqb (length d + 1 + bytes-taken ds) 0 (λ z. omega arith)) (sym (ap (number-for true ls) e))
+
+-- ---------------------------------------------------------------- the loop
+
 pub gone-none : {kind : Kind} (input out : Text) → Gone kind input out out 0 0
 unfolding bytes-taken listing
 gone-none {kind} input out = record {
@@ -103,19 +119,31 @@ gone-none {kind} input out = record {
 
 module _ {kind : Kind} {input out out' : Text} {at end : ℕ} (g : Gone kind input out out' at end) where
   -- no line is left that fits
-  gone-all : fitting kind (length out - end) (lines (drop at input)) ≡ [] → Goes kind out out' (fitting kind (length out) (lines input)) (record { taken = at; written = end })
-  gone-all e =
-      let f : g .done ≡ fitting kind (length out) (lines input) = sym (g .from ∙ ap (λ (ss : List Text). g .done ++ ss) e ∙ append-nil (g .done)) in
-      subst (λ (ss : List Text). Goes kind out out' ss (record { taken = at; written = end })) f
-      (record { taken = g .taken; written = g .written; is = g .is ∙ ap (λ (j : ℕ). listing kind (g .done) ++ drop j out) (g .written) })
+  module _ (e : fitting kind (length out - end) (lines (drop at input)) ≡ []) where
+    all-done : fitting kind (length out) (lines input) ≡ g .done
+    all-done = g .from ∙ ap (λ (ss : List Text). g .done ++ ss) e ∙ append-nil (g .done)
 
-  pub gone-end : length input ≤ at → Goes kind out out' (fitting kind (length out) (lines input)) (record { taken = at; written = end })
+    gone-all : {number : ℕ} → number ≡ number-for true (lines input) (fitting kind (length out) (lines input)) → GoesOn kind input out out' (record { number = number; taken = at; written = end })
+    gone-all {number} k =
+        subst (λ (ss : List Text). Goes kind (number-for true (lines input) (fitting kind (length out) (lines input))) out out' ss (record { number = number; taken = at; written = end }))
+        (sym all-done)
+        (record { told = k; taken = g .taken; written = g .written; is = g .is ∙ ap (λ (j : ℕ). listing kind (g .done) ++ drop j out) (g .written) })
+
+  -- where no line is taken, all are left
+  all-left : bytes-taken (g .done) ≡ 0 → lines input ≡ lines (drop at input)
+  all-left z = ap (λ (j : ℕ). lines (drop j input)) {x = 0} {y = at} (sym (g .taken ∙ z))
+
+  gone-last : lines (drop at input) ≡ [] → GoesOn kind input out out' (record { number = 0; taken = at; written = end })
+  gone-last e =
+      let f = ap (fitting kind (length out - end)) e ∙ fits-no-line kind (length out - end) in
+      gone-all f (number-last (g .done) (lines input) (fitting kind (length out) (lines input)) (all-done f) (λ z. all-left z ∙ e))
+
+  pub gone-end : length input ≤ at → GoesOn kind input out out' (record { number = 0; taken = at; written = end })
   unfolding lines
-  gone-end h = gone-all (ap (λ (t : Text). fitting kind (length out - end) (lines t)) (drop-of-length-le input {i = at} h) ∙ fits-no-line kind (length out - end))
+  gone-end h = gone-last (ap lines (drop-of-length-le input {i = at} h))
 
-  pub gone-feed : length input ≤ at + length (before-feed (drop at input)) → Goes kind out out' (fitting kind (length out) (lines input)) (record { taken = at; written = end })
-  gone-feed h =
-      gone-all (ap (fitting kind (length out - end)) (no-line (drop at input) (omega (arith, h, length-drop at input, g .inside))) ∙ fits-no-line kind (length out - end))
+  pub gone-feed : length input ≤ at + length (before-feed (drop at input)) → GoesOn kind input out out' (record { number = 0; taken = at; written = end })
+  gone-feed h = gone-last (no-line (drop at input) (omega (arith, h, length-drop at input, g .inside)))
 
   module _ {out'' : Text} {feed n : ℕ} (e : feed ≡ at + length (before-feed (drop at input))) (l : feed < length input)
       (p : Printed (listing-line kind (take (feed - at) (drop at input))) end out' out'' n) where
@@ -134,12 +162,14 @@ module _ {kind : Kind} {input out out' : Text} {at end : ℕ} (g : Gone kind inp
     p-is = subst (λ (t : Text). Printed (listing-line kind t) end out' out'' n) s-is p
 
     -- the next line does not fit
-    pub gone-full : n ≡ 0 → Goes kind out out'' (fitting kind (length out) (lines input)) (record { taken = at; written = end })
-    gone-full z =
+    pub gone-full : n ≡ 0 → {number : ℕ} → number ≡ full-number at → GoesOn kind input out out'' (record { number = number; taken = at; written = end })
+    gone-full z {number} i =
         let k = prints-not (listing-line kind s) end out' p-is (some-bytes kind s) z in
         let f : out' ≡ out'' = paste-zero out' end (listing-line kind s) ∙ ap (paste out' end (listing-line kind s)) (sym z) ∙ sym (p-is .is) in
-        subst (λ (t : Text). Goes kind out t (fitting kind (length out) (lines input)) (record { taken = at; written = end })) f
-        (gone-all (ap (fitting kind (length out - end)) next ∙ fits-none kind (length out - end) s (lines (drop (feed + 1) input)) (omega (arith, k, g .size))))
+        let rest = lines (drop (feed + 1) input) in
+        let h = ap (fitting kind (length out - end)) next ∙ fits-none kind (length out - end) s rest (omega (arith, k, g .size)) in
+        subst (λ (t : Text). GoesOn kind input out t (record { number = number; taken = at; written = end })) f
+        (gone-all h (i ∙ ap full-number (g .taken) ∙ number-full s rest (g .done) (lines input) (fitting kind (length out) (lines input)) (all-done h) (λ y. all-left y ∙ next)))
 
     pub gone-more : (n ≡ 0 → ⊥) → Gone kind input out out'' (feed + 1) (end + n)
     gone-more z =

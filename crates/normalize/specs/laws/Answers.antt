@@ -27,7 +27,7 @@ use Rattle.demangle.specs.declared.symbol.Front.the-variants as front-as
 use Rattle.demangle.specs.Outcome.{Slices, slices, lent, number-in, Long, fit}
 use Rattle.demangle.specs.Symbols.{Fronts}
 use Rattle.demangle.specs.Printed.{Tells, refused-of}
-use Rattle.demangle.specs.laws.Tells.{tells-refusal, tells-name, tells-as}
+use Rattle.demangle.specs.laws.Tells.{tells-number, tells-refusal, tells-name, tells-as}
 use Rattle.demangle.specs.laws.Told.{front-tells, told-leaves, long-fit}
 use Rattle.demangle.specs.laws.Lengths.{answer-is}
 use Rattle.normalize.specs.Outcome.{normalized, Normalizes}
@@ -72,7 +72,7 @@ pub number-is : (s out text store ends : Text) {out' : Text} (r : Answer) {k : �
 unfolding work-fits
 number-is s out text store ends r e h f g =
     let l = slices out text store ends in
-    g ∙ e .number ∙ ap number-of (answer-is l s h (long-fit {l = l} (record { text = f .text; store = f .store; ends = omega (arith, f .ends) })))
+    g ∙ tells-number e ∙ ap number-of (answer-is l s h (long-fit {l = l} (record { text = f .text; store = f .store; ends = omega (arith, f .ends) })))
 
 after-refused : (s : Text) (a : n.Answer) {k : ℕ} → k ≡ number-of a → (k ≡ 0 → ⊥) → normal-after s a ≡ refusal k
 unfolding number-of normal-after

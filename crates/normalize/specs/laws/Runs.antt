@@ -15,8 +15,10 @@ use Rattle.grammar.specs.Names.{Answer, named, refusal, high, front, mangled-na
 use Rattle.grammar.specs.laws.Fuel.{never-0}
 use Rattle.catalogue.specs.Recogniser.{classify}
 use Rattle.catalogue.specs.Answer.{normal-in, normal-told, normal-after, normal-symbol, normal-answer, normal-work-fits}
-use Rattle.demangle.specs.declared.entry.Answer as told
-use Rattle.demangle.specs.Outcome.{Slices, Outcome, lent, leaves, demangled, Demangles, Leaves, number-in, bytes-in}
+use Rattle.demangle.specs.declared.entry.Answer.{Answer as Code}
+use Rattle.demangle.specs.declared.entry.Answer.the-variants.{Name}
+use Rattle.demangle.specs.Outcome.{Slices, Outcome, lent, told, leaves, demangled, Demangles, Leaves, number-in, bytes-in}
+use Rattle.demangle.specs.laws.Tells.{number-told, bytes-told}
 use Rattle.normalize.specs.Outcome.{normalized, Normalizes}
 
 -- ---- the front refuses with a number, or hands on what stands behind it
@@ -77,15 +79,22 @@ normal-behind s = after-front s (front most-symbol-bytes s) (fronted s)
 
 -- ---- what an answer leaves
 
-module _ (a : Answer) (l l' : Slices) (r : told.Answer) (h : Leaves a l l' r) where
-  number-left : number-in r ≡ number-of a
+module _ (a : Answer) (l l' : Slices) (r : Code) (h : Leaves a l l' r) where
+  answer-left : r ≡ told a
   unfolding leaves
-  number-left = ap (λ (o : Outcome). o .number) h
+  answer-left = ap (λ (o : Outcome). o .answer) h
+
+  number-left : number-in r ≡ number-of a
+  number-left = ap number-in answer-left ∙ number-told a
+
+  name-left : (x : Text) → a ≡ named x → r ≡ Name (bytes-in r)
+  unfolding told
+  name-left x e = let f : r ≡ Name (length x) = answer-left ∙ ap told e in f ∙ ap Name (sym (ap bytes-in f))
 
   text-left : (x : Text) → a ≡ named x → take (bytes-in r) (l' .out) ≡ x
   unfolding leaves length-of written
   text-left x e =
-      let b : bytes-in r ≡ length x = ap (λ (o : Outcome). o .bytes) h ∙ ap length-of e in
+      let b : bytes-in r ≡ length x = ap bytes-in answer-left ∙ bytes-told a ∙ ap length-of e in
       let o : l' .out ≡ x ++ drop (length x) (l .out) = ap (λ (o : Outcome). o .slices .out) h ∙ ap (λ (z : Answer). written z (l .out)) e in
       ap₂ (λ (n : ℕ) (t : Text). take n t) b o ∙ take-at x (drop (length x) (l .out)) (length x) refl
 
@@ -96,7 +105,7 @@ unfolding number-of
 has-name (named x) z e = (x, refl)
 has-name (refusal r) z e = absurd (z (ap refusal e))
 
-module _ (s : Text) (l l' : Slices) (r : told.Answer) (h : Demangles s l l' r) where
+module _ (s : Text) (l l' : Slices) (r : Code) (h : Demangles s l l' r) where
   abbrev asked : Answer
   asked = answer most-symbol-bytes (lent l) s
 
@@ -104,13 +113,20 @@ module _ (s : Text) (l l' : Slices) (r : told.Answer) (h : Demangles s l l' r) w
   unfolding demangled
   named-leaves = h
 
-  pub name-written : number-in r ≡ 0 → demangle most-symbol-bytes s ≡ named (take (bytes-in r) (l' .out))
+  asked-name : number-in r ≡ 0 → (x : Text) × ((asked ≡ named x) × (demangle most-symbol-bytes s ≡ named x))
   unfolding answer demangle
-  name-written z =
+  asked-name z =
       let k : number-of asked ≡ 0 = sym (number-left asked l l' r named-leaves) ∙ z in
       let e : asked ≡ demangle most-symbol-bytes s = cut-front (front most-symbol-bytes s) mangled-name (work-fits (lent l)) (length (l .out)) (fronted s) k in
       let (x, i) = has-name (demangle most-symbol-bytes s) (never-0 most-symbol-bytes s) (ap number-of (sym e) ∙ k) in
-      i ∙ ap named (sym (text-left asked l l' r named-leaves x (e ∙ i)))
+      (x, (e ∙ i, i))
+
+  -- the number 0 is always told by `Name`
+  pub named-at-0 : number-in r ≡ 0 → r ≡ Name (bytes-in r)
+  named-at-0 z = let (x, (e, i)) = asked-name z in name-left asked l l' r named-leaves x e
+
+  pub name-written : number-in r ≡ 0 → demangle most-symbol-bytes s ≡ named (take (bytes-in r) (l' .out))
+  name-written z = let (x, (e, i)) = asked-name z in i ∙ ap named (sym (text-left asked l l' r named-leaves x e))
 
   pub writes-name : (x : Text) → demangle most-symbol-bytes s ≡ named x → work-fits (lent l) ≡ true → length x ≤ length (l .out)
       → (number-in r ≡ 0) × (take (bytes-in r) (l' .out) ≡ x)
@@ -148,7 +164,7 @@ normal-named : (s v : Text) → Has-normal s v → normal-symbol s ≡ named v
 unfolding normal-symbol normal-after normal-told if_then_else_
 normal-named s v h = ap (normal-after s) (h .accepted) ∙ ap normal-told (h .is) ∙ rw (le-leb (length v) most-symbol-bytes (h .short))
 
-module _ (s : Text) (l l' : Slices) (r : told.Answer) (h : Normalizes s l l' r) where
+module _ (s : Text) (l l' : Slices) (r : Code) (h : Normalizes s l l' r) where
   abbrev wanted : Answer
   wanted = normal-answer (lent l) s
 
@@ -159,14 +175,21 @@ module _ (s : Text) (l l' : Slices) (r : told.Answer) (h : Normalizes s l l' r) 
   abbrev behind-front : Text → Answer
   behind-front u = normal-after s (mangled-name u)
 
-  pub normal-written : number-in r ≡ 0 → Has-normal s (take (bytes-in r) (l' .out))
+  wanted-normal : number-in r ≡ 0 → (v : Text) × ((wanted ≡ named v) × Has-normal s v)
   unfolding normal-answer normal-symbol
-  normal-written z =
+  wanted-normal z =
       let k : number-of wanted ≡ 0 = sym (number-left wanted l l' r normal-leaves) ∙ z in
       let e : wanted ≡ normal-symbol s =
       cut-front (front most-symbol-bytes s) behind-front (normal-work-fits (lent l)) (length (l .out)) (fronted s) k ∙ normal-behind s in
       let (v, (i, j)) = has-normal s (demangle most-symbol-bytes s) refl (ap number-of (sym e) ∙ k) in
-      rw (text-left wanted l l' r normal-leaves v (e ∙ i)) j
+      (v, (e ∙ i, j))
+
+  -- the number 0 is always told by `Name`
+  pub normalized-at-0 : number-in r ≡ 0 → r ≡ Name (bytes-in r)
+  normalized-at-0 z = let (v, (e, j)) = wanted-normal z in name-left wanted l l' r normal-leaves v e
+
+  pub normal-written : number-in r ≡ 0 → Has-normal s (take (bytes-in r) (l' .out))
+  normal-written z = let (v, (e, j)) = wanted-normal z in rw (text-left wanted l l' r normal-leaves v e) j
 
   pub writes-normal : (v : Text) → Has-normal s v → normal-work-fits (lent l) ≡ true → length v ≤ length (l .out)
       → (number-in r ≡ 0) × (take (bytes-in r) (l' .out) ≡ v)

@@ -5,7 +5,7 @@ use Rattle.patchname.proofs.patchname_list_names.Statement.{statement}
 use Rattle.patchname.proofs.patchname_list_names.Tie as tie
 
 returns : tie.Need-returns
-returns c = told-listing (c .before .before .before .before .before .before .before .before .before .before .before .before .list-lines .result) (c .tell-listing .ensures) (c .before .before .before .before .before .before .before .before .before .before .before .before .list-lines .ensures)
+returns c = let l = c .before .before .before .before .before .before .before .before .before .before .before .before .before .list-lines in told-listing (l .result) (c .tell-listing .ensures) (l .ensures)
 
 pub patchname-list-names-spec : {M : Type 1} → statement M
 patchname-list-names-spec =

@@ -7,22 +7,21 @@ use Rattle.grammar.specs.Text.{Text}
 use Rattle.listing.specs.Listing.{listing-line}
 use Rattle.listing.specs.Printed.{Printed}
 use Rattle.listing.specs.laws.Answers.{line-is}
-use Rattle.listing.specs.laws.Kinds.{short-answer-of}
+use Rattle.listing.specs.laws.Kinds.{short-told}
 use Rattle.listing.proofs.listing.write_line.Statement.{statement}
 use Rattle.listing.proofs.listing.write_line.Tie as tie
 
 slice-reshare-prefix-print-line : tie.Need-slice-reshare-prefix-print-line
-slice-reshare-prefix-print-line c = let a = c .before .before .before .before .before .before .before .before .before .before .before .before .before .before .before .before .before .before .before .before .before .before .args in omega (arith, short-answer-of (a .kind) (a .s .now))
+slice-reshare-prefix-print-line c = omega (arith, short-told _ _ (c .before .before .before .before .before .before .before .before .before .before .before .answer .ensures))
 
 slice-aggregate-print-line : tie.Need-slice-aggregate-print-line
-slice-aggregate-print-line c = let a = c .before .before .before .before .before .before .before .before .before .before .before .before .before .before .before .before .before .before .before .before .before .before .before .args in sym
-    (length-take-le _ _ (omega (arith, short-answer-of (a .kind) (a .s .now))))
+slice-aggregate-print-line c = sym (length-take-le _ _ (omega (arith, short-told _ _ (c .before .before .before .before .before .before .before .before .before .before .before .before .answer .ensures))))
 
 print-line-requires : tie.Need-print-line-requires
 print-line-requires c κs =
-    let a = c .before .before .before .before .before .before .before .before .before .before .before .before .before .before .before .before .before .before .before .before .before .before .before .args in
-    let e = short-answer-of (a .kind) (a .s .now) in
-    let k = length-take-le (c .before .before .bytes-in .result) (c .before .before .before .before .before .before .before .before .before .before .before .before .answer .last .1 .1 .0) (omega arith) in
+    let a = c .before .before .before .before .before .before .before .before .before .before .before .before .answer in
+    let e = short-told _ _ (a .ensures) in
+    let k = length-take-le (c .before .before .bytes-in .result) (a .last .1 .1 .0) (omega (arith, e)) in
     search needs
 
 returns : tie.Need-returns

@@ -29,8 +29,8 @@ returns c = gone-feed (c .before .before .before .loop .inv .0) (omega (arith, c
 
 returns-2 : tie.Need-returns-2 Inv-loop μ-loop
 returns-2 c =
-    let at-write-line = c .before .before .before .before .before .before .before .before .before .before .before in let at-else1 = before-write-line at-write-line in
-    gone-full (at-else1 .before .before .before .loop .inv .0) (at-else1 .before .line-end .ensures .0) (at-else1 .if1 .left) (at-write-line .write-line .ensures) (c .if2 .taken)
+    let at-write-line = c .before .before .before .before .before .before .before .before .before .before .before .before in let at-else1 = before-write-line at-write-line in
+    gone-full (at-else1 .before .before .before .loop .inv .0) (at-else1 .before .line-end .ensures .0) (at-else1 .if1 .left) (at-write-line .write-line .ensures) (c .before .if2 .taken) (c .full .ensures)
 
 add-end : tie.Need-add-end Inv-loop μ-loop
 add-end c = omega (
@@ -67,6 +67,7 @@ write-lines-spec =
     (λ c. search needs)
     (λ c. search needs)
     (λ c. search needs)
+    (λ c κs. search needs)
     (λ c κs. search needs)
     (λ c. search needs)
     (λ c. search needs)
