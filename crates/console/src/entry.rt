@@ -1,10 +1,9 @@
 // The entry: a program is a call of it.
-use crate::input::list_input;
+use crate::turns::list_input;
 use listing::listing::Kind;
 
 // Writes the header, and the listing of standard input, one symbol a line. `ends` is long enough for either kind.
 pub fn run(kind: Kind) {
-    io::write_all(1, b"code,bytes,name\n");
     let mut chunk = [0u8; 65536];
     let mut lines = [0u8; 69634];
     let mut out = [0u8; 65536];
