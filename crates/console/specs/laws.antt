@@ -1,2 +1,4 @@
 -- Laws: propositions between definitions and code, and their proofs. Nothing here has to be believed.
+pub mod Buffer
 pub mod Kept
+pub mod Lines

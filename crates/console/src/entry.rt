@@ -1,6 +1,6 @@
 // The entry: a program is a call of it.
-use crate::input::list_input;
 use crate::lines::MOST_KEPT;
+use crate::turns::list_input;
 use demangle::symbol;
 use listing::listing::Kind;
 use listing::listing::NAME;
@@ -10,7 +10,6 @@ const CHUNK: usize = 65536;
 
 // Writes the header, and the listing of standard input, one symbol a line. `ends` is long enough for either kind.
 pub fn run(kind: Kind) {
-    io::write_all(1, b"code,bytes,name\n");
     let mut chunk = [0u8; CHUNK];
     let mut lines = [0u8; CHUNK + MOST_KEPT + 1];
     let mut out = [0u8; CHUNK];

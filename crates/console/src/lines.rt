@@ -54,15 +54,3 @@ pub fn keep(chunk: &[u8], lines: &mut [u8], used: usize) -> Kept
         start: start,
     }
 }
-
-// Moves the bytes from `start` to `end` to the front.
-pub fn move_down(lines: &mut [u8], start: usize, end: usize)
-    requires { ⌜ (start ≤ end) × (end ≤ length (now lines)) ⌝ }
-{
-    let n = end - start;
-    let mut i: usize = 0;
-    while i < n {
-        lines[i] = lines[start + i];
-        i += 1;
-    }
-}

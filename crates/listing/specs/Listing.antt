@@ -75,6 +75,10 @@ fitting kind room (s ∷ ss) =
 abbrev pub least-name : ℕ
 least-name = most-text-bytes
 
+-- a listing line has at most so many bytes: two numbers of five digits with their commas, a name, and the line feed
+abbrev pub most-line-bytes : ℕ
+most-line-bytes = most-text-bytes + 13
+
 -- the entry for normal symbols needs more of `ends`
 abbrev pub least-ends-of : Kind → ℕ
 least-ends-of Names = least-ends

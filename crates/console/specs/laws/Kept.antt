@@ -1,13 +1,13 @@
 -- Laws of Kept.antt. Assumes nothing.
 use mathlib.Core.List.{List, [], _∷_, _++_, append-assoc, append-nil}
 use mathlib.Core.Path.{_≡_, refl, sym, ap, ap₂, _∙_}
-use Prim.Native.Nat.{ℕ, _+_, _-_, _≤_, _<_}
+use Prim.Native.Nat.{ℕ, suc, _+_, _-_, _≤_, _<_}
 use native.Mathlib.Numerals.{add-one}
 use native.Mathlib.Omega.{arith}
 use borrow.Author.Tests.{eq-eqb}
-use lib.ListN.{length, take, drop, getD, set, length-set, drop-of-length-le}
-use lib.Seq.{drop-cons, drop-drop, take-length, take-suc-set, paste, length-paste, take-paste}
-use Rattle.listing.specs.Cut.{cut-lines, column, most-kept}
+use lib.ListN.{length, take, drop, getD, set, length-set, length-drop, drop-of-length-le}
+use lib.Seq.{drop-cons, drop-drop, take-length, take-suc, take-suc-set, length-take-le, append-snoc, set-at, getD-append-add, getD-drop, paste, length-paste, take-paste}
+use Rattle.listing.specs.Cut.{cut-lines, column}
 use Rattle.listing.specs.laws.Cut.{cut-feed, line-front}
 use Rattle.listing.specs.Lines.{before-feed, feed-from}
 use Rattle.listing.specs.laws.Lines.{feed-there, feed-front}
@@ -108,3 +108,25 @@ module _ {chunk lines lines' : List ℕ} {used end start i : ℕ} (w : Begun chu
               ∙ ap (λ (n : ℕ). take (end + 1) (set lines' end 10) ++ cut-lines n (drop (i + 1) chunk)) z;
           last = w .last ∙ ap (column (end - start)) next ∙ c ∙ ap (λ (n : ℕ). column n (drop (i + 1) chunk)) z;
         }
+
+-- ---------------------------------------------------------------- bytes moved to the front
+
+-- one byte more is moved
+pub moved : (l : List ℕ) (start i : ℕ) → start + i < length l
+    → set (take i (drop start l) ++ drop i l) i (getD (take i (drop start l) ++ drop i l) (start + i) 0) ≡ take (i + 1) (drop start l) ++ drop (i + 1) l
+moved l start i h =
+    let s : List ℕ = drop start l in
+    let p : List ℕ = take i s in
+    let a : ℕ = getD s i 0 in
+    let n : length p ≡ i = length-take-le i s (omega (arith, length-drop start l)) in
+    let v : getD (p ++ drop i l) (start + i) 0 ≡ a =
+    ap (λ (j : ℕ). getD (p ++ drop i l) j 0) {x = start + i} {y = length p + start} (omega (arith, n))
+    ∙ getD-append-add p (drop i l) start 0
+    ∙ getD-drop i l start 0
+    ∙ ap (λ (j : ℕ). getD l j 0) {x = i + start} {y = start + i} (omega arith)
+    ∙ sym (getD-drop start l i 0) in
+    ap₂ (λ (t : List ℕ) (x : ℕ). set (p ++ t) i x) (drop-cons l i 0 (omega arith)) v
+    ∙ set-at p (getD l i 0) (drop (suc i) l) a i n
+    ∙ sym (append-snoc p a (drop (suc i) l))
+    ∙ ap (λ (t : List ℕ). t ++ drop (suc i) l) (sym (take-suc s i 0 (omega (arith, length-drop start l))))
+    ∙ ap (λ (j : ℕ). take j s ++ drop j l) {x = suc i} {y = i + 1} (omega arith)

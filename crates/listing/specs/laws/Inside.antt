@@ -12,7 +12,7 @@ use Rattle.grammar.specs.Limits.{most-text-bytes}
 use Rattle.grammar.specs.Names.{Answer, number-of, length-of}
 use Rattle.demangle.specs.Outcome.{Slices}
 use Rattle.listing.specs.Listing.{Outcome, answer-of, line-for, listing-line, in-front, lines, bytes-taken, listing, fitting, none-fits, number-for, work-sized, lists, listed}
-use Rattle.listing.specs.Listing.{Lists, line-feed, head, line, name-of}
+use Rattle.listing.specs.Listing.{Lists, line-feed, head, line, name-of, most-line-bytes}
 use Rattle.listing.specs.laws.Kinds.{short-answer-of}
 use Rattle.listing.specs.laws.Answers.{name-length}
 use Rattle.listing.specs.laws.Lines.{fits-first, fits-none}
@@ -74,10 +74,6 @@ decimal-size (suc k) n = go (ltb n 10) (decimal-size k (n / 10)) where
   go : (q : Bool) → length (decimal k (n / 10)) ≤ k → length (if_then_else_ {A = Text} q ((48 + n) ∷ []) (decimal k (n / 10) ++ ((48 + n % 10) ∷ []))) ≤ suc k
   go true h = omega arith
   go false h = omega (arith, length-append (decimal k (n / 10)) ((48 + n % 10) ∷ []))
-
--- two numbers of five digits with their commas, and the line feed
-abbrev pub most-line-bytes : ℕ
-most-line-bytes = most-text-bytes + 13
 
 answer-fits : (a : Answer) → length-of a ≤ most-text-bytes → length (line-for a) ≤ most-line-bytes
 unfolding line-for line head

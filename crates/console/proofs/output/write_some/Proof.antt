@@ -1,47 +1,59 @@
--- `output::write_some` is safe: no more is written than fits, and no more taken than there is. Assumes nothing.
-use mathlib.Core.Path.{sym}
+-- `output::write_some` meets its contract. Assumes nothing.
+use mathlib.Core.List.{append-nil}
+use mathlib.Core.Path.{refl, sym}
+use Prim.Native.Nat.{_+_, _≤_}
 use native.Mathlib.Omega.{arith}
 use borrow.Author.Needs.{needs}
-use lib.Seq.{length-take-le}
-use Rattle.listing.specs.laws.Inside.{lists-inside}
+use lib.ListN.{length}
+use Rattle.demangle.specs.Outcome.{Slices, slices}
+use Rattle.console.specs.laws.Buffer.{listed-inside, long-sized, fed-as, fed-listed, listed-more}
 use Rattle.console.proofs.output.write_some.Statement.{statement}
 use Rattle.console.proofs.output.write_some.Tie as tie
 
-slice-reshare-prefix-write-all : tie.Need-slice-reshare-prefix-write-all
-slice-reshare-prefix-write-all c =
-    let l = c .before .before .before .before .before .before .before .before .before .before .list-lines in
-    let (taken, written) = lists-inside _ _ _ _ _ _ _ (l .ensures) in
-    omega (arith, written, l .kept .1 .1 .0)
+-- Stages: places that later facts cite.
+abbrev at-start : tie.After-list-lines → tie.Start
+at-start c = c .before .before .before .before .before .before .before .before .before .before .before .before .before
 
-slice-aggregate-write-all : tie.Need-slice-aggregate-write-all
-slice-aggregate-write-all c =
-    let l = c .before .before .before .before .before .before .before .before .before .before .before .list-lines in
-    let (taken, written) = lists-inside _ _ _ _ _ _ _ (l .ensures) in
-    sym (length-take-le _ _ (omega (arith, written, l .kept .1 .1 .0)))
+abbrev work : tie.After-list-lines → Slices
+work c = slices ((at-start c) .args .name .now) ((at-start c) .args .text .now) ((at-start c) .args .store .now) ((at-start c) .args .ends .now)
 
-returns-2 : tie.Need-returns-2
-returns-2 c =
-    let l = c .before .before .before .before .before .before .before .before .before .before .before .before .before .list-lines in
-    let (taken, written) = lists-inside _ _ _ _ _ _ _ (l .ensures) in
-    taken
+inside : (c : tie.After-list-lines) → ((at-start c) .args .buffer .from + c .list-lines .result .taken ≤ (at-start c) .args .buffer .start) × (c .list-lines .result .written ≤ length ((at-start c) .args .out .now))
+inside c =
+    let s = at-start c in
+    let p = s .pre .0 .0 in
+    listed-inside (s .args .kind) (s .args .lines .now) (s .args .out .now) (s .args .buffer .from) (s .args .buffer .start) (work c) (c .list-lines .ensures) (p .first) (omega (arith, p .second, p .inside))
+
+add-t14 : tie.Need-add-t14
+add-t14 c = record { fits = omega (arith, (inside (c .before .before .before .before .before .before .before .before .before .before .before)) .0) }
+
+write-front-requires : tie.Need-write-front-requires
+write-front-requires c κs = omega (arith, (inside (c .before .before .before .before .before .before .before .before .before .before .before .before)) .1, c .before .before .before .before .before .before .before .before .before .before .before .before .list-lines .kept .1 .1 .0)
+
+returns : tie.Need-returns
+returns c =
+    let at = c .before .before .before .before .before .before .before .before .before .before .before .before .before in
+    let s = at-start at in
+    let l = at .list-lines in
+    let sized = long-sized (s .pre .1) in
+    record {
+      fed = λ chunk all handed f. fed-as (fed-listed f (s .args .out .now) (work at) (l .ensures) sized) (sym (append-nil all)) refl;
+      inside = omega (arith, (inside at) .1, l .kept .1 .1 .0);
+      more = λ all handed f. omega (arith, listed-more f (s .args .out .now) (work at) (l .ensures) sized (s .pre .0 .1 .1) (s .pre .0 .1 .0));
+    }
 
 pub write-some-spec : {M : Type 1} → statement M
 write-some-spec =
     tie.close
     (tie.spec
+    (λ c. search needs)
+    (λ c. search needs)
+    (λ c. search needs)
     (λ c κs. search needs)
-    slice-reshare-prefix-write-all
-    slice-aggregate-write-all
-    (λ c κs. search needs)
+    add-t14
+    write-front-requires
     (λ c. search needs)
     (λ c. search needs)
     (λ c. search needs)
     (λ c. search needs)
     (λ c. search needs)
-    (λ c. search needs)
-    (λ c. search needs)
-    (λ c. search needs)
-    (λ c. search needs)
-    (λ c. search needs)
-    (λ c. search needs)
-    returns-2)
+    returns)

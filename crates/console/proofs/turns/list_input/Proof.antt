@@ -1,0 +1,70 @@
+-- `turns::list_input` meets its contract. Invariant: some input was read and some output handed over, and the slices have their lengths; the
+-- measure is the number of turns left. Assumes nothing.
+use mathlib.Core.List.{[]}
+use mathlib.Core.Path.{_≡_, refl, sym, _∙_, subst}
+use native.Mathlib.Omega.{arith}
+use borrow.Author.Needs.{needs}
+use lib.ListN.{length}
+use Rattle.grammar.specs.Text.{Text}
+use Rattle.demangle.specs.Outcome.{slices}
+use Rattle.console.specs.Output.{header}
+use Rattle.console.specs.Buffer.{Fed}
+use Rattle.console.specs.laws.Buffer.{long-as, fed-none, ends}
+use Rattle.console.specs.declared.buffer.Buffer.{Buffer}
+use Rattle.console.proofs.turns.list_input.Statement.{statement}
+use Rattle.console.proofs.turns.list_input.Tie as tie
+
+abbrev Inv-loop : tie.InvT-loop
+Inv-loop kind chunk₀ lines₀ out₀ name₀ text₀ store₀ ends₀ buffer₀ goes-on₀ turns₀ chunk lines out name text store ends buffer goes-on turns =
+    ((all : Text) × ((handed : Text) × Fed kind all handed lines buffer)) × ((length chunk ≡ length chunk₀) × ((length lines ≡ length lines₀) × ((length out ≡ length out₀) × ((length name ≡ length name₀) × ((length text ≡ length text₀) × ((length store ≡ length store₀) × (length ends ≡ length ends₀)))))))
+
+abbrev μ-loop : tie.MeasureT-loop
+μ-loop kind chunk₀ lines₀ out₀ name₀ text₀ store₀ ends₀ buffer₀ goes-on₀ turns₀ chunk lines out name text store ends buffer goes-on turns =
+    turns
+
+loop-holds : tie.Need-loop-holds Inv-loop μ-loop
+loop-holds c =
+    let a = c .before .before .before .before .before .before .before .before .before .before .before .before .args in
+    (([], (header, subst (λ (b : Buffer). Fed (a .kind) [] header (a .lines .now) b) (sym (c .before .before .before .before .empty .ensures)) (fed-none (a .kind) (a .lines .now)))), (refl, (refl, (refl, (refl, (refl, (refl, refl)))))))
+
+turn-requires : tie.Need-turn-requires Inv-loop μ-loop
+turn-requires c κs =
+    let s = c .before .before .before .before .before .before .before .before .before .before .before .before .before .before .before .before .before .before .before .before .before .before in
+    let a = s .args in
+    let l = c .before .before .before .before .before .before .before .before .before .loop in
+    let (f, (i, (j, (k, (n, (t, (o, e))))))) = l .inv in
+    ((f .1 .1 .placed, (omega (arith, i, j, s .pre .0 .0), omega (arith, k, s .pre .0 .1, c .before .before .before .before .before .before .before .before .before .before .before .before .write-header .kept .0))), long-as (slices (a .name .now) (a .text .now) (a .store .now) (a .ends .now)) (slices (l .name) (l .text) (l .store) (l .ends)) n t o e (s .pre .1))
+
+loop-again : tie.Need-loop-again Inv-loop μ-loop
+loop-again c =
+    let (f, (i, (j, (o, (n, (t, (s, e))))))) = c .before .before .before .before .before .before .before .before .before .before .before .before .before .before .before .before .before .before .before .before .before .before .before .before .before .loop .inv in
+    let r = c .before .before .before .before .before .before .before .before .before .before .before .before .before .before .before .turn in
+    let k = r .kept .1 in
+    let h = k .1 .1 .1 in
+    ((_, (_, r .ensures (f .0) (f .1 .0) (f .1 .1))), (k .0 ∙ i, (k .1 .0 ∙ j, (h .0 ∙ o, (h .1 .0 ∙ n, (h .1 .1 .0 ∙ t, (h .1 .1 .1 .0 ∙ s, h .1 .1 .1 .1 .0 ∙ e)))))))
+
+returns : tie.Need-returns Inv-loop μ-loop
+returns c = ends (c .before .before .loop .inv .0 .1 .1) (c .all-listed .ensures)
+
+pub list-input-spec : {M : Type 1} → statement M
+list-input-spec =
+    tie.close
+    (tie.spec
+    Inv-loop
+    μ-loop
+    (λ c κs. search needs)
+    (λ c κs. search needs)
+    loop-holds
+    turn-requires
+    (λ c. search needs)
+    (λ c. search needs)
+    loop-again
+    (λ c κs. search needs)
+    (λ c. search needs)
+    (λ c. search needs)
+    (λ c. search needs)
+    (λ c. search needs)
+    (λ c. search needs)
+    (λ c. search needs)
+    (λ c. search needs)
+    returns)
