@@ -22,7 +22,8 @@ use Rattle.grammar.specs.laws.Agree.{unread, moved, end, row, coded, all
 use Rattle.grammar.specs.laws.Fuel.{Left, stuck, fewer, skipped-shorter, reading-is}
 use Rattle.grammar.specs.laws.Loops.{items-shrink, args-shrink, parts-shrink}
 use Rattle.grammar.specs.laws.Alike.{dot, Place, before, behind, ahead-of, other, Same, reads, passes, refuses, Alike, alike, at, stays-past, bind, chosen, branch}
-use Rattle.grammar.specs.laws.Alike.{returns, refuses-alike, field, unseen, asked, told, ask, undotted, empty-blind, all-undotted, ended-blind, list-blind, digit-blind, std-blind, structor-dot, structor-blind}
+use Rattle.grammar.specs.laws.Alike.{returns, refuses-alike, field, unseen, asked, told, ask, undotted, empty-blind, all-undotted}
+use Rattle.grammar.specs.laws.Alike.{ended-blind, list-blind, digit-blind, std-blind, structor-dot, structor-blind}
 use Rattle.grammar.specs.laws.Alike.{by-code-alike, by-table-alike, at-code-alike, every-alike, set-args-alike, set-cv-alike, set-templated-alike, give-alike}
 use Rattle.grammar.specs.laws.Alike.{push-sub-alike, push-arg-alike, recorded-alike, entered-alike, see-alike, eat-alike, need-alike, any-alike, while-alike}
 use Rattle.grammar.specs.laws.Alike.{up-to-E-alike}
