@@ -10,7 +10,7 @@ use Rattle.grammar.specs.Text.{Text, if_then_else_, decimal}
 use Rattle.grammar.specs.Names.{Answer, named, refusal, demangle, most-symbol-bytes, number-of, length-of, least-text, least-store, least-ends}
 use Rattle.catalogue.specs.Answer.{normal-symbol, least-normal-ends}
 use Rattle.store.specs.Stack.{zeros}
-use Rattle.demangle.specs.Outcome.{Slices}
+use Rattle.answer.specs.Told.{Slices}
 use Rattle.listing.specs.declared.listing.Kind.{Kind}
 use Rattle.listing.specs.declared.listing.Kind.the-variants.{Names, Symbols}
 use Rattle.listing.specs.declared.listing.Listed.{Listed}
