@@ -1,7 +1,7 @@
 // The entry: a program is a call of it.
 use crate::lines::MOST_KEPT;
 use crate::turns::list_input;
-use demangle::symbol;
+use answer::work;
 use listing::listing::Kind;
 use listing::listing::NAME;
 
@@ -14,9 +14,9 @@ pub fn run(kind: Kind) {
     let mut lines = [0u8; CHUNK + MOST_KEPT + 1];
     let mut out = [0u8; CHUNK];
     let mut name = [0u8; NAME];
-    let mut text = [0u8; symbol::TEXT];
-    let mut store = [0u8; symbol::STORE];
-    let mut ends = [0u16; normalize::entry::ENDS];
+    let mut text = [0u8; work::TEXT];
+    let mut store = [0u8; work::STORE];
+    let mut ends = [0u16; work::NORMAL_ENDS];
     list_input(
         kind,
         &mut chunk,

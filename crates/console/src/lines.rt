@@ -1,4 +1,5 @@
 // The lines that are kept of the input.
+use grammar::state::Parser;
 use grammar::text;
 use listing::feeds::line_end;
 use parser::state::Parser;

@@ -7,7 +7,7 @@ use listing::listing::list_lines;
 ghost use mathlib.Core.Path.{_≡_};
 ghost use Prim.Native.Nat.{_≤_, _<_};
 ghost use lib.ListN.{length, take};
-ghost use Rattle.demangle.specs.Outcome.{slices};
+ghost use Rattle.answer.specs.Told.{slices};
 ghost use Rattle.listing.specs.Listing.{most-line-bytes};
 ghost use Rattle.listing.specs.Kinds.{LongFor};
 ghost use Rattle.console.specs.Output.{header};

@@ -9,7 +9,7 @@ use crate::output::write_some;
 use listing::listing::Kind;
 ghost use Prim.Native.Nat.{_+_, _≤_};
 ghost use lib.ListN.{length};
-ghost use Rattle.demangle.specs.Outcome.{slices};
+ghost use Rattle.answer.specs.Told.{slices};
 ghost use Rattle.listing.specs.Listing.{most-line-bytes};
 ghost use Rattle.listing.specs.Kinds.{LongFor};
 ghost use Rattle.listing.specs.Cut.{most-kept};

@@ -1,4 +1,3 @@
-pub mod Outcome
 pub mod Symbols
 pub mod Printed
 pub mod laws

@@ -1,24 +1,17 @@
 // What is told of a symbol before it is read, and its name written.
+use grammar::state::Parser;
+use grammar::state::Parser;
 use grammar::text as bytes;
 use parser::state::Parser;
 use store::stack;
-ghost use mathlib.Core.Bool.{_&&_};
+use store::stack;
 ghost use mathlib.Core.Path.{_≡_};
 ghost use mathlib.Core.List.{_++_};
 ghost use Prim.Native.Nat.{_-_, _≤_};
-ghost use lib.Dec.{leb};
 ghost use lib.ListN.{length, take, drop};
-ghost use Rattle.grammar.specs.Limits.{least-text, least-store};
 ghost use Rattle.grammar.specs.Names.{high, without-slots};
 ghost use Rattle.store.specs.Stack.{slots-in};
 ghost use Rattle.demangle.specs.Symbols.{Fronts};
-
-// The least lengths of the work slices.
-pub const TEXT: usize = stack::LENGTH;
-
-pub const STORE: usize = 2 * Parser::BYTES;
-
-pub const ENDS: usize = 2 * Parser::ENTRIES;
 
 // The place behind _Z or __Z, or why there is none.
 pub enum Front {
@@ -57,19 +50,6 @@ pub fn behind_front(s: &[u8]) -> Front
         return Front::Behind(3);
     }
     Front::Refused(3)
-}
-
-// Whether the work slices are as long as they have to be, `ends` with `least` numbers.
-pub fn work_fits(text: usize, store: usize, ends: usize, least: usize) -> bool
-    ensures { λ r. ⌜ r ≡ (leb least-text text && leb least-store store && leb least ends) ⌝ }
-{
-    if text < TEXT {
-        return false;
-    }
-    if store < STORE {
-        return false;
-    }
-    least <= ends
 }
 
 // text[from..to] without its slots, into the front of `out`.

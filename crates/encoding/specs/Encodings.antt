@@ -15,10 +15,10 @@ use Rattle.grammar.specs.declared.codes.Picked.the-variants.{At}
 use Rattle.grammar.specs.Grammar.{reading, ⟨type⟩, qualifier, only-void, bare-function-type}
 use Rattle.store.specs.Stack.{Stack, Tail}
 use Rattle.store.specs.Table.{Entries}
-use Rattle.parser.specs.declared.state.Parser.{Parser}
-use Rattle.parser.specs.declared.state.Read.{Read}
-use Rattle.parser.specs.declared.state.Read.the-variants.{Text as read, Refused}
-use Rattle.parser.specs.States.{fresh, raised-to}
+use Rattle.grammar.specs.declared.state.Parser.{Parser}
+use Rattle.grammar.specs.declared.state.Read.{Read}
+use Rattle.grammar.specs.declared.state.Read.the-variants.{Text as read, Refused}
+use Rattle.grammar.specs.States.{fresh, raised-to}
 use Rattle.parser.specs.Holds.{Memory, mem, window, part, low-bytes, high-bytes, low-ends, high-ends, Stands, Refines, keep}
 
 -- ---------------------------------------------------------------- functions

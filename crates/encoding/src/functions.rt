@@ -1,10 +1,10 @@
 // <encoding>: a function or data, with parameters, return type and qualifiers.
 use grammar::codes;
 use grammar::codes::Picked;
+use grammar::state::Parser;
+use grammar::state::Peeked;
+use grammar::state::Read;
 use parser::memory;
-use parser::state::Parser;
-use parser::state::Peeked;
-use parser::state::Read;
 use reader::cycle;
 use reader::lists;
 use reader::lists::Kind;

@@ -2,10 +2,10 @@
 use crate::functions;
 use grammar::codes;
 use grammar::codes::Picked;
+use grammar::state::Parser;
+use grammar::state::Read;
 use grammar::text as bytes;
 use parser::memory;
-use parser::state::Parser;
-use parser::state::Read;
 use reader::cycle;
 ghost use mathlib.Core.Bool.{true, false};
 ghost use mathlib.Core.Path.{_≡_};

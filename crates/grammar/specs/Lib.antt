@@ -7,4 +7,5 @@ pub mod Names
 pub mod Loops
 pub mod Numbers
 pub mod Words
+pub mod States
 pub mod laws

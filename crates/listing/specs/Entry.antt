@@ -2,7 +2,7 @@
 use mathlib.Core.List.{List, []}
 use lib.ListN.{length}
 use Rattle.grammar.specs.Text.{Text, if_then_else_}
-use Rattle.demangle.specs.Outcome.{Slices}
+use Rattle.answer.specs.Told.{Slices}
 use Rattle.listing.specs.Listing.{lines, fitting, number-for, work-sized}
 use Rattle.listing.specs.Lines.{Goes}
 use Rattle.listing.specs.declared.listing.Kind.{Kind}

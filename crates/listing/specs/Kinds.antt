@@ -2,7 +2,7 @@
 -- tells it. Assumes nothing.
 use Prim.Native.Nat.{_≤_}
 use lib.ListN.{length}
-use Rattle.demangle.specs.Outcome.{Slices, Long}
+use Rattle.answer.specs.Told.{Slices, Long}
 use Rattle.listing.specs.Listing.{least-name, least-ends-of}
 use Rattle.listing.specs.declared.listing.Kind.{Kind}
 

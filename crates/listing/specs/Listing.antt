@@ -11,7 +11,7 @@ use Rattle.grammar.specs.Limits.{most-symbol-bytes, most-text-bytes, least-text
 use Rattle.grammar.specs.Names.{Answer, named, refusal, demangle, number-of, length-of}
 use Rattle.catalogue.specs.Answer.{normal-symbol, least-normal-ends}
 use Rattle.store.specs.Stack.{zeros}
-use Rattle.demangle.specs.Outcome.{Slices}
+use Rattle.answer.specs.Told.{Slices}
 use Rattle.listing.specs.declared.listing.Kind.{Kind}
 use Rattle.listing.specs.declared.listing.Kind.the-variants.{Names, Symbols}
 use Rattle.listing.specs.declared.listing.Listed.{Listed}

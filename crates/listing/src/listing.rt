@@ -1,19 +1,19 @@
 // The listing of lines: for each the number, the length and the name or the normal symbol that the symbol gets.
 use crate::feeds::line_end;
-use demangle::entry::Answer;
-use demangle::entry::clear;
-use demangle::entry::demangle_uncleared;
-use demangle::symbol;
+use answer::Answer;
+use answer::bytes;
+use answer::number;
+use answer::work;
+use demangle::reading::demangle_uncleared;
 use grammar::numbers;
+use grammar::state::Parser;
 use grammar::text;
-use normalize::entry::normalize_uncleared;
-use parser::state::Parser;
+use normalize::reading::normalize_uncleared;
 use store::stack;
 ghost use mathlib.Core.Path.{_≡_};
 ghost use Prim.Native.Nat.{_≤_, _<_};
 ghost use lib.ListN.{length};
-ghost use Rattle.demangle.specs.Outcome.{slices, number-in, bytes-in};
-ghost use Rattle.demangle.specs.Printed.{Tells};
+ghost use Rattle.answer.specs.Told.{slices, Tells};
 ghost use Rattle.listing.specs.Listing.{line, answer-of, listing-line, least-ends-of, sized, Lists};
 ghost use Rattle.listing.specs.Printed.{Heads, Printed};
 ghost use Rattle.listing.specs.Lines.{GoesOn, full-number};
@@ -67,24 +67,6 @@ fn print_line(out: &mut [u8], at: usize, number: usize, name: &[u8]) -> usize
     last + 1
 }
 
-fn number_in(answer: Answer) -> usize
-    ensures { λ r. ⌜ (r ≡ number-in answer) × (r < 256) ⌝ }
-{
-    match answer {
-        Answer::Name(_) => 0,
-        Answer::Refused(k) => k as usize,
-    }
-}
-
-fn bytes_in(answer: Answer) -> usize
-    ensures { λ r. ⌜ r ≡ bytes-in answer ⌝ }
-{
-    match answer {
-        Answer::Name(n) => n,
-        Answer::Refused(_) => 0,
-    }
-}
-
 // The name or the normal symbol, into `name`. The work slices have their least lengths; only `list_lines` clears them.
 fn answer(
     kind: Kind,
@@ -118,8 +100,8 @@ fn write_line(
     ensures { λ r. ⌜ Printed (listing-line kind (now (s .entry))) at (now (out .entry)) (now (out .exit)) r ⌝ }
 {
     let answer = answer(kind, s, name, text, store, ends);
-    let number = number_in(answer);
-    let bytes = bytes_in(answer);
+    let number = number(answer) as usize;
+    let bytes = bytes(answer);
     print_line(out, at, number, &name[..bytes])
 }
 
@@ -179,8 +161,8 @@ fn least_ends(kind: Kind) -> usize
     ensures { λ r. ⌜ r ≡ least-ends-of kind ⌝ }
 {
     match kind {
-        Kind::Names => symbol::ENDS,
-        Kind::Symbols => normalize::entry::ENDS,
+        Kind::Names => work::ENDS,
+        Kind::Symbols => work::NORMAL_ENDS,
     }
 }
 
@@ -190,7 +172,7 @@ fn long_enough(kind: Kind, name: usize, text: usize, store: usize, ends: usize) 
     if name < NAME {
         return false;
     }
-    symbol::work_fits(text, store, ends, least_ends(kind))
+    work::work_fits(text, store, ends, least_ends(kind))
 }
 
 // The listing, or no line where a work slice is too short.
@@ -233,6 +215,6 @@ pub fn list_lines(
 {
     let listed = list_uncleared(kind, input, out, name, text, store, ends);
     stack::clear(name);
-    clear(text, store, ends);
+    work::clear(text, store, ends);
     listed
 }

@@ -1,5 +1,5 @@
 // The state of the writing of a normal symbol, by value, and what a step answers.
-use parser::state::Parser;
+use grammar::state::Parser;
 ghost use mathlib.Core.Path.{_≡_};
 ghost use Rattle.normal_steps.specs.States.{begun-at, moved-to, written-to, noted-to, entered-to, counted-to};
 

@@ -1,2 +1,3 @@
-// The entry for normal symbols.
-pub mod entry;
+// The reading for normal symbols. What the work slices hold at the end is left free: a crate that names this one has to clear
+// them.
+pub mod reading;

@@ -6,8 +6,8 @@ use lib.ListN.{take}
 use Rattle.grammar.specs.Text.{Text}
 use Rattle.grammar.specs.Limits.{kept-bytes}
 use Rattle.store.specs.Stack.{Stack, Tail}
-use Rattle.parser.specs.declared.state.Parser.{Parser}
-use Rattle.parser.specs.States.{raised-to}
+use Rattle.grammar.specs.declared.state.Parser.{Parser}
+use Rattle.grammar.specs.States.{raised-to}
 
 -- the text t was put on the stack in parts, and the state has the new top; the newest 34,816 bytes, at least, are there
 pub record Adds (text text' : Text) (p p' : Parser) (t : Text) : Type 0 where

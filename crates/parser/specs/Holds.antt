@@ -10,10 +10,10 @@ use Rattle.grammar.specs.Reader.{State, Result, ok, refused, Reader}
 use Rattle.grammar.specs.Grammar.{qualifier}
 use Rattle.store.specs.Stack.{Stack, Tail, Put, Cut}
 use Rattle.store.specs.Table.{Entries}
-use Rattle.parser.specs.declared.state.Parser.{Parser}
-use Rattle.parser.specs.declared.state.Read.{Read}
-use Rattle.parser.specs.declared.state.Read.the-variants.{Text as read, Refused}
-use Rattle.parser.specs.States.{raised-to}
+use Rattle.grammar.specs.declared.state.Parser.{Parser}
+use Rattle.grammar.specs.declared.state.Read.{Read}
+use Rattle.grammar.specs.declared.state.Read.the-variants.{Text as read, Refused}
+use Rattle.grammar.specs.States.{raised-to}
 
 -- what the work slices hold
 pub record Memory : Type 0 where

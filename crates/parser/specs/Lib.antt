@@ -1,4 +1,3 @@
-pub mod States
 pub mod Holds
 pub mod Halves
 pub mod Wraps

@@ -6,8 +6,8 @@ use Rattle.grammar.specs.Text.{Text, b, if_then_else_, same, starts}
 use Rattle.grammar.specs.Limits.{most-text-bytes, most-entry-bytes}
 use Rattle.grammar.specs.Reader.{State, give}
 use Rattle.store.specs.Stack.{Stack}
-use Rattle.parser.specs.declared.state.Parser.{Parser}
-use Rattle.parser.specs.declared.state.Read.{Read}
+use Rattle.grammar.specs.declared.state.Parser.{Parser}
+use Rattle.grammar.specs.declared.state.Read.{Read}
 use Rattle.parser.specs.declared.literal.Kind.{Kind}
 use Rattle.parser.specs.declared.literal.Kind.the-variants.{Truth, Suffix, Cast}
 use Rattle.parser.specs.Holds.{mem, Stands, Refines}

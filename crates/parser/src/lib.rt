@@ -3,5 +3,4 @@ pub mod leaf;
 pub mod literal;
 pub mod memory;
 pub mod names;
-pub mod state;
 pub mod types;

@@ -11,8 +11,8 @@ ghost use Rattle.parser.specs.Holds.{part};
 ghost use Rattle.parser.specs.Literals.{kind-of, signed, truth-of, Encloses, Gives};
 ghost use Rattle.parser.specs.Adds.{Adds};
 use crate::memory;
-use crate::state::Parser;
-use crate::state::Read;
+use grammar::state::Parser;
+use grammar::state::Read;
 use store::stack;
 
 // A literal is printed as true or false, with a suffix, which is a part of ull, or with its type in front.

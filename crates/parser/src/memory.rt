@@ -13,12 +13,12 @@ ghost use Rattle.store.specs.Stack.{Stack, lent};
 ghost use Rattle.store.specs.Table.{Entries, Sized};
 ghost use Rattle.parser.specs.Holds.{Memory, mem, part, Holds, Ready, Reads, Stands, Refines, Puts, Cuts, Pushes, given-of};
 ghost use Rattle.parser.specs.Halves.{Room, Grows, with-args};
-ghost use Rattle.parser.specs.States.{subs-to, args-to};
-use crate::state::Parser;
-use crate::state::Read;
-use crate::state::Table;
+ghost use Rattle.grammar.specs.States.{subs-to, args-to};
 use grammar::codes;
 use grammar::codes::Word;
+use grammar::state::Parser;
+use grammar::state::Read;
+use grammar::state::Table;
 use store::stack;
 use store::table;
 

@@ -14,12 +14,12 @@ ghost use Rattle.parser.specs.Adds.{Adds};
 ghost use Rattle.parser.specs.Source.{identified, closers, behind-number};
 ghost use Rattle.parser.specs.References.{entry-at};
 use crate::memory;
-use crate::state::Parser;
-use crate::state::Read;
 use grammar::codes;
 use grammar::codes::Picked;
 use grammar::numbers;
 use grammar::numbers::Number;
+use grammar::state::Parser;
+use grammar::state::Read;
 use grammar::text::before;
 use grammar::text::here;
 

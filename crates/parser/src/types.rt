@@ -15,11 +15,11 @@ ghost use Rattle.parser.specs.Holds.{mem, window, Holds, Ready, Stands, 
 ghost use Rattle.parser.specs.Wraps.{Wrapper};
 use crate::memory;
 use crate::names;
-use crate::state::Parser;
-use crate::state::Read;
 use grammar::codes;
 use grammar::codes::Picked;
 use grammar::codes::Word;
+use grammar::state::Parser;
+use grammar::state::Read;
 use store::stack;
 
 // <builtin-type> of two letters, at D.

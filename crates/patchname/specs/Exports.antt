@@ -2,8 +2,9 @@
 use mathlib.Core.Path.{_≡_, ap, ap₂, _∙_}
 use Prim.Native.Nat.{ℕ}
 use Rattle.grammar.specs.Text.{Text}
-use Rattle.demangle.specs.declared.entry.Answer.{Answer}
-use Rattle.demangle.specs.Outcome.{Slices, Outcome, number-in, bytes-in}
+use Rattle.answer.specs.declared.Answer.{Answer}
+use Rattle.answer.specs.Told.{Slices, number-in, bytes-in}
+use Rattle.entries.specs.Outcome.{Outcome}
 use Rattle.listing.specs.Listing.{Outcome as Listing}
 use Rattle.listing.specs.declared.listing.Listed.{Listed}
 

@@ -1,13 +1,13 @@
 // The entries and the listing as C functions. A slice is a pointer and a length.
-use demangle::entry;
-use demangle::entry::Answer;
+use answer::Answer;
+use entries::names::demangle;
+use entries::symbols::normalize;
 use listing::listing::Kind;
 use listing::listing::Listed;
 use listing::listing::list_lines;
-use normalize::entry as symbol;
 ghost use mathlib.Core.Path.{_≡_};
-ghost use Rattle.demangle.specs.Outcome.{slices, demangled, number-in, bytes-in};
-ghost use Rattle.normalize.specs.Outcome.{normalized};
+ghost use Rattle.answer.specs.Told.{slices, number-in, bytes-in};
+ghost use Rattle.entries.specs.Outcome.{demangled, normalized};
 ghost use Rattle.listing.specs.Listing.{listed};
 ghost use Rattle.listing.specs.declared.listing.Kind.the-variants.{Names, Symbols};
 ghost use Rattle.patchname.specs.Exports.{Returns, Returns-listing};
@@ -16,16 +16,8 @@ ghost use Rattle.patchname.specs.Exports.{Returns, Returns-listing};
 fn tell(answer: Answer, bytes: &mut usize) -> u8
     ensures { λ r. ⌜ (r ≡ number-in answer) × (now (bytes .exit) ≡ bytes-in answer) ⌝ }
 {
-    match answer {
-        Answer::Name(n) => {
-            *bytes = n;
-            0
-        }
-        Answer::Refused(k) => {
-            *bytes = 0;
-            k
-        }
-    }
+    *bytes = answer::bytes(answer);
+    answer::number(answer)
 }
 
 // The name of a symbol, into `out`: its number is returned, and its length goes to `bytes`.
@@ -41,7 +33,7 @@ pub extern "C" fn patchname_demangle(
     ensures { λ r. ⌜ Returns (demangled (now (s .entry)) (slices (now (out .entry)) (now (text .entry)) (now (store .entry)) (now (ends .entry))))
         (slices (now (out .exit)) (now (text .exit)) (now (store .exit)) (now (ends .exit))) r (now (bytes .exit)) ⌝ }
 {
-    let answer = entry::demangle(s, out, text, store, ends);
+    let answer = demangle(s, out, text, store, ends);
     tell(answer, bytes)
 }
 
@@ -58,7 +50,7 @@ pub extern "C" fn patchname_normalize(
     ensures { λ r. ⌜ Returns (normalized (now (s .entry)) (slices (now (out .entry)) (now (text .entry)) (now (store .entry)) (now (ends .entry))))
         (slices (now (out .exit)) (now (text .exit)) (now (store .exit)) (now (ends .exit))) r (now (bytes .exit)) ⌝ }
 {
-    let answer = symbol::normalize(s, out, text, store, ends);
+    let answer = normalize(s, out, text, store, ends);
     tell(answer, bytes)
 }
 

@@ -11,8 +11,8 @@ use Rattle.grammar.specs.Tables.{wrappers}
 use Rattle.grammar.specs.Reader.{State, Reader, find}
 use Rattle.grammar.specs.Grammar.{reading, wrapped}
 use Rattle.parser.specs.Holds.{Memory, Stands, Refines, Reads, keep}
-use Rattle.parser.specs.declared.state.Parser.{Parser}
-use Rattle.parser.specs.declared.state.Read.{Read}
+use Rattle.grammar.specs.declared.state.Parser.{Parser}
+use Rattle.grammar.specs.declared.state.Read.{Read}
 
 -- the row of `wrappers` that the byte c is the code of
 abbrev pub Wraps : ℕ → String × String → Type 0

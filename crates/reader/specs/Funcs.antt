@@ -8,8 +8,8 @@ use Rattle.grammar.specs.Limits.{most-length}
 use Rattle.grammar.specs.Reader.{State, recorded}
 use Rattle.grammar.specs.Grammar.{slot, only-void}
 use Rattle.parser.specs.Holds.{Memory, Stands, Refines, keep}
-use Rattle.parser.specs.declared.state.Parser.{Parser}
-use Rattle.parser.specs.declared.state.Read.{Read}
+use Rattle.grammar.specs.declared.state.Parser.{Parser}
+use Rattle.grammar.specs.declared.state.Read.{Read}
 
 -- the text of a function type that returns r and takes ts
 abbrev pub function-text : Text → List Text → Text

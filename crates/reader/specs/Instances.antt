@@ -5,7 +5,7 @@ use mathlib.Core.Path.{_≡_}
 use Rattle.grammar.specs.Text.{Text}
 use Rattle.grammar.specs.Reader.{State, Reader}
 use Rattle.grammar.specs.Grammar.{reading, name-instance, type-instance, s-name, s-type}
-use Rattle.parser.specs.declared.state.Parser.{Parser}
+use Rattle.grammar.specs.declared.state.Parser.{Parser}
 use Rattle.parser.specs.Holds.{Memory, Holds}
 use Rattle.parser.specs.Halves.{with-args}
 use Rattle.parser.specs.laws.Holds.{with-templated}

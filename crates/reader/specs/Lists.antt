@@ -13,9 +13,9 @@ use Rattle.grammar.specs.Grammar.{reading, Production, ⟨type⟩, ⟨template-
 use Rattle.grammar.specs.Grammar as g
 use Rattle.grammar.specs.Loops.{argument, before-E}
 use Rattle.parser.specs.Holds.{Memory, mem, Holds, Stands, Puts, Reads, window, keep}
-use Rattle.parser.specs.declared.state.Parser.{Parser}
-use Rattle.parser.specs.declared.state.Read.{Read}
-use Rattle.parser.specs.declared.state.Read.the-variants.{Text as read, Refused}
+use Rattle.grammar.specs.declared.state.Parser.{Parser}
+use Rattle.grammar.specs.declared.state.Read.{Read}
+use Rattle.grammar.specs.declared.state.Read.the-variants.{Text as read, Refused}
 use Rattle.reader.specs.declared.lists.Kind.{Kind}
 use Rattle.reader.specs.declared.lists.Kind.the-variants.{Parameters, Types, Arguments}
 use Rattle.reader.specs.declared.lists.Texts.{Texts}

@@ -1,6 +1,6 @@
 // Names and types with template arguments: the states in which the arguments are read, and from which the entry is made.
+use grammar::state::Parser;
 use parser::memory;
-use parser::state::Parser;
 ghost use Rattle.reader.specs.Instances.{Passes, bare, marked};
 
 // The arguments of a name replace those so far; those of a type come on top.

@@ -1,8 +1,8 @@
 // Lists of texts, and the parts of a nested name.
+use grammar::state::Parser;
+use grammar::state::Read;
 use parser::leaf;
 use parser::memory;
-use parser::state::Parser;
-use parser::state::Read;
 use store::stack;
 ghost use mathlib.Core.Path.{_≡_};
 ghost use mathlib.Core.List.{List};

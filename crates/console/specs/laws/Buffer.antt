@@ -9,10 +9,10 @@ use lib.Dec.{eqb, leb}
 use lib.ListN.{length, take, drop, set, length-append, length-drop}
 use lib.Seq.{take-length, take-at, take-add, take-take, take-suc-set, drop-drop, length-take-le}
 use Rattle.grammar.specs.Text.{Text, if_then_else_}
-use Rattle.demangle.specs.Outcome.{Slices}
-use Rattle.demangle.specs.laws.Fronts.{both-true}
-use Rattle.demangle.specs.laws.Told.{long-fit}
-use Rattle.listing.specs.Listing.{line-feed, lines, bytes-taken, listing, fitting, work-sized, Outcome, lists, listed, Lists, most-line-bytes}
+use Rattle.grammar.specs.Limits.{least-text, least-store}
+use Rattle.answer.specs.Told.{Slices}
+use Rattle.answer.specs.laws.Told.{both-true, long-fit}
+use Rattle.listing.specs.Listing.{line-feed, lines, bytes-taken, listing, fitting, work-sized, Outcome, lists, listed, Lists, most-line-bytes, least-name, least-ends-of}
 use Rattle.listing.specs.Cut.{cut-lines, column, most-kept}
 use Rattle.listing.specs.laws.Cut.{cut-append, cut-listing}
 use Rattle.listing.specs.Kinds.{LongFor}
@@ -173,7 +173,7 @@ long-as l l' e f g i h =
     record { name = omega (arith, e, h .name); work = record { text = omega (arith, f, h .work .text); store = omega (arith, g, h .work .store); ends = omega (arith, i, h .work .ends) } }
 
 -- long enough for either kind
-pub long-either : (kind : Kind) (l : Slices) → 16384 ≤ length (l .out) → 51200 ≤ length (l .text) → 65536 ≤ length (l .store) → 24576 ≤ length (l .ends) → LongFor kind l
+pub long-either : (kind : Kind) (l : Slices) → least-name ≤ length (l .out) → least-text ≤ length (l .text) → least-store ≤ length (l .store) → least-ends-of Symbols ≤ length (l .ends) → LongFor kind l
 long-either Names l e f g h = record { name = e; work = record { text = f; store = g; ends = omega arith } }
 long-either Symbols l e f g h = record { name = e; work = record { text = f; store = g; ends = h } }
 

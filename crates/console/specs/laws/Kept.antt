@@ -7,7 +7,7 @@ use native.Mathlib.Omega.{arith}
 use borrow.Author.Tests.{eq-eqb}
 use lib.ListN.{length, take, drop, getD, set, length-set, length-drop, drop-of-length-le}
 use lib.Seq.{drop-cons, drop-drop, take-length, take-suc, take-suc-set, length-take-le, append-snoc, set-at, getD-append-add, getD-drop, paste, length-paste, take-paste}
-use Rattle.listing.specs.Cut.{cut-lines, column}
+use Rattle.listing.specs.Cut.{cut-lines, column, most-kept}
 use Rattle.listing.specs.laws.Cut.{cut-feed, line-front}
 use Rattle.listing.specs.Lines.{before-feed, feed-from}
 use Rattle.listing.specs.laws.Lines.{feed-there, feed-front}

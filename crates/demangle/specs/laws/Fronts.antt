@@ -13,12 +13,9 @@ use Rattle.grammar.specs.Text.{Text, b, if_then_else_, choose, starts}
 use Rattle.grammar.specs.Limits.{most-symbol-bytes}
 use Rattle.grammar.specs.Reader.{find}
 use Rattle.grammar.specs.Names.{front, high}
+use Rattle.answer.specs.laws.Told.{both-true}
 use Rattle.demangle.specs.declared.symbol.Front.the-variants.{Behind, Refused}
 use Rattle.demangle.specs.Symbols.{Fronts}
-
-pub both-true : (p q : Bool) → p && q ≡ true → (p ≡ true) × (q ≡ true)
-both-true true q e = (refl, e)
-both-true false q e = absurd (true≢false (sym e))
 
 -- ---- bytes of 128 or more
 

@@ -16,7 +16,7 @@ use Rattle.grammar.specs.Reader.{State, Result, ok, refused, Reader, onto, refu
 use Rattle.grammar.specs.Grammar.{Production, ⟨encoding⟩, reading, encoding, function-or-data, production, ended, slot}
 use Rattle.grammar.specs.laws.Fuel.{reading-is}
 use Rattle.grammar.specs.Names.{Answer, named, refusal, without-slots, finished, mangled-name, front, demangle, work-fits, within, answer, length-of}
-use Rattle.demangle.specs.Outcome.{Slices, lent}
+use Rattle.answer.specs.Told.{Slices, lent}
 
 -- ---------------------------------------------------------------- an encoding's text
 

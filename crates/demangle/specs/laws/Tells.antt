@@ -1,6 +1,6 @@
 -- Laws of the answer for a text that was read. Assumes nothing.
 use mathlib.Core.Bool.{true, false}
-use mathlib.Core.List.{[], _++_}
+use mathlib.Core.List.{[]}
 use mathlib.Core.Path.{_≡_, refl, sym, ap, _∙_, subst}
 use Prim.Native.Nat.{ℕ, _-_, _≤_, _<_}
 use native.Mathlib.Omega.{arith}
@@ -10,49 +10,19 @@ use lib.Seq.{length-take-le}
 use Rattle.grammar.specs.Text.{Text, if_then_else_}
 use Rattle.grammar.specs.Reader.{State, Result, ok, refused, start}
 use Rattle.grammar.specs.Grammar.{reading, ended, ⟨encoding⟩}
-use Rattle.grammar.specs.Names.{Answer, named, refusal, without-slots, finished, within, mangled-name, number-of, length-of, written}
+use Rattle.grammar.specs.Names.{named, refusal, without-slots, finished, within, mangled-name}
 use Rattle.store.specs.Stack.{slots-in, lent}
 use Rattle.store.specs.laws.Tails.{newest-lent}
-use Rattle.parser.specs.declared.state.Parser.{Parser}
-use Rattle.parser.specs.declared.state.Read.{Read}
-use Rattle.parser.specs.declared.state.Read.the-variants.{Text as read, Refused as unread}
+use Rattle.grammar.specs.declared.state.Parser.{Parser}
+use Rattle.grammar.specs.declared.state.Read.{Read}
+use Rattle.grammar.specs.declared.state.Read.the-variants.{Text as read, Refused as unread}
 use Rattle.parser.specs.Holds.{Memory, mem}
-use Rattle.demangle.specs.declared.entry.Answer.{Answer as Code}
-use Rattle.demangle.specs.declared.entry.Answer.the-variants.{Name, Refused}
+use Rattle.answer.specs.declared.Answer.{Answer as Code}
 use Rattle.encoding.specs.Encodings.{Prints, Encodes, encodes, refuses}
-use Rattle.demangle.specs.Outcome.{told, number-in, bytes-in}
-use Rattle.demangle.specs.Printed.{Tells, unread-of}
+use Rattle.answer.specs.Told.{Tells}
+use Rattle.answer.specs.laws.Told.{tells-refusal}
+use Rattle.demangle.specs.Printed.{unread-of}
 use Rattle.demangle.specs.laws.Slotless.{slotless-length}
-
--- the number and the length of what is told
-pub number-told : (a : Answer) → number-in (told a) ≡ number-of a
-unfolding told number-of
-number-told (named t) = refl
-number-told (refusal r) = refl
-
-pub bytes-told : (a : Answer) → bytes-in (told a) ≡ length-of a
-unfolding told length-of
-bytes-told (named t) = refl
-bytes-told (refusal r) = refl
-
-module _ {a : Answer} {out : Text} where
-  pub tells-refusal : {r : ℕ} → a ≡ refusal r → Tells a out out (Refused r)
-  unfolding told written
-  tells-refusal e = record { answer = sym (ap told e); out = sym (ap (λ (x : Answer). written x out) e) }
-
-  pub tells-name : {t out' : Text} {n : ℕ} → a ≡ named t → n ≡ length t → out' ≡ t ++ drop (length t) out → Tells a out out' (Name n)
-  unfolding told written
-  tells-name e f g = record { answer = ap Name f ∙ sym (ap told e); out = g ∙ sym (ap (λ (x : Answer). written x out) e) }
-
-module _ {a : Answer} {before after : Text} {r : Code} (h : Tells a before after r) where
-  pub tells-number : number-in r ≡ number-of a
-  tells-number = ap number-in (h .answer) ∙ number-told a
-
-  pub tells-bytes : bytes-in r ≡ length-of a
-  tells-bytes = ap bytes-in (h .answer) ∙ bytes-told a
-
-pub tells-as : {a c : Answer} {before after : Text} {r : Code} → a ≡ c → Tells a before after r → Tells c before after r
-tells-as {before = before} {after = after} {r = r} e h = subst (λ (x : Answer). Tells x before after r) e h
 
 -- ---- the definition's answer, by its tests
 

@@ -1,38 +1,20 @@
--- Laws of the entry: the answer by what is told before the reading, and what every answer leaves. Assumes nothing.
-use mathlib.Core.Bool.{true, false, _&&_}
+-- Laws of the answer by what is told before the reading. Assumes nothing.
+use mathlib.Core.Bool.{true, false}
 use mathlib.Core.Path.{_≡_, sym, ap, _∙_, subst}
 use Prim.Native.Nat.{ℕ, _≤_}
-use borrow.Author.Tests.{le-leb, leb-true}
-use lib.Dec.{leb}
 use lib.ListN.{length, drop}
 use Rattle.grammar.specs.Text.{Text, if_then_else_}
-use Rattle.grammar.specs.Limits.{most-symbol-bytes, least-text, least-store, least-ends}
+use Rattle.grammar.specs.Limits.{most-symbol-bytes, least-ends}
 use Rattle.grammar.specs.Names.{front, answer, work-fits, within, mangled-name}
 use Rattle.grammar.specs.Names as n
-use Rattle.store.specs.Stack.{zeros}
-use Rattle.demangle.specs.declared.entry.Answer.{Answer}
-use Rattle.demangle.specs.declared.entry.Answer.the-variants.{Refused}
+use Rattle.answer.specs.declared.Answer.{Answer}
+use Rattle.answer.specs.declared.Answer.the-variants.{Refused}
 use Rattle.demangle.specs.declared.symbol.Front.{Front}
 use Rattle.demangle.specs.declared.symbol.Front.the-variants as front-as
-use Rattle.demangle.specs.Outcome.{Slices, lent, leaves, demangled, Demangles, Leaves, Long, fit}
+use Rattle.answer.specs.Told.{Slices, lent, fit, Tells}
+use Rattle.answer.specs.laws.Told.{tells-refusal, tells-as}
 use Rattle.demangle.specs.Symbols.{Fronts, Front-inside}
-use Rattle.demangle.specs.laws.Fronts.{both-true}
-use Rattle.demangle.specs.Printed.{Tells, refused-of}
-use Rattle.demangle.specs.laws.Tells.{tells-refusal, tells-as}
-
--- ---- the lengths of the work slices
-
-pub fit-long : (least : ℕ) (l : Slices) → fit least l ≡ true → Long least l
-fit-long least l h =
-    let text = leb least-text (length (l .text)) in
-    let store = leb least-store (length (l .store)) in
-    let (i, k) = both-true (text && store) (leb least (length (l .ends))) h in
-    let (x, y) = both-true text store i in
-    record { text = leb-true least-text (length (l .text)) x; store = leb-true least-store (length (l .store)) y; ends = leb-true least (length (l .ends)) k }
-
-pub long-fit : {least : ℕ} {l : Slices} → Long least l → fit least l ≡ true
-long-fit {least} {l} h =
-    rw (le-leb least-text (length (l .text)) (h .text), le-leb least-store (length (l .store)) (h .store), le-leb least (length (l .ends)) (h .ends))
+use Rattle.demangle.specs.Printed.{refused-of}
 
 -- ---- by the front
 
@@ -63,16 +45,3 @@ module _ {s : Text} {f : Front} (h : Fronts s f) where
     front-reads l out r g z =
         let i : Fronts s (front-as.Behind k) = subst (Fronts s) e h in
         tells-as (sym (i .is _ ∙ rw g)) z
-
--- ---- work slices that were cleared
-
--- an answer that was told, and work slices that are zero
-pub told-leaves : {a : n.Answer} (l m : Slices) {r : Answer} → Tells a (l .out) (m .out) r → m .text ≡ zeros (length (l .text)) → m .store ≡ zeros (length (l .store))
-    → m .ends ≡ zeros (length (l .ends)) → Leaves a l m r
-unfolding leaves
-told-leaves l m h e f g = λ i. record { answer = h .answer i; slices = record { out = h .out i; text = e i; store = f i; ends = g i } }
-
-pub told-demangles : (s : Text) (l m : Slices) {r : Answer} → Tells (answer most-symbol-bytes (lent l) s) (l .out) (m .out) r → m .text ≡ zeros (length (l .text))
-    → m .store ≡ zeros (length (l .store)) → m .ends ≡ zeros (length (l .ends)) → Demangles s l m r
-unfolding demangled
-told-demangles s l m h e f g = told-leaves l m h e f g

@@ -10,9 +10,9 @@ use Rattle.grammar.specs.Text.{Text, if_then_else_}
 use Rattle.grammar.specs.Limits.{most-text-bytes, most-length}
 use Rattle.grammar.specs.Reader.{State, Result, ok, refused, Reader, onto, give}
 use Rattle.store.specs.laws.Tails.{weaken}
-use Rattle.parser.specs.declared.state.Parser.{Parser}
-use Rattle.parser.specs.declared.state.Read.{Read}
-use Rattle.parser.specs.declared.state.Read.the-variants.{Text as read, Refused}
+use Rattle.grammar.specs.declared.state.Parser.{Parser}
+use Rattle.grammar.specs.declared.state.Read.{Read}
+use Rattle.grammar.specs.declared.state.Read.the-variants.{Text as read, Refused}
 use Rattle.parser.specs.Holds.{Memory, Refines, reads, given-of}
 use Rattle.parser.specs.Holds as holds
 use Rattle.encoding.specs.Encodings.{Prints, Encodes, encodes, refuses}

@@ -18,10 +18,10 @@ use Rattle.grammar.specs.declared.codes.Word.{Word}
 use Rattle.grammar.specs.declared.codes.Picked.{Picked}
 use Rattle.grammar.specs.declared.codes.Picked.the-variants.{At, Nothing}
 use Rattle.store.specs.Stack.{Stack, newest}
-use Rattle.parser.specs.declared.state.Parser.{Parser}
-use Rattle.parser.specs.declared.state.Peeked.the-variants as peeked-as
-use Rattle.parser.specs.declared.state.Read.{Read}
-use Rattle.parser.specs.States.{peeked}
+use Rattle.grammar.specs.declared.state.Parser.{Parser}
+use Rattle.grammar.specs.declared.state.Peeked.the-variants as peeked-as
+use Rattle.grammar.specs.declared.state.Read.{Read}
+use Rattle.grammar.specs.States.{peeked}
 use Rattle.grammar.specs.laws.Places.{rest-none}
 use Rattle.parser.specs.Holds.{mem, part, Refines, Puts, given-of}
 use Rattle.parser.specs.laws.Holds.{given-refines}

@@ -13,9 +13,9 @@ use Rattle.grammar.specs.laws.Text.{both, same→eq}
 use Rattle.grammar.specs.Limits.{most-text-bytes, most-entry-bytes, most-length}
 use Rattle.store.specs.Stack.{Tail, Cut}
 use Rattle.store.specs.laws.Tails.{dropped, size, top-size}
-use Rattle.parser.specs.declared.state.Parser.{Parser}
-use Rattle.parser.specs.declared.state.Read.{Read}
-use Rattle.parser.specs.declared.state.Read.the-variants.{Text as read, Refused}
+use Rattle.grammar.specs.declared.state.Parser.{Parser}
+use Rattle.grammar.specs.declared.state.Read.{Read}
+use Rattle.grammar.specs.declared.state.Read.the-variants.{Text as read, Refused}
 use Rattle.parser.specs.Holds.{Memory, mem, window, Holds, Stands, Refines, refuses, Reads, Puts, Cuts, keep}
 use Rattle.parser.specs.laws.Holds.{by, less, Got, got, refused-on, holds-puts, stands}
 use Rattle.parser.specs.laws.Halves.{give-short, give-long}

@@ -10,10 +10,10 @@ use Rattle.grammar.specs.Limits.{most-text-bytes}
 use Rattle.grammar.specs.Reader.{State, Result, ok, refused, Reader, onto, give, set-cv}
 use Rattle.grammar.specs.Grammar.{reading, ⟨name⟩, ⟨type⟩, ended, bare-function-type, function-or-data}
 use Rattle.store.specs.Stack.{Tail}
-use Rattle.parser.specs.declared.state.Parser.{Parser}
-use Rattle.parser.specs.declared.state.Read.{Read}
-use Rattle.parser.specs.declared.state.Read.the-variants.{Text as read, Refused}
-use Rattle.parser.specs.States.{cv-to}
+use Rattle.grammar.specs.declared.state.Parser.{Parser}
+use Rattle.grammar.specs.declared.state.Read.{Read}
+use Rattle.grammar.specs.declared.state.Read.the-variants.{Text as read, Refused}
+use Rattle.grammar.specs.States.{cv-to}
 use Rattle.parser.specs.Holds.{Memory, mem, window, Holds, Stands, Refines, Reads, keep}
 use Rattle.parser.specs.laws.Holds.{by, by-state, less, Got, got, refused-on, holds-cv, with-cv}
 use Rattle.reader.specs.laws.Opens.{wrote-fits}

@@ -16,10 +16,10 @@ use Rattle.grammar.specs.declared.codes.Picked.{Picked}
 use Rattle.grammar.specs.declared.codes.Picked.the-variants.{At, Nothing}
 use Rattle.store.specs.Stack.{Stack, Tail}
 use Rattle.store.specs.laws.Tails.{whole, weaken, both, put-tail}
-use Rattle.parser.specs.declared.state.Parser.{Parser}
-use Rattle.parser.specs.declared.state.Read.{Read}
-use Rattle.parser.specs.declared.state.Read.the-variants.{Text as read, Refused}
-use Rattle.parser.specs.States.{raised-to, moved-to}
+use Rattle.grammar.specs.declared.state.Parser.{Parser}
+use Rattle.grammar.specs.declared.state.Read.{Read}
+use Rattle.grammar.specs.declared.state.Read.the-variants.{Text as read, Refused}
+use Rattle.grammar.specs.States.{raised-to, moved-to}
 use Rattle.grammar.specs.laws.Places.{rest-none}
 use Rattle.parser.specs.Holds.{Memory, mem, window, Holds, Reads, Puts, keep, given-of}
 use Rattle.parser.specs.laws.Holds.{by-state, holds-moved, holds-puts, Got, got}

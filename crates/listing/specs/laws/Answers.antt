@@ -5,10 +5,9 @@ use lib.ListN.{length, take, drop}
 use lib.Seq.{take-at}
 use Rattle.grammar.specs.Text.{Text}
 use Rattle.grammar.specs.Names.{Answer, named, refusal, number-of, length-of, written}
-use Rattle.demangle.specs.Outcome.{number-in, bytes-in}
-use Rattle.demangle.specs.Printed.{Tells}
-use Rattle.demangle.specs.laws.Tells.{tells-number, tells-bytes}
-use Rattle.demangle.specs.declared.entry.Answer.{Answer as Code}
+use Rattle.answer.specs.Told.{number-in, bytes-in, Tells}
+use Rattle.answer.specs.laws.Told.{tells-number, tells-bytes}
+use Rattle.answer.specs.declared.Answer.{Answer as Code}
 use Rattle.listing.specs.Listing.{name-of, line, line-for}
 
 pub name-length : (a : Answer) → length (name-of a) ≡ length-of a

@@ -8,10 +8,9 @@ use lib.ListN.{length}
 use Rattle.grammar.specs.Text.{Text, if_then_else_}
 use Rattle.grammar.specs.Limits.{least-text, least-store}
 use Rattle.store.specs.Stack.{zeros}
-use Rattle.demangle.specs.Outcome.{Slices, fit}
-use Rattle.demangle.specs.laws.Told.{fit-long}
-use Rattle.demangle.specs.laws.Fronts.{both-true}
-use Rattle.listing.specs.Listing.{bytes-taken, listing, number-for, least-ends-of, sized, work-sized, lists, listed, Lists}
+use Rattle.answer.specs.Told.{Slices, fit}
+use Rattle.answer.specs.laws.Told.{both-true, fit-long}
+use Rattle.listing.specs.Listing.{least-name, bytes-taken, listing, number-for, least-ends-of, sized, work-sized, lists, listed, Lists}
 use Rattle.listing.specs.Kinds.{LongFor}
 use Rattle.listing.specs.Lines.{GoesOn}
 use Rattle.listing.specs.declared.listing.Kind.{Kind}

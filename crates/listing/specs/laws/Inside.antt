@@ -10,7 +10,7 @@ use lib.ListN.{length, length-append}
 use Rattle.grammar.specs.Text.{Text, if_then_else_, decimal}
 use Rattle.grammar.specs.Limits.{most-text-bytes}
 use Rattle.grammar.specs.Names.{Answer, number-of, length-of}
-use Rattle.demangle.specs.Outcome.{Slices}
+use Rattle.answer.specs.Told.{Slices}
 use Rattle.listing.specs.Listing.{Outcome, answer-of, line-for, listing-line, in-front, lines, bytes-taken, listing, fitting, none-fits, number-for, work-sized, lists, listed}
 use Rattle.listing.specs.Listing.{Lists, line-feed, head, line, name-of, most-line-bytes}
 use Rattle.listing.specs.laws.Kinds.{short-answer-of}

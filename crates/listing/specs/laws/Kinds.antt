@@ -13,12 +13,10 @@ use Rattle.grammar.specs.Names.{Answer, named, refusal, mangled-name, front, de
 use Rattle.catalogue.specs.Recogniser.{classify}
 use Rattle.catalogue.specs.Answer.{normal-in, normal-told, normal-after, normal-symbol, normal-work-fits, normal-answer}
 use Rattle.demangle.specs.laws.Lengths.{short-answer, within-is, answer-is}
-use Rattle.demangle.specs.Outcome.{Slices, lent, bytes-in}
-use Rattle.demangle.specs.Printed.{Tells}
-use Rattle.demangle.specs.laws.Tells.{tells-bytes, tells-as}
-use Rattle.demangle.specs.laws.Told.{long-fit}
-use Rattle.demangle.specs.declared.entry.Answer.{Answer as Code}
-use Rattle.normalize.specs.laws.Runs.{normal-behind}
+use Rattle.answer.specs.Told.{Slices, lent, bytes-in, Tells}
+use Rattle.answer.specs.laws.Told.{tells-bytes, tells-as, long-fit}
+use Rattle.answer.specs.declared.Answer.{Answer as Code}
+use Rattle.normalize.specs.laws.Fronts.{normal-behind}
 use Rattle.listing.specs.Listing.{answer-of}
 use Rattle.listing.specs.declared.listing.Kind.{Kind}
 use Rattle.listing.specs.declared.listing.Kind.the-variants.{Names, Symbols}

@@ -19,18 +19,16 @@ use Rattle.catalogue.specs.Answer.{normal-in, normal-told, normal-after, normal
 use Rattle.normal_walk.specs.laws.Equal.{walk-is}
 use Rattle.normal_nodes.specs.Nodes.{note-symbol}
 use Rattle.normal_nodes.specs.laws.Equal.{nodes-are-walk}
-use Rattle.store.specs.Stack.{zeros}
-use Rattle.demangle.specs.declared.entry.Answer.{Answer}
-use Rattle.demangle.specs.declared.entry.Answer.the-variants.{Name, Refused}
+use Rattle.answer.specs.declared.Answer.{Answer}
+use Rattle.answer.specs.declared.Answer.the-variants.{Name, Refused}
 use Rattle.demangle.specs.declared.symbol.Front.{Front}
 use Rattle.demangle.specs.declared.symbol.Front.the-variants as front-as
-use Rattle.demangle.specs.Outcome.{Slices, slices, lent, number-in, Long, fit}
+use Rattle.answer.specs.Told.{Slices, slices, lent, number-in, Tells, Long, fit}
+use Rattle.answer.specs.laws.Told.{tells-number, tells-refusal, tells-name, tells-as, long-fit}
 use Rattle.demangle.specs.Symbols.{Fronts}
-use Rattle.demangle.specs.Printed.{Tells, refused-of}
-use Rattle.demangle.specs.laws.Tells.{tells-number, tells-refusal, tells-name, tells-as}
-use Rattle.demangle.specs.laws.Told.{front-tells, told-leaves, long-fit}
+use Rattle.demangle.specs.Printed.{refused-of}
+use Rattle.demangle.specs.laws.Told.{front-tells}
 use Rattle.demangle.specs.laws.Lengths.{answer-is}
-use Rattle.normalize.specs.Outcome.{normalized, Normalizes}
 use Rattle.normalize.specs.Parts.{accepted-answer}
 
 -- ---- a normal symbol, told
@@ -113,10 +111,3 @@ module _ {s : Text} {f : Front} (h : Fronts s f) where
             → Tells (normal-answer (lent l) s) (l .out) out r
         reading-accepts z i =
             tells-as (sym (after-is ∙ ap (within (length (l .out))) (after-accepted s (demangle most-symbol-bytes s) (never-0 most-symbol-bytes s) a z))) i
-
--- ---- an answer that was told, and work slices that are zero
-
-pub told-normalizes : (s : Text) (l m : Slices) {r : Answer} → Tells (normal-answer (lent l) s) (l .out) (m .out) r → m .text ≡ zeros (length (l .text))
-    → m .store ≡ zeros (length (l .store)) → m .ends ≡ zeros (length (l .ends)) → Normalizes s l m r
-unfolding normalized
-told-normalizes s l m h e f g = told-leaves l m h e f g

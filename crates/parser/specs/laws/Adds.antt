@@ -10,9 +10,9 @@ use Rattle.grammar.specs.Reader.{State, Reader}
 use Rattle.grammar.specs.laws.Agree.{moved}
 use Rattle.store.specs.Stack.{Stack}
 use Rattle.store.specs.laws.Tails.{put-tail, chain, whole, weaken}
-use Rattle.parser.specs.declared.state.Parser.{Parser}
-use Rattle.parser.specs.declared.state.Read.{Read}
-use Rattle.parser.specs.States.{raised-to, moved-to}
+use Rattle.grammar.specs.declared.state.Parser.{Parser}
+use Rattle.grammar.specs.declared.state.Read.{Read}
+use Rattle.grammar.specs.States.{raised-to, moved-to}
 use Rattle.parser.specs.Holds.{Memory, mem, window, Holds, Ready, Reads, Refines, Stands, Puts}
 use Rattle.parser.specs.laws.Holds.{by-state, holds-text, holds-moved, sooner}
 use Rattle.parser.specs.Adds.{Adds}

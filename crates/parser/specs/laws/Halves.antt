@@ -18,10 +18,10 @@ use Rattle.store.specs.Table.{Entries}
 use Rattle.store.specs.laws.Lists.{first-back, first-other, second-lent, second-back, second-other}
 use Rattle.store.specs.laws.Tails.{newest-lent, put-tail, whole}
 use Rattle.store.specs.laws.Entries.{entries-as, entries-sized, no-entries, some-entry, no-entry, bytes-append, bytes-one}
-use Rattle.parser.specs.declared.state.Parser.{Parser}
-use Rattle.parser.specs.declared.state.Read.{Read}
-use Rattle.parser.specs.declared.state.Read.the-variants.{Text as read, Refused}
-use Rattle.parser.specs.States.{subs-to, args-to}
+use Rattle.grammar.specs.declared.state.Parser.{Parser}
+use Rattle.grammar.specs.declared.state.Read.{Read}
+use Rattle.grammar.specs.declared.state.Read.the-variants.{Text as read, Refused}
+use Rattle.grammar.specs.States.{subs-to, args-to}
 use Rattle.parser.specs.Holds.{Memory, mem, window, part, Holds, Stands, Refines, refuses, Puts, Pushes, pushed, full, given-of, low-bytes, high-bytes, low-ends, high-ends}
 use Rattle.parser.specs.laws.Holds.{answers, given-refines, holds-puts}
 use Rattle.parser.specs.Halves.{with-subs, with-args, Grows}

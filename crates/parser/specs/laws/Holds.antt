@@ -14,10 +14,10 @@ use Rattle.grammar.specs.Grammar.{qualifier}
 use Rattle.grammar.specs.laws.Agree.{moved}
 use Rattle.store.specs.Stack.{Stack, Tail, Put, Cut}
 use Rattle.store.specs.laws.Tails.{put-tail, weaken}
-use Rattle.parser.specs.declared.state.Parser.{Parser}
-use Rattle.parser.specs.declared.state.Read.{Read}
-use Rattle.parser.specs.declared.state.Read.the-variants.{Text as read, Refused}
-use Rattle.parser.specs.States.{moved-to, raised-to, deeper, at-depth, cv-to, templated-to}
+use Rattle.grammar.specs.declared.state.Parser.{Parser}
+use Rattle.grammar.specs.declared.state.Read.{Read}
+use Rattle.grammar.specs.declared.state.Read.the-variants.{Text as read, Refused}
+use Rattle.grammar.specs.States.{moved-to, raised-to, deeper, at-depth, cv-to, templated-to}
 use Rattle.parser.specs.Holds.{Memory, mem, part, Holds, Wrote, Stands, Refines, reads, refuses, Puts, Cuts, given-of}
 
 -- ---------------------------------------------------------------- states

@@ -18,7 +18,7 @@ use Rattle.grammar.specs.Limits.{most-text-bytes, most-entry-bytes, most-length
 use Rattle.store.specs.Stack.{Tail, Cut, newest}
 use Rattle.store.specs.laws.Tails.{newest-is, top-size, dropped, replaced}
 use Rattle.store.specs.laws.Lists.{drop-take}
-use Rattle.parser.specs.declared.state.Parser.{Parser}
+use Rattle.grammar.specs.declared.state.Parser.{Parser}
 use Rattle.parser.specs.declared.literal.Kind.{Kind}
 use Rattle.parser.specs.declared.literal.Kind.the-variants.{Truth, Suffix, Cast}
 use Rattle.parser.specs.Holds.{mem, part, Stands, Puts, Cuts}

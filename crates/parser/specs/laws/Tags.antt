@@ -11,11 +11,11 @@ use Rattle.grammar.specs.Reader.{State, onto}
 use Rattle.grammar.specs.Grammar.{⟨source-name⟩, reading}
 use Rattle.grammar.specs.laws.Agree.{moved}
 use Rattle.store.specs.Stack.{Stack}
-use Rattle.parser.specs.declared.state.Parser.{Parser}
+use Rattle.grammar.specs.declared.state.Parser.{Parser}
 use Rattle.parser.specs.declared.names.Found.the-variants.{Part, Nothing}
-use Rattle.parser.specs.declared.state.Read.{Read}
-use Rattle.parser.specs.declared.state.Read.the-variants.{Refused}
-use Rattle.parser.specs.States.{moved-to}
+use Rattle.grammar.specs.declared.state.Read.{Read}
+use Rattle.grammar.specs.declared.state.Read.the-variants.{Refused}
+use Rattle.grammar.specs.States.{moved-to}
 use Rattle.parser.specs.Holds.{Memory, mem, part, Reads, refuses, Puts, given-of}
 use Rattle.parser.specs.laws.Holds.{by, holds-moved, given-refines}
 use Rattle.parser.specs.laws.Halves.{part-size}

@@ -23,8 +23,8 @@ use Rattle.store.specs.Stack.{Stack, Tail, Put, Cut, slots-in, newest, below-ne
 use Rattle.store.specs.laws.Lists.{part-of}
 use Rattle.store.specs.laws.Slots.{length-at-slots}
 use Rattle.store.specs.laws.Tails.{size, top-size, newest-is, replaced, weaken}
-use Rattle.parser.specs.declared.state.Parser.{Parser}
-use Rattle.parser.specs.declared.state.Read.{Read}
+use Rattle.grammar.specs.declared.state.Parser.{Parser}
+use Rattle.grammar.specs.declared.state.Read.{Read}
 use Rattle.parser.specs.Holds.{Memory, mem, Holds, Stands, Reads, Puts, Cuts}
 use Rattle.parser.specs.laws.Holds.{by-state, holds-text, holds-puts, tail-puts}
 use Rattle.parser.specs.laws.Halves.{newest-part}

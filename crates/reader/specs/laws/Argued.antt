@@ -14,10 +14,10 @@ use Rattle.grammar.specs.Grammar as g
 use Rattle.parser.specs.Holds.{Memory, mem, Wrote, Pushes, pushed, keep}
 use Rattle.parser.specs.laws.Holds.{with-templated, holds-templated}
 use Rattle.parser.specs.Halves.{with-args}
-use Rattle.parser.specs.States.{subs-to, args-to, templated-to}
-use Rattle.parser.specs.declared.state.Parser.{Parser}
-use Rattle.parser.specs.declared.state.Read.{Read}
-use Rattle.parser.specs.declared.state.Read.the-variants.{Text as read}
+use Rattle.grammar.specs.States.{subs-to, args-to, templated-to}
+use Rattle.grammar.specs.declared.state.Parser.{Parser}
+use Rattle.grammar.specs.declared.state.Read.{Read}
+use Rattle.grammar.specs.declared.state.Read.the-variants.{Text as read}
 use Rattle.reader.specs.declared.lists.Parts.{Parts}
 use Rattle.reader.specs.declared.lists.Prefix.the-variants as prefix-as
 use Rattle.reader.specs.Lists.{Parted, Parting, parted}

@@ -13,11 +13,11 @@ use Rattle.grammar.specs.Reader.{State, refused, Reader, onto, every, need, giv
 use Rattle.grammar.specs.Grammar.{reading, ⟨type⟩}
 use Rattle.grammar.specs.Grammar as g
 use Rattle.grammar.specs.laws.Agree.{moved}
-use Rattle.parser.specs.declared.state.Parser.{Parser}
-use Rattle.parser.specs.declared.state.Peeked.{Peeked}
-use Rattle.parser.specs.declared.state.Peeked.the-variants as peeked-as
-use Rattle.parser.specs.declared.state.Read.{Read}
-use Rattle.parser.specs.States.{peeked}
+use Rattle.grammar.specs.declared.state.Parser.{Parser}
+use Rattle.grammar.specs.declared.state.Peeked.{Peeked}
+use Rattle.grammar.specs.declared.state.Peeked.the-variants as peeked-as
+use Rattle.grammar.specs.declared.state.Read.{Read}
+use Rattle.grammar.specs.States.{peeked}
 use Rattle.parser.specs.Holds.{Memory, mem, part, Holds, Stands, Refines, Puts, given-of}
 use Rattle.parser.specs.laws.Holds.{given-refines}
 use Rattle.parser.specs.laws.Literals.{stands-size, length-part}

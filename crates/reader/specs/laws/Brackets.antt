@@ -19,8 +19,8 @@ use Rattle.store.specs.Stack.{Tail}
 use Rattle.store.specs.laws.Tails.{whole, both, weaken, put-tail, size, top-size}
 use Rattle.parser.specs.Holds.{Memory, mem, Holds, Stands, Puts, keep}
 use Rattle.parser.specs.laws.Holds.{holds-depth, holds-moved}
-use Rattle.parser.specs.States.{moved-to, deeper, at-depth}
-use Rattle.parser.specs.declared.state.Parser.{Parser}
+use Rattle.grammar.specs.States.{moved-to, deeper, at-depth}
+use Rattle.grammar.specs.declared.state.Parser.{Parser}
 use Rattle.reader.specs.laws.Standing.{stands-least}
 use Rattle.reader.specs.laws.Closes.{closed-yes, behind-is, then-ok}
 

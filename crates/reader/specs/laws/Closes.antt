@@ -22,12 +22,12 @@ use Rattle.grammar.specs.laws.NameSteps.{starts-one, arg-L, arg-X, arg-J, arg-t
 use Rattle.parser.specs.Holds.{Memory, Holds, Stands, Refines, refuses}
 use Rattle.parser.specs.laws.Holds.{by-state, holds-entered, holds-moved}
 use Rattle.parser.specs.Leaves.{left-at, Skips, Skipped-inside}
-use Rattle.parser.specs.States.{moved-to, deeper}
+use Rattle.grammar.specs.States.{moved-to, deeper}
 use Rattle.parser.specs.declared.leaf.Skipped.{Skipped}
 use Rattle.parser.specs.declared.leaf.Skipped.the-variants as skipped-as
-use Rattle.parser.specs.declared.state.Parser.{Parser}
-use Rattle.parser.specs.declared.state.Read.{Read}
-use Rattle.parser.specs.declared.state.Read.the-variants.{Refused}
+use Rattle.grammar.specs.declared.state.Parser.{Parser}
+use Rattle.grammar.specs.declared.state.Read.{Read}
+use Rattle.grammar.specs.declared.state.Read.the-variants.{Refused}
 use Rattle.reader.specs.declared.lists.Kind.the-variants.{Types, Arguments}
 use Rattle.reader.specs.declared.lists.Texts.{Texts}
 use Rattle.reader.specs.declared.lists.Texts.the-variants as items-as

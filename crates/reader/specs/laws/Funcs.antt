@@ -18,8 +18,8 @@ use Rattle.store.specs.laws.Tails.{size, dropped}
 use Rattle.parser.specs.Holds.{Memory, mem, window, Wrote, Stands, Refines, Puts, Cuts, keep}
 use Rattle.parser.specs.laws.Holds.{stands}
 use Rattle.parser.specs.laws.Wraps.{holds-cuts, end-text}
-use Rattle.parser.specs.declared.state.Parser.{Parser}
-use Rattle.parser.specs.declared.state.Read.{Read}
+use Rattle.grammar.specs.declared.state.Parser.{Parser}
+use Rattle.grammar.specs.declared.state.Read.{Read}
 use Rattle.reader.specs.declared.lists.Kind.the-variants.{Types}
 use Rattle.reader.specs.laws.Standing.{stands-behind}
 use Rattle.reader.specs.laws.Items.{looped}

@@ -8,8 +8,8 @@ use lib.ListN.{take}
 use Rattle.grammar.specs.Text.{Text}
 use Rattle.grammar.specs.Reader.{State, onto, set-args, set-templated, recorded}
 use Rattle.grammar.specs.Grammar.{reading, ⟨template-args⟩, name-args, name-instance, type-instance, std-ahead}
-use Rattle.parser.specs.declared.state.Parser.{Parser}
-use Rattle.parser.specs.States.{args-to, templated-to}
+use Rattle.grammar.specs.declared.state.Parser.{Parser}
+use Rattle.grammar.specs.States.{args-to, templated-to}
 use Rattle.parser.specs.Holds.{Memory, Holds, Stands}
 use Rattle.parser.specs.laws.Holds.{by-state, holds-templated}
 use Rattle.reader.specs.Instances.{instance-of, at-S-of, bare, marked, Passes}

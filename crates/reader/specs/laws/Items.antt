@@ -16,11 +16,11 @@ use Rattle.grammar.specs.laws.Loops.{Stepped, items-loop, args-loop}
 use Rattle.store.specs.Stack.{Stack}
 use Rattle.parser.specs.Holds.{Memory, mem, Holds, Wrote, Stands, Reads, Refines, reads, refuses, Puts, Pushes, pushed, full, window, keep}
 use Rattle.parser.specs.laws.Holds.{by, holds-puts, refused-on, Got, got}
-use Rattle.parser.specs.States.{peeked, args-to}
-use Rattle.parser.specs.declared.state.Parser.{Parser}
-use Rattle.parser.specs.declared.state.Peeked.the-variants as peeked-as
-use Rattle.parser.specs.declared.state.Read.{Read}
-use Rattle.parser.specs.declared.state.Read.the-variants.{Text as read, Refused}
+use Rattle.grammar.specs.States.{peeked, args-to}
+use Rattle.grammar.specs.declared.state.Parser.{Parser}
+use Rattle.grammar.specs.declared.state.Peeked.the-variants as peeked-as
+use Rattle.grammar.specs.declared.state.Read.{Read}
+use Rattle.grammar.specs.declared.state.Read.the-variants.{Text as read, Refused}
 use Rattle.reader.specs.declared.lists.Kind.{Kind}
 use Rattle.reader.specs.declared.lists.Kind.the-variants.{Parameters, Types, Arguments}
 use Rattle.reader.specs.declared.lists.Texts.{Texts}

@@ -21,10 +21,10 @@ use Rattle.store.specs.Stack.{Stack}
 use Rattle.store.specs.laws.Tails.{size}
 use Rattle.parser.specs.Holds.{Memory, mem, Holds, Wrote, Refines, refuses, Puts, Pushes, pushed, full, keep}
 use Rattle.parser.specs.laws.Wraps.{puts-top}
-use Rattle.parser.specs.States.{subs-to}
-use Rattle.parser.specs.declared.state.Parser.{Parser}
-use Rattle.parser.specs.declared.state.Read.{Read}
-use Rattle.parser.specs.declared.state.Read.the-variants.{Text as read, Refused}
+use Rattle.grammar.specs.States.{subs-to}
+use Rattle.grammar.specs.declared.state.Parser.{Parser}
+use Rattle.grammar.specs.declared.state.Read.{Read}
+use Rattle.grammar.specs.declared.state.Read.the-variants.{Text as read, Refused}
 use Rattle.reader.specs.declared.lists.Parts.{Parts}
 use Rattle.reader.specs.declared.lists.Prefix.{Prefix}
 use Rattle.reader.specs.declared.lists.Prefix.the-variants as prefix-as

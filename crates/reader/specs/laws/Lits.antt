@@ -15,10 +15,10 @@ use Rattle.grammar.specs.Grammar.{reading, production, expr-primary, literal, l
 use Rattle.grammar.specs.laws.Agree.{moved}
 use Rattle.grammar.specs.laws.Fuel.{reading-is}
 use Rattle.store.specs.Stack.{Stack}
-use Rattle.parser.specs.declared.state.Parser.{Parser}
-use Rattle.parser.specs.declared.state.Read.{Read}
-use Rattle.parser.specs.declared.state.Read.the-variants.{Text as read, Refused}
-use Rattle.parser.specs.States.{moved-to}
+use Rattle.grammar.specs.declared.state.Parser.{Parser}
+use Rattle.grammar.specs.declared.state.Read.{Read}
+use Rattle.grammar.specs.declared.state.Read.the-variants.{Text as read, Refused}
+use Rattle.grammar.specs.States.{moved-to}
 use Rattle.parser.specs.Holds.{Memory, mem, window, part, Holds, Stands, Refines, refuses, Reads, Puts, keep, given-of}
 use Rattle.parser.specs.laws.Holds.{by, by-state, answers, Got, got, refused-on, less, sooner, given-refines, holds-moved, holds-puts, stands}
 use Rattle.parser.specs.laws.Adds.{puts-from}

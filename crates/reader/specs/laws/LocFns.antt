@@ -11,10 +11,10 @@ use Rattle.grammar.specs.Reader.{State, Result, ok, Reader, onto, give, see, ne
 use Rattle.grammar.specs.Grammar.{reading, local-encoding, ⟨name⟩, ⟨type⟩}
 use Rattle.grammar.specs.laws.Agree.{moved}
 use Rattle.grammar.specs.Loops.{before-E}
-use Rattle.parser.specs.declared.state.Parser.{Parser}
-use Rattle.parser.specs.declared.state.Read.{Read}
-use Rattle.parser.specs.declared.state.Read.the-variants.{Text as read, Refused}
-use Rattle.parser.specs.States.{moved-to}
+use Rattle.grammar.specs.declared.state.Parser.{Parser}
+use Rattle.grammar.specs.declared.state.Read.{Read}
+use Rattle.grammar.specs.declared.state.Read.the-variants.{Text as read, Refused}
+use Rattle.grammar.specs.States.{moved-to}
 use Rattle.parser.specs.Holds.{Memory, mem, window, Holds, Stands, Refines, refuses, Reads, Puts, keep, given-of}
 use Rattle.parser.specs.laws.Holds.{by, answers, Got, got, refused-on, less, sooner, given-refines, holds-puts, stands, short-enough}
 use Rattle.parser.specs.laws.Adds.{puts-from}

@@ -22,11 +22,11 @@ use Rattle.parser.specs.laws.Halves.{give-long}
 use Rattle.parser.specs.laws.Holds.{by, with-cv, with-templated, holds-moved, holds-cv, holds-templated, given-refines, sooner}
 use Rattle.parser.specs.Leaves.{qualifies}
 use Rattle.grammar.specs.laws.Runs.{every-at, need-here, need-not}
-use Rattle.parser.specs.States.{peeked, moved-to, cv-to, templated-to}
-use Rattle.parser.specs.declared.state.Parser.{Parser}
-use Rattle.parser.specs.declared.state.Peeked.the-variants as peeked-as
-use Rattle.parser.specs.declared.state.Read.{Read}
-use Rattle.parser.specs.declared.state.Read.the-variants.{Refused}
+use Rattle.grammar.specs.States.{peeked, moved-to, cv-to, templated-to}
+use Rattle.grammar.specs.declared.state.Parser.{Parser}
+use Rattle.grammar.specs.declared.state.Peeked.the-variants as peeked-as
+use Rattle.grammar.specs.declared.state.Read.{Read}
+use Rattle.grammar.specs.declared.state.Read.the-variants.{Refused}
 use Rattle.reader.specs.declared.lists.Kind.the-variants.{Types}
 use Rattle.reader.specs.declared.lists.Parts.{Parts}
 use Rattle.reader.specs.declared.lists.Prefix.{Prefix}

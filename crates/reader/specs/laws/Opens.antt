@@ -16,10 +16,10 @@ use Rattle.grammar.specs.laws.Fuel.{reading-is}
 use Rattle.grammar.specs.laws.Steps.{entered-in, entered-8}
 use Rattle.grammar.specs.laws.Agree.{moved}
 use Rattle.store.specs.laws.Tails.{newest-is, top-size}
-use Rattle.parser.specs.declared.state.Parser.{Parser}
-use Rattle.parser.specs.declared.state.Read.{Read}
-use Rattle.parser.specs.declared.state.Read.the-variants.{Text as read, Refused}
-use Rattle.parser.specs.States.{moved-to, deeper, at-depth}
+use Rattle.grammar.specs.declared.state.Parser.{Parser}
+use Rattle.grammar.specs.declared.state.Read.{Read}
+use Rattle.grammar.specs.declared.state.Read.the-variants.{Text as read, Refused}
+use Rattle.grammar.specs.States.{moved-to, deeper, at-depth}
 use Rattle.parser.specs.Holds.{Memory, window, Holds, Ready, Wrote, Refines, refuses, Reads, keep}
 use Rattle.reader.specs.laws.Standing.{wrote-kept}
 use Rattle.parser.specs.laws.Holds.{at-level, by-state, holds-moved, holds-entered, holds-depth, by, answers, Got, got, refused-on}

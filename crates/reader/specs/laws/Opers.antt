@@ -23,12 +23,12 @@ use Rattle.grammar.specs.Words.{Picks, spelled}
 use Rattle.grammar.specs.declared.codes.Word.{Word}
 use Rattle.grammar.specs.declared.codes.Picked.{Picked}
 use Rattle.grammar.specs.declared.codes.Picked.the-variants.{At, Nothing}
-use Rattle.parser.specs.declared.state.Parser.{Parser}
-use Rattle.parser.specs.declared.state.Read.{Read}
-use Rattle.parser.specs.declared.state.Read.the-variants.{Text as read, Refused}
-use Rattle.parser.specs.declared.state.Peeked.{Peeked}
-use Rattle.parser.specs.declared.state.Peeked.the-variants as peeked-as
-use Rattle.parser.specs.States.{moved-to, templated-to, peeked}
+use Rattle.grammar.specs.declared.state.Parser.{Parser}
+use Rattle.grammar.specs.declared.state.Read.{Read}
+use Rattle.grammar.specs.declared.state.Read.the-variants.{Text as read, Refused}
+use Rattle.grammar.specs.declared.state.Peeked.{Peeked}
+use Rattle.grammar.specs.declared.state.Peeked.the-variants as peeked-as
+use Rattle.grammar.specs.States.{moved-to, templated-to, peeked}
 use Rattle.parser.specs.Holds.{Memory, mem, window, Holds, Refines, refuses, Reads, Puts, keep, given-of}
 use Rattle.parser.specs.laws.Holds.{by, by-state, got, refused-on, less, sooner, holds-moved}
 use Rattle.parser.specs.laws.Adds.{puts-from, reads-moved}

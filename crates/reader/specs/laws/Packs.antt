@@ -24,11 +24,11 @@ use Rattle.store.specs.laws.Tails.{whole, both}
 use Rattle.parser.specs.Holds.{Memory, mem, Holds, Reads, Refines, reads, refuses, Puts, window, keep, given-of}
 use Rattle.parser.specs.laws.Halves.{give-short, give-long}
 use Rattle.parser.specs.laws.Holds.{by, holds-moved, holds-puts, tail-puts, got}
-use Rattle.parser.specs.States.{peeked, moved-to}
-use Rattle.parser.specs.declared.state.Parser.{Parser}
-use Rattle.parser.specs.declared.state.Peeked.the-variants as peeked-as
-use Rattle.parser.specs.declared.state.Read.{Read}
-use Rattle.parser.specs.declared.state.Read.the-variants.{Text as read, Refused}
+use Rattle.grammar.specs.States.{peeked, moved-to}
+use Rattle.grammar.specs.declared.state.Parser.{Parser}
+use Rattle.grammar.specs.declared.state.Peeked.the-variants as peeked-as
+use Rattle.grammar.specs.declared.state.Read.{Read}
+use Rattle.grammar.specs.declared.state.Read.the-variants.{Text as read, Refused}
 use Rattle.reader.specs.declared.lists.Kind.the-variants.{Types}
 use Rattle.reader.specs.laws.Separators.{join-more, before-same}
 use Rattle.reader.specs.laws.Standing.{same-sizes}

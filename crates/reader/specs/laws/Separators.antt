@@ -7,7 +7,7 @@ use lib.ListN.{length}
 use Rattle.grammar.specs.Text.{Text, join}
 use Rattle.store.specs.Stack.{Stack}
 use Rattle.parser.specs.Holds.{Puts}
-use Rattle.parser.specs.declared.state.Parser.{Parser}
+use Rattle.grammar.specs.declared.state.Parser.{Parser}
 use Rattle.reader.specs.Separators.{before}
 
 pub puts-nothing : {text : Text} {p : Parser} → Stack text (p .top) → Puts text text p p []

@@ -17,9 +17,9 @@ use Rattle.parser.specs.laws.Holds.{by-state, with-templated, holds-moved, hold
 use Rattle.parser.specs.laws.Adds.{puts-from}
 use Rattle.parser.specs.laws.Wraps.{stands-puts}
 use Rattle.parser.specs.laws.Halves.{store-size, ends-size}
-use Rattle.parser.specs.States.{moved-to, templated-to}
-use Rattle.parser.specs.declared.state.Parser.{Parser}
-use Rattle.parser.specs.declared.state.Read.{Read}
+use Rattle.grammar.specs.States.{moved-to, templated-to}
+use Rattle.grammar.specs.declared.state.Parser.{Parser}
+use Rattle.grammar.specs.declared.state.Read.{Read}
 use Rattle.reader.specs.declared.lists.Parts.{Parts}
 use Rattle.reader.specs.Lists.{Parted}
 

@@ -18,10 +18,10 @@ use Rattle.grammar.specs.laws.Places.{starts-byte}
 use Rattle.store.specs.Stack.{Stack, Tail, newest}
 use Rattle.store.specs.laws.Lists as lists
 use Rattle.store.specs.laws.Tails.{newest-is, top-size}
-use Rattle.parser.specs.declared.state.Parser.{Parser}
+use Rattle.grammar.specs.declared.state.Parser.{Parser}
 use Rattle.parser.specs.declared.leaf.Class.{Class}
 use Rattle.parser.specs.Holds.{Memory, mem, Holds, Stands, Puts, keep}
-use Rattle.parser.specs.States.{moved-to}
+use Rattle.grammar.specs.States.{moved-to}
 use Rattle.parser.specs.laws.Holds.{holds-moved}
 use Rattle.parser.specs.Leaves.{Classed, class-in}
 use Rattle.parser.specs.laws.Leaves.{class-of-is}

@@ -5,7 +5,7 @@ use Prim.Native.Nat.{_+_, _≤_}
 use native.Mathlib.Omega.{arith}
 use borrow.Author.Needs.{needs}
 use lib.ListN.{length}
-use Rattle.demangle.specs.Outcome.{Slices, slices}
+use Rattle.answer.specs.Told.{Slices, slices}
 use Rattle.console.specs.laws.Buffer.{listed-inside, long-sized, fed-as, fed-listed, listed-more}
 use Rattle.console.proofs.output.write_some.Statement.{statement}
 use Rattle.console.proofs.output.write_some.Tie as tie

@@ -6,7 +6,7 @@ use native.Mathlib.Omega.{arith}
 use borrow.Author.Needs.{needs}
 use lib.ListN.{length}
 use Rattle.grammar.specs.Text.{Text}
-use Rattle.demangle.specs.Outcome.{slices}
+use Rattle.answer.specs.Told.{slices}
 use Rattle.console.specs.Output.{header}
 use Rattle.console.specs.Buffer.{Fed}
 use Rattle.console.specs.laws.Buffer.{long-as, fed-none, ends}

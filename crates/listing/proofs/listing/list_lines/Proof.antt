@@ -2,7 +2,7 @@
 use mathlib.Core.Path.{ap, _∙_}
 use borrow.Author.Needs.{needs}
 use Rattle.store.specs.Stack.{zeros}
-use Rattle.demangle.specs.Outcome.{slices}
+use Rattle.answer.specs.Told.{slices}
 use Rattle.listing.specs.laws.Entry.{goes-lists}
 use Rattle.listing.proofs.listing.list_lines.Statement.{statement}
 use Rattle.listing.proofs.listing.list_lines.Tie as tie

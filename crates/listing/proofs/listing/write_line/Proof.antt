@@ -21,17 +21,17 @@ print-line-requires : tie.Need-print-line-requires
 print-line-requires c κs =
     let a = c .before .before .before .before .before .before .before .before .before .before .before .before .answer in
     let e = short-told _ _ (a .ensures) in
-    let k = length-take-le (c .before .before .bytes-in .result) (a .last .1 .1 .0) (omega (arith, e)) in
+    let k = length-take-le (c .before .before .bytes .result) (a .last .1 .1 .0) (omega (arith, e)) in
     search needs
 
 returns : tie.Need-returns
 unfolding listing-line
 returns c =
     let a = c .before .before .before .before .before .before .before .before .before .before .before .before .before .before .before .before .before .before .before .before .before .before .before .before .before .before .args in
-    let n = c .before .before .before .before .before .before .number-in in
-    let b = c .before .before .before .before .before .bytes-in in
+    let n = c .before .before .before .before .before .before .number in
+    let b = c .before .before .before .before .before .bytes in
     let p = c .before .before .print-line in
-    subst (λ (t : Text). Printed t (a .at) (a .out .now) (p .last .0) (p .result)) (line-is (n .result) (b .result) (c .before .before .before .before .before .before .before .before .before .before .before .before .before .before .before .answer .ensures) (n .ensures .0) (b .ensures)) (p .ensures)
+    subst (λ (t : Text). Printed t (a .at) (a .out .now) (p .last .0) (p .result)) (line-is (n .result) (b .result) (c .before .before .before .before .before .before .before .before .before .before .before .before .before .before .before .answer .ensures) (n .ensures) (b .ensures)) (p .ensures)
 
 pub write-line-spec : {M : Type 1} → statement M
 write-line-spec =
@@ -39,6 +39,7 @@ write-line-spec =
     (tie.spec
     (λ c κs. search needs)
     (λ c κs. search needs)
+    (λ c. search needs)
     (λ c κs. search needs)
     slice-reshare-prefix-print-line
     slice-aggregate-print-line

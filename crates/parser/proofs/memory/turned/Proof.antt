@@ -8,7 +8,7 @@ use lib.Seq.{length-take-le}
 use Rattle.grammar.specs.Text.{Text, b}
 use Rattle.grammar.specs.Limits.{most-text-bytes}
 use Rattle.store.specs.Stack.{Stack}
-use Rattle.parser.specs.declared.state.Parser.{Parser}
+use Rattle.grammar.specs.declared.state.Parser.{Parser}
 use Rattle.parser.specs.Holds.{Puts}
 use Rattle.parser.specs.laws.Holds.{holds-puts}
 use Rattle.parser.specs.laws.Wraps.{holds-cuts, puts-top, stands-turned}

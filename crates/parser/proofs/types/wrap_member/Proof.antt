@@ -13,7 +13,7 @@ use Rattle.grammar.specs.Reader.{State, recorded}
 use Rattle.grammar.specs.Grammar.{at-slots}
 use Rattle.store.specs.Stack.{Stack, slots-in, lent, newest, below-newest}
 use Rattle.store.specs.laws.Lists.{drop-take}
-use Rattle.parser.specs.declared.state.Parser.{Parser}
+use Rattle.grammar.specs.declared.state.Parser.{Parser}
 use Rattle.parser.specs.Holds.{Memory, Stands, Puts}
 use Rattle.parser.specs.laws.Holds.{by, puts-by, holds-puts}
 use Rattle.parser.specs.laws.Wraps.{holds-cuts, puts-top, newest-size, below-text, end-text, woven-size, stands-replaced, behind, inside}

@@ -1,7 +1,7 @@
 -- The answers of `arg`. Assumes nothing.
 use mathlib.Core.Path.{refl, sym, ap, _∙_}
 use Prim.Native.Nat.{ℕ}
-use Rattle.parser.specs.declared.state.Parser.{Parser}
+use Rattle.grammar.specs.declared.state.Parser.{Parser}
 use Rattle.parser.specs.Holds.{refuses, keep}
 use Rattle.parser.specs.laws.Holds.{by, less, sooner, holds-moved}
 use Rattle.parser.specs.laws.Adds.{ready-moved, puts-from, stack-by}

@@ -4,7 +4,7 @@ use mathlib.Core.Bool.{true}
 use mathlib.Core.Path.{_≡_, sym, ap, _∙_}
 use Prim.Native.Nat.{ℕ, _+_, _<_, min}
 use borrow.Author.Tests.{not-true, not-false}
-use Rattle.parser.specs.declared.state.Parser.{Parser}
+use Rattle.grammar.specs.declared.state.Parser.{Parser}
 use Rattle.parser.specs.Holds.{Memory, mem, keep, Holds, Stands, refuses}
 use Rattle.parser.specs.laws.Holds.{by, holds-puts}
 use Rattle.parser.specs.laws.Adds.{stack-by}

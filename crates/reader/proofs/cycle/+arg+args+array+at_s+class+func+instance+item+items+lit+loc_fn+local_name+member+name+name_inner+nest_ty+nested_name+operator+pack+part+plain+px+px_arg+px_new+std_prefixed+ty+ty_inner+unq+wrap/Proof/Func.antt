@@ -6,7 +6,7 @@ use borrow.Author.Needs.{needs}
 use borrow.Author.Tests.{not-true, not-false}
 use native.Mathlib.Omega.{arith}
 use Rattle.grammar.specs.Reader.{recorded}
-use Rattle.parser.specs.declared.state.Parser.{Parser}
+use Rattle.grammar.specs.declared.state.Parser.{Parser}
 use Rattle.parser.specs.Holds.{refuses}
 use Rattle.parser.specs.laws.Holds.{by, got, refused-on, holds-puts}
 use Rattle.grammar.specs.laws.Places.{starts-inside}

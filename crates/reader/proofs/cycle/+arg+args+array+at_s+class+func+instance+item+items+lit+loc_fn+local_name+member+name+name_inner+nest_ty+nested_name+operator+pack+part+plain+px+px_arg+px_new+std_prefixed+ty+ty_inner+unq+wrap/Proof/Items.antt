@@ -3,7 +3,7 @@ use mathlib.Core.Logic.{⊎-elim}
 use mathlib.Core.Path.{sym, ap, _∙_}
 use Prim.Native.Nat.{ℕ, _-_}
 use lib.ListN.{length}
-use Rattle.parser.specs.declared.state.Parser.{Parser}
+use Rattle.grammar.specs.declared.state.Parser.{Parser}
 use Rattle.parser.specs.Holds.{mem}
 use Rattle.parser.specs.laws.Holds.{holds-puts, got}
 use Rattle.reader.specs.laws.Items.{Listing, listing-start, listing-more, listed-ends, listed-refuses, at-end, at-byte, Spaced, spaced-some, spaced-none}

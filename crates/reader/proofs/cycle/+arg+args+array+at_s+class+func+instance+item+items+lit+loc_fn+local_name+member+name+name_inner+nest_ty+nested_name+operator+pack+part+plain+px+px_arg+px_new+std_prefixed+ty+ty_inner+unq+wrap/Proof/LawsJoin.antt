@@ -7,10 +7,10 @@ use lib.ListN.{length, take}
 use Rattle.grammar.specs.Text.{Text}
 use Rattle.grammar.specs.Limits.{most-entry-bytes, kept-bytes}
 use Rattle.grammar.specs.Reader.{State, Result, ok, Reader, onto}
-use Rattle.parser.specs.declared.state.Parser.{Parser}
-use Rattle.parser.specs.declared.state.Read.{Read}
-use Rattle.parser.specs.declared.state.Read.the-variants.{Text as read, Refused}
-use Rattle.parser.specs.States.{subs-to, args-to}
+use Rattle.grammar.specs.declared.state.Parser.{Parser}
+use Rattle.grammar.specs.declared.state.Read.{Read}
+use Rattle.grammar.specs.declared.state.Read.the-variants.{Text as read, Refused}
+use Rattle.grammar.specs.States.{subs-to, args-to}
 use Rattle.parser.specs.Holds.{Memory, mem, Holds, Wrote, Stands, Refines, refuses, Pushes, pushed, full, keep}
 use Rattle.parser.specs.laws.Holds.{sooner, less, stands}
 use Rattle.parser.specs.Halves.{with-args}

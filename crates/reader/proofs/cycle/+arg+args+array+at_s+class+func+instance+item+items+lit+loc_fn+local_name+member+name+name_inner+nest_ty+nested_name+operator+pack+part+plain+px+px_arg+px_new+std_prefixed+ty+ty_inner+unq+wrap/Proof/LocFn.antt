@@ -3,7 +3,7 @@
 use mathlib.Core.Path.{sym, ap, _∙_}
 use borrow.Author.Tests.{not-true, not-false}
 use Rattle.grammar.specs.Text.{b}
-use Rattle.parser.specs.declared.state.Parser.{Parser}
+use Rattle.grammar.specs.declared.state.Parser.{Parser}
 use Rattle.parser.specs.laws.Adds.{stack-by}
 use Rattle.grammar.specs.laws.Places.{starts-inside}
 use Rattle.reader.specs.laws.LocFns.{fn-refused, fn-got, fn-bare, fn-items-ready, fn-items-refused, fn-listing, fn-long, fn-open, fn-given}

@@ -10,9 +10,9 @@ use Rattle.grammar.specs.Reader.{State, onto}
 use Rattle.grammar.specs.Grammar.{reading, ⟨nested-name⟩}
 use Rattle.grammar.specs.laws.Agree.{moved}
 use Rattle.grammar.specs.laws.Loops.{closed}
-use Rattle.parser.specs.declared.state.Parser.{Parser}
+use Rattle.grammar.specs.declared.state.Parser.{Parser}
 use Rattle.parser.specs.Holds.{mem, part, Holds, refuses, given-of}
-use Rattle.parser.specs.States.{cv-to, templated-to}
+use Rattle.grammar.specs.States.{cv-to, templated-to}
 use Rattle.grammar.specs.laws.Places.{starts-inside}
 use Rattle.parser.specs.laws.Holds.{by-state, holds-moved, by}
 use Rattle.reader.specs.laws.Nested.{no-parts, prefixes, named, nested-4, nested-open, from-start, Prefixing, prefixing-start, prefixing-more}

@@ -3,11 +3,11 @@ use mathlib.Core.Path.{_≡_, refl, sym, ap, _∙_}
 use Prim.Native.Nat.{ℕ, _+_, _-_, min}
 use lib.ListN.{length, drop, getD, length-set}
 use Rattle.grammar.specs.Limits.{most-length}
-use Rattle.parser.specs.declared.state.Parser.{Parser}
-use Rattle.parser.specs.declared.state.Peeked.the-variants as peeked-as
+use Rattle.grammar.specs.declared.state.Parser.{Parser}
+use Rattle.grammar.specs.declared.state.Peeked.the-variants as peeked-as
 use Rattle.parser.specs.Holds.{mem, refuses}
 use Rattle.parser.specs.laws.Holds.{by, holds-puts}
-use Rattle.parser.specs.States.{peeked}
+use Rattle.grammar.specs.States.{peeked}
 use Rattle.reader.specs.laws.Packs.{Packing, packing, packing-start, packed-4, packed-opens, packed-closes, packed-more, packed-refuses, packed-ends}
 use Rattle.reader.specs.laws.Packs.{inside, inner-E, opens-J, outer-small, text-short, text-further}
 use borrow.Author.Needs.{needs}

@@ -7,7 +7,7 @@ use native.Mathlib.Omega.{arith}
 use Rattle.grammar.specs.Text.{Text}
 use Rattle.grammar.specs.Grammar.{structor-ahead}
 use Rattle.parser.specs.laws.Holds.{holds-puts, got}
-use Rattle.parser.specs.declared.state.Parser.{Parser}
+use Rattle.grammar.specs.declared.state.Parser.{Parser}
 use Rattle.reader.specs.Lists.{parted}
 use Rattle.reader.specs.laws.Closes.{then-ok}
 use Rattle.reader.specs.laws.Joined.{parted-more, parted-as, parts-by, unread-on, old-is, prefix-structor, prefix-S, prefix-I, prefix-new, two-bytes}

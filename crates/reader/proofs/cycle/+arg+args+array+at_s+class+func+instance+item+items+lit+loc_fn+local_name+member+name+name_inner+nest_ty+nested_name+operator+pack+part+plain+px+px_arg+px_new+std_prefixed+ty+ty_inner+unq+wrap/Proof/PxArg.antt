@@ -7,7 +7,7 @@ use native.Mathlib.Omega.{arith}
 use lib.ListN.{length}
 use Rattle.parser.specs.laws.Holds.{got}
 use Rattle.parser.specs.Halves.{with-args}
-use Rattle.parser.specs.declared.state.Parser.{Parser}
+use Rattle.grammar.specs.declared.state.Parser.{Parser}
 use Rattle.reader.specs.Lists.{unparted}
 use Rattle.reader.specs.laws.Closes.{then-ok}
 use Rattle.reader.specs.laws.Joined.{parts-by, pushes-alike, unread-on, unpushed-on}

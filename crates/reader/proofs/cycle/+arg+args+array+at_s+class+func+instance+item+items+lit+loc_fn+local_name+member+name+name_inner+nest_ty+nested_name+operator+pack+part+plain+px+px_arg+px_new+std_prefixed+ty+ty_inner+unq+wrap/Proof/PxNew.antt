@@ -5,7 +5,7 @@ use borrow.Author.Needs.{needs}
 use native.Mathlib.Omega.{arith}
 use Rattle.grammar.specs.Text.{b}
 use Rattle.parser.specs.laws.Holds.{holds-puts, got}
-use Rattle.parser.specs.declared.state.Parser.{Parser}
+use Rattle.grammar.specs.declared.state.Parser.{Parser}
 use Rattle.reader.specs.declared.lists.Parts.{Parts}
 use Rattle.reader.specs.Lists.{parted}
 use Rattle.reader.specs.laws.Closes.{ahead-is, then-ok}

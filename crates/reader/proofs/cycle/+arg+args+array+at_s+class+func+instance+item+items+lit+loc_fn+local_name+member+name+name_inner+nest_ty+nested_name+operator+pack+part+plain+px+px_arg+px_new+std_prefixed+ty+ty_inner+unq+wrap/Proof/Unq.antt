@@ -3,7 +3,7 @@
 use mathlib.Core.Path.{refl, ap}
 use Rattle.grammar.specs.Text.{b}
 use Rattle.grammar.specs.laws.NameSteps.{unqualified-C, unqualified-D, unqualified-C-4, unqualified-D-4}
-use Rattle.parser.specs.declared.state.Parser.{Parser}
+use Rattle.grammar.specs.declared.state.Parser.{Parser}
 use Rattle.parser.specs.laws.Adds.{stack-by}
 use Rattle.reader.specs.laws.Heads.{either, digit-not, digit-in}
 use Rattle.reader.specs.laws.Opers.{unq-ready, unq-end, unq-short, unq-structor, unq-U, unq-digit, unq-operator}

@@ -1,0 +1,2 @@
+-- Laws: propositions between definitions and code, and their proofs. Nothing here has to be believed.
+pub mod Told

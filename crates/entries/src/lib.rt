@@ -1,0 +1,3 @@
+// The entries, which leave all work slices zero.
+pub mod names;
+pub mod symbols;

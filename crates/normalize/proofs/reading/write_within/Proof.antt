@@ -1,0 +1,36 @@
+-- `normalize::reading::write_within` meets its contract: what is cut from the work slices has its length. Assumes nothing.
+use mathlib.Core.Path.{sym}
+use lib.Seq.{length-take-le}
+use borrow.Author.Needs.{needs}
+use Rattle.catalogue.specs.Answer.{least-normal-ends}
+use Rattle.normal_steps.specs.Limits.{out-length}
+use Rattle.normalize.proofs.reading.write_within.Statement.{statement}
+use Rattle.normalize.proofs.reading.write_within.Tie as tie
+
+slice-aggregate-write : tie.Need-slice-aggregate-write
+slice-aggregate-write c = let a = c .before .before .before .before .before .before in sym (length-take-le out-length (a .args .store .now) (a .pre .1 .0))
+
+slice-aggregate-write-2 : tie.Need-slice-aggregate-write-2
+slice-aggregate-write-2 c = let a = c .before .before .before .before .before .before .before in sym (length-take-le least-normal-ends (a .args .ends .now) (a .pre .1 .1))
+
+write-requires : tie.Need-write-requires
+write-requires c κs =
+    let a = c .before .before .before .before .before .before .before in
+    (a .pre .0, (length-take-le out-length (a .args .store .now) (a .pre .1 .0), length-take-le least-normal-ends (a .args .ends .now) (a .pre .1 .1)))
+
+returns : tie.Need-returns
+returns c = c .before .before .before .before .before .before .write .ensures
+
+pub write-within-spec : {M : Type 1} → statement M
+write-within-spec =
+    tie.close
+    (tie.spec
+    (λ c. search needs)
+    slice-aggregate-write
+    (λ c. search needs)
+    slice-aggregate-write-2
+    write-requires
+    (λ c. search needs)
+    (λ c. search needs)
+    (λ c. search needs)
+    returns)
