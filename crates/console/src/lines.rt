@@ -2,7 +2,6 @@
 use grammar::state::Parser;
 use grammar::text;
 use listing::feeds::line_end;
-use parser::state::Parser;
 ghost use Prim.Native.Nat.{_+_, _≤_};
 ghost use lib.ListN.{length};
 ghost use Rattle.listing.specs.Cut.{most-kept};

@@ -1,5 +1,6 @@
 // A stack of texts in 51,200 bytes: the first `top` bytes, the newest last; those behind them may be anything. Where a text
 // does not fit, the oldest bytes leave and the newest 34,816 stay.
+use grammar::state::Parser;
 use grammar::text as bytes;
 ghost use mathlib.Core.Bool.{true};
 ghost use mathlib.Core.Path.{_≡_};
@@ -13,11 +14,11 @@ ghost use Rattle.grammar.specs.Limits.{most-text-bytes, kept-bytes, stack-bytes
 ghost use Rattle.grammar.specs.Grammar.{at-slots};
 ghost use Rattle.store.specs.Stack.{zeros, Stack, Put, Cut, Room, Grown, slots-in, at-slot, newest, below-newest};
 
-// The length of the stack.
-pub const LENGTH: usize = 51200;
+// How many of its newest bytes a full stack keeps: those of an entry, and what readings may drop above it.
+const KEPT: usize = Parser::BYTES + 2048;
 
-// How many of its newest bytes a full stack keeps.
-const KEPT: usize = 34816;
+// The length of the stack.
+pub const LENGTH: usize = KEPT + Parser::TEXT;
 
 // The n bytes from `from` on are copied to `to`, which is not above them or lies behind them.
 fn shift(text: &mut [u8], from: usize, to: usize, n: usize)

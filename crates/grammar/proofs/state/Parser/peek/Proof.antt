@@ -1,4 +1,4 @@
--- `parser::state::Parser::peek` tells the byte at the state's place, or that there is none. Assumes nothing.
+-- `grammar::state::Parser::peek` tells the byte at the state's place, or that there is none. Assumes nothing.
 use borrow.Author.Needs.{needs}
 use Rattle.grammar.specs.laws.Places.{rest-some, rest-none}
 use Rattle.grammar.proofs.state.Parser.peek.Statement.{statement}
