@@ -1,12 +1,12 @@
 -- The input in chunks: what the buffer holds of it, and what was handed out. Assumes nothing.
 use mathlib.Core.Bool.{Bool, true, false}
-use mathlib.Core.List.{List, [], _∷_, _++_}
+use mathlib.Core.List.{[], _∷_, _++_}
 use mathlib.Core.Path.{_≡_}
 use Prim.Native.Nat.{ℕ, _+_, _-_, _≤_}
 use lib.Dec.{eqb}
 use lib.ListN.{length, take, drop}
 use Rattle.grammar.specs.Text.{Text, if_then_else_}
-use Rattle.listing.specs.Listing.{line-feed, in-front, lines, bytes-taken, listing}
+use Rattle.listing.specs.Listing.{line-feed, lines, bytes-taken, listing}
 use Rattle.listing.specs.Cut.{cut-lines, column, most-kept}
 use Rattle.listing.specs.declared.listing.Kind.{Kind}
 use Rattle.console.specs.Output.{header}

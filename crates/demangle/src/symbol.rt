@@ -1,8 +1,6 @@
 // What is told of a symbol before it is read, and its name written.
 use grammar::state::Parser;
 use grammar::text as bytes;
-use store::stack;
-use store::stack;
 ghost use mathlib.Core.Path.{_≡_};
 ghost use mathlib.Core.List.{_++_};
 ghost use Prim.Native.Nat.{_-_, _≤_};

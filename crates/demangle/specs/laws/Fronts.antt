@@ -1,5 +1,5 @@
 -- Laws of what is told of a symbol before it is read. Assumes nothing.
-use mathlib.Core.Bool.{Bool, true, false, _&&_, _||_, true≢false}
+use mathlib.Core.Bool.{Bool, true, false, _||_, true≢false}
 use mathlib.Core.List.{[], _∷_}
 use mathlib.Core.Path.{_≡_, refl, sym}
 use Prim.Native.Nat.{ℕ, _+_, _≤_, _<_}

@@ -1,11 +1,9 @@
 -- `output::put_header` meets its contract: the byte string is the header. Assumes nothing.
 use mathlib.Core.Path.{refl, ap, _∙_}
-use Prim.Native.Nat.{ℕ}
 use native.Mathlib.Omega.{arith}
 use borrow.Author.Needs.{needs}
-use lib.ListN.{length, take}
-use lib.Seq.{take-paste}
-use Rattle.grammar.specs.Text.{Text, b}
+use lib.ListN.{take}
+use Rattle.grammar.specs.Text.{b}
 use Rattle.console.specs.Output.{header}
 use Rattle.console.proofs.output.put_header.Statement.{statement}
 use Rattle.console.proofs.output.put_header.Tie as tie
