@@ -16,6 +16,7 @@ use crate::memory;
 use crate::names;
 use crate::state::Parser;
 use crate::state::Read;
+use crate::state::Taken;
 use grammar::codes;
 use grammar::codes::Picked;
 use grammar::codes::Word;
@@ -29,15 +30,14 @@ pub fn builtin_d(s: &[u8], text: &mut [u8], p: Parser) -> Read
         → Refines 34816 (p .depth) (now (s .entry)) (window (mem (now (text .entry)) store ends) p) (p .at + 2)
         (mem (now (text .exit)) store ends) r (by-code d-letters (λ w. give (b w)) (refuse 4) σ)) ⌝ }
 {
-    let at = p.at + 1;
-    if s.len() <= at {
+    let at = p.at;
+    let Taken::Byte(c, next) = p.moved(at + 1).take(s) else {
         return Read::Refused(4);
-    }
-    let picked = codes::builtin_d(s[at]);
+    };
+    let picked = codes::builtin_d(c);
     let Picked::At(w) = picked else {
         return Read::Refused(4);
     };
-    let next = p.moved(at + 1);
     names::word(text, next, w)
 }
 

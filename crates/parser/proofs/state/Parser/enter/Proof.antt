@@ -1,0 +1,18 @@
+-- `parser::state::Parser::enter` gives the state one level down, or 8. Assumes nothing.
+use native.Mathlib.Omega.{arith}
+use borrow.Author.Needs.{needs}
+use borrow.Author.Tests.{le-ltb, lt-ltb}
+use Rattle.grammar.specs.Text.{if_then_else_}
+use Rattle.parser.proofs.state.Parser.enter.Statement.{statement}
+use Rattle.parser.proofs.state.Parser.enter.Tie as tie
+
+returns : tie.Need-returns
+unfolding if_then_else_
+returns c = rw (le-ltb _ 96 (c .if1 .taken))
+
+returns-2 : tie.Need-returns-2
+unfolding if_then_else_
+returns-2 c = rw (lt-ltb (c .before .args .self .depth) 96 (omega arith))
+
+pub enter-spec : {M : Type 1} → statement M
+enter-spec = tie.close (tie.spec returns (λ c. search needs) returns-2)
