@@ -2,12 +2,18 @@
 use mathlib.Core.Bool.{Bool, false}
 use mathlib.Core.List.{[], _∷_}
 use Prim.Native.Nat.{ℕ, _+_}
-use Rattle.grammar.specs.Text.{Text}
+use lib.Dec.{ltb}
+use Rattle.grammar.specs.Limits.{most-open}
+use Rattle.grammar.specs.Text.{Text, if_then_else_, starts}
 use Rattle.grammar.specs.declared.state.Parser.{Parser}
 use Rattle.grammar.specs.declared.state.Peeked.{Peeked}
 use Rattle.grammar.specs.declared.state.Peeked.the-variants as peeked-as
 use Rattle.grammar.specs.declared.state.Taken.{Taken}
 use Rattle.grammar.specs.declared.state.Taken.the-variants as taken-as
+use Rattle.grammar.specs.declared.state.Eaten.{Eaten}
+use Rattle.grammar.specs.declared.state.Eaten.the-variants as eaten-as
+use Rattle.grammar.specs.declared.state.Read.{Read}
+use Rattle.grammar.specs.declared.state.Read.the-variants as read-as
 
 -- the empty state
 abbrev pub fresh : Parser
@@ -24,6 +30,9 @@ at-depth p depth = record { at = p .at; depth = depth; top = p .top; subs = p .s
 
 abbrev pub deeper : Parser → Parser
 deeper p = record { at = p .at; depth = p .depth + 1; top = p .top; subs = p .subs; args = p .args; cv = p .cv; templated = p .templated }
+
+abbrev pub entered : Parser → Read
+entered p = if ltb (p .depth) most-open then read-as.Text (deeper p) 0 else read-as.Refused 8
 
 abbrev pub subs-to : Parser → ℕ → ℕ → Parser
 subs-to p count bytes = record { at = p .at; depth = p .depth; top = p .top; subs = record { count = count; bytes = bytes }; args = p .args; cv = p .cv; templated = p .templated }
@@ -45,3 +54,7 @@ peeked (c ∷ t) = peeked-as.Byte c
 abbrev pub taken : Parser → Text → Taken
 taken p [] = taken-as.End
 taken p (c ∷ t) = taken-as.Byte c (moved-to p (p .at + 1))
+
+-- the same, if the byte is c
+abbrev pub eaten : Parser → ℕ → Text → Eaten
+eaten p c t = if starts t (c ∷ []) then eaten-as.Next (moved-to p (p .at + 1)) else eaten-as.Nothing

@@ -13,3 +13,4 @@ pub mod Decimals
 pub mod Alike
 pub mod AlikeReadings
 pub mod Dots
+pub mod States

@@ -1,9 +1,7 @@
 // The Rust's `Parser`, by value, and what a reading answers.
 ghost use mathlib.Core.Path.{_≡_};
-ghost use Prim.Native.Nat.{_+_, _<_};
 ghost use lib.ListN.{drop};
-ghost use Rattle.grammar.specs.Limits.{most-open};
-ghost use Rattle.grammar.specs.States.{fresh, peeked, taken, deeper, at-depth, moved-to, raised-to, subs-to, args-to, cv-to, templated-to};
+ghost use Rattle.grammar.specs.States.{fresh, peeked, taken, eaten, entered, at-depth, moved-to, raised-to, subs-to, args-to, cv-to, templated-to};
 
 // How much of a table is used.
 pub struct Table {
@@ -52,6 +50,11 @@ pub enum Taken {
     End,
 }
 
+pub enum Eaten {
+    Next(Parser),
+    Nothing,
+}
+
 impl Parser {
     pub const DEPTH: usize = 96;
 
@@ -82,6 +85,7 @@ impl Parser {
         }
     }
 
+    // The next byte. The state stays as it is, so that none is handed back.
     pub fn peek(self, s: &[u8]) -> Peeked
         ensures { λ r. ⌜ r ≡ peeked (drop (self .at) (now (s .entry))) ⌝ }
     {
@@ -93,6 +97,7 @@ impl Parser {
         }
     }
 
+    // The next byte, and the state behind it.
     pub fn take(self, s: &[u8]) -> Taken
         ensures { λ r. ⌜ r ≡ taken self (drop (self .at) (now (s .entry))) ⌝ }
     {
@@ -104,12 +109,30 @@ impl Parser {
         }
     }
 
-    pub fn enter(mut self) -> Self
-        requires { ⌜ self .depth < most-open ⌝ }
-        ensures { λ r. ⌜ r ≡ deeper self ⌝ }
+    // The state behind the byte c, if it is the next one.
+    pub fn eat(self, s: &[u8], c: u8) -> Eaten
+        ensures { λ r. ⌜ r ≡ eaten self c (drop (self .at) (now (s .entry))) ⌝ }
     {
-        self.depth = self.depth + 1;
-        self
+        let Taken::Byte(d, next) = self.take(s) else {
+            return Eaten::Nothing;
+        };
+        if d == c {
+            Eaten::Next(next)
+        } else {
+            Eaten::Nothing
+        }
+    }
+
+    // The state one level down, with an empty text: 8 where 96 readings are open.
+    pub fn enter(mut self) -> Read
+        ensures { λ r. ⌜ r ≡ entered self ⌝ }
+    {
+        let depth = self.depth;
+        if Self::DEPTH <= depth {
+            return Read::Refused(8);
+        }
+        self.depth = depth + 1;
+        Read::Text(self, 0)
     }
 
     pub fn leave(mut self, depth: usize) -> Self

@@ -18,8 +18,12 @@ use grammar::codes;
 use grammar::codes::Picked;
 use grammar::numbers;
 use grammar::numbers::Number;
+use grammar::state::Eaten;
+use grammar::state::Parser;
 use grammar::state::Parser;
 use grammar::state::Read;
+use grammar::state::Read;
+use grammar::state::Taken;
 use grammar::text::before;
 use grammar::text::here;
 
@@ -78,11 +82,11 @@ pub fn source_name(s: &[u8], text: &mut [u8], p: Parser) -> Read
         let size = to - from;
         next = memory::put_part(s, text, next.moved(to), from, to);
         n = memory::sum(n, size);
-        if !here(s, to, b'B') {
+        let Eaten::Next(behind) = next.eat(s, b'B') else {
             let done = close_tags(text, next, tags);
             return memory::given(done, memory::sum(n, tags));
-        }
-        next = memory::put(text, next.moved(to + 1), b"[abi:");
+        };
+        next = memory::put(text, behind, b"[abi:");
         n = memory::sum(n, 5);
         tags += 1;
     }
@@ -95,19 +99,17 @@ pub fn substitution(s: &[u8], text: &mut [u8], store: &[u8], ends: &[u16], p: Pa
         (mem (now (text .entry)) (now (store .entry)) (now (ends .entry)))
         (mem (now (text .exit)) (now (store .entry)) (now (ends .entry))) p r ⌝ }
 {
-    let first = p.at;
-    if !here(s, first, b'S') {
+    let Eaten::Next(behind) = p.eat(s, b'S') else {
         return Read::Refused(4);
-    }
-    let at = first + 1;
-    if s.len() <= at {
-        return Read::Refused(4);
-    }
-    let picked = codes::abbreviation(s[at]);
-    let Picked::At(w) = picked else {
-        return old_entry(s, text, store, ends, p.moved(at));
     };
-    word(text, p.moved(at + 1), w)
+    let Taken::Byte(c, next) = behind.take(s) else {
+        return Read::Refused(4);
+    };
+    let picked = codes::abbreviation(c);
+    let Picked::At(w) = picked else {
+        return old_entry(s, text, store, ends, behind);
+    };
+    word(text, next, w)
 }
 
 // S_ | S <seq-id> _, behind S
@@ -120,10 +122,9 @@ fn old_entry(s: &[u8], text: &mut [u8], store: &[u8], ends: &[u16], p: Parser) -
     let at = p.at;
     let number = numbers::seq_id(s, at);
     let end = number.next;
-    if !here(s, end, b'_') {
+    let Eaten::Next(next) = p.moved(end).eat(s, b'_') else {
         return Read::Refused(4);
-    }
-    let next = p.moved(end + 1);
+    };
     if end == at {
         return memory::recall(text, store, ends, next, 0);
     }
@@ -151,17 +152,15 @@ pub fn template_param(s: &[u8], text: &mut [u8], store: &[u8], ends: &[u16], p: 
         (mem (now (text .entry)) (now (store .entry)) (now (ends .entry)))
         (mem (now (text .exit)) (now (store .entry)) (now (ends .entry))) p r ⌝ }
 {
-    let first = p.at;
-    if !here(s, first, b'T') {
+    let Eaten::Next(behind) = p.eat(s, b'T') else {
         return Read::Refused(4);
-    }
-    let at = first + 1;
+    };
+    let at = behind.at;
     let number = numbers::decimal(s, at);
     let end = number.next;
-    if !here(s, end, b'_') {
+    let Eaten::Next(next) = behind.moved(end).eat(s, b'_') else {
         return Read::Refused(4);
-    }
-    let next = p.moved(end + 1);
+    };
     if end == at {
         return argument(text, store, ends, next, 0);
     }
@@ -207,20 +206,20 @@ pub fn unnamed_type_name(s: &[u8], text: &mut [u8], p: Parser) -> Read
     ensures { λ r. ⌜ ((store ends : List ℕ) → Reads unnamed-type-name kept-bytes (p .at) (now (s .entry))
         (mem (now (text .entry)) store ends) (mem (now (text .exit)) store ends) p r) ⌝ }
 {
-    let at = p.at;
-    if s.len() <= at {
+    let Taken::Byte(kind, behind) = p.take(s) else {
         return Read::Refused(4);
-    }
-    if s[at] == b'l' {
-        let end = before(s, at + 1, b'E');
+    };
+    let at = behind.at;
+    if kind == b'l' {
+        let end = before(s, at, b'E');
         if s.len() <= end {
             return Read::Refused(4);
         }
         let next = numbered(s, end + 1);
-        return Read::Text(memory::put(text, p.moved(next), b"{lambda}"), 8);
+        return Read::Text(memory::put(text, behind.moved(next), b"{lambda}"), 8);
     }
-    let next = numbered(s, at + 1);
-    Read::Text(memory::put(text, p.moved(next), b"{unnamed}"), 9)
+    let next = numbered(s, at);
+    Read::Text(memory::put(text, behind.moved(next), b"{unnamed}"), 9)
 }
 
 // The place behind digits and an underscore, if there are any.

@@ -19,7 +19,10 @@ use grammar::codes;
 use grammar::codes::Picked;
 use grammar::codes::Word;
 use grammar::state::Parser;
+use grammar::state::Parser;
 use grammar::state::Read;
+use grammar::state::Read;
+use grammar::state::Taken;
 use store::stack;
 
 // <builtin-type> of two letters, at D.
@@ -30,15 +33,14 @@ pub fn builtin_d(s: &[u8], text: &mut [u8], p: Parser) -> Read
         → Refines kept-bytes (p .depth) (now (s .entry)) (window (mem (now (text .entry)) store ends) p) (p .at + 2)
         (mem (now (text .exit)) store ends) r (by-code d-letters (λ w. give (b w)) (refuse 4) σ)) ⌝ }
 {
-    let at = p.at + 1;
-    if s.len() <= at {
+    let at = p.at;
+    let Taken::Byte(c, next) = p.moved(at + 1).take(s) else {
         return Read::Refused(4);
-    }
-    let picked = codes::builtin_d(s[at]);
+    };
+    let picked = codes::builtin_d(c);
     let Picked::At(w) = picked else {
         return Read::Refused(4);
     };
-    let next = p.moved(at + 1);
     names::word(text, next, w)
 }
 

@@ -19,9 +19,14 @@ use crate::lists::Prefix;
 use crate::lists::Texts;
 use grammar::codes;
 use grammar::codes::Picked;
+use grammar::state::Eaten;
+use grammar::state::Parser;
 use grammar::state::Parser;
 use grammar::state::Peeked;
+use grammar::state::Peeked;
 use grammar::state::Read;
+use grammar::state::Read;
+use grammar::state::Taken;
 use grammar::text as bytes;
 use parser::leaf;
 use parser::leaf::Skipped;
@@ -149,9 +154,8 @@ fn loc_fn(s: &[u8], text: &mut [u8], store: &mut [u8], ends: &mut [u16], p: Pars
     let Read::Text(named, n) = got else {
         return got;
     };
-    let at = named.at;
-    if bytes::here(s, at, b'E') {
-        return Read::Text(named.moved(at + 1), n);
+    if let Eaten::Next(bare) = named.eat(s, b'E') {
+        return Read::Text(bare, n);
     }
     let open = memory::put(text, named, b"(");
     let list = items(s, text, store, ends, open, Kind::Types);
@@ -161,11 +165,10 @@ fn loc_fn(s: &[u8], text: &mut [u8], store: &mut [u8], ends: &mut [u16], p: Pars
     if Parser::TEXT < m {
         return Read::Refused(11);
     }
-    let end = last.at;
-    if !bytes::here(s, end, b'E') {
+    let Eaten::Next(closed) = last.eat(s, b'E') else {
         return Read::Refused(4);
-    }
-    let close = memory::put(text, last.moved(end + 1), b")");
+    };
+    let close = memory::put(text, closed, b")");
     memory::given(close, n + m + 2)
 }
 
@@ -175,17 +178,15 @@ fn local_name(s: &[u8], text: &mut [u8], store: &mut [u8], ends: &mut [u16], p: 
     ensures { λ r. ⌜ Reads (local-name reading) (keep (p .depth)) (p .at + 1) (now (s .entry))
         (mem (now (text .entry)) (now (store .entry)) (now (ends .entry))) (mem (now (text .exit)) (now (store .exit)) (now (ends .exit))) p r ⌝ }
 {
-    let at = p.at;
-    if !bytes::here(s, at, b'Z') {
+    let Eaten::Next(behind) = p.eat(s, b'Z') else {
         return Read::Refused(4);
-    }
-    let got = loc_fn(s, text, store, ends, p.moved(at + 1));
+    };
+    let got = loc_fn(s, text, store, ends, behind);
     let Read::Text(outer, n) = got else {
         return got;
     };
-    let end = outer.at;
-    if bytes::here(s, end, b's') {
-        let next = memory::put(text, outer.moved(end + 1), b"::string literal");
+    if let Eaten::Next(last) = outer.eat(s, b's') {
+        let next = memory::put(text, last, b"::string literal");
         return memory::given(next, n + 16);
     }
     let colons = memory::put(text, outer, b"::");
@@ -201,14 +202,13 @@ fn name_inner(s: &[u8], text: &mut [u8], store: &mut [u8], ends: &mut [u16], p: 
     ensures { λ r. ⌜ Reads (name-inner reading) (keep (p .depth)) (p .at + 1) (now (s .entry))
         (mem (now (text .entry)) (now (store .entry)) (now (ends .entry))) (mem (now (text .exit)) (now (store .exit)) (now (ends .exit))) p r ⌝ }
 {
-    let Peeked::Byte(c) = p.peek(s) else {
+    let Taken::Byte(c, behind) = p.take(s) else {
         return Read::Refused(4);
     };
-    let at = p.at;
     match c {
         b'N' => nested_name(s, text, store, ends, p),
         b'S' => at_s(s, text, store, ends, p, true),
-        b'L' => name(s, text, store, ends, p.moved(at + 1)),
+        b'L' => name(s, text, store, ends, behind),
         b'Z' => local_name(s, text, store, ends, p),
         _ => plain(s, text, store, ends, p),
     }
@@ -221,10 +221,11 @@ pub fn name(s: &[u8], text: &mut [u8], store: &mut [u8], ends: &mut [u16], p: Pa
         (mem (now (text .entry)) (now (store .entry)) (now (ends .entry))) (mem (now (text .exit)) (now (store .exit)) (now (ends .exit))) p r ⌝ }
 {
     let depth = p.depth;
-    if Parser::DEPTH <= depth {
-        return Read::Refused(8);
-    }
-    let got = name_inner(s, text, store, ends, p.enter());
+    let entered = p.enter();
+    let Read::Text(open, _) = entered else {
+        return entered;
+    };
+    let got = name_inner(s, text, store, ends, open);
     let Read::Text(next, n) = got else {
         return got;
     };
@@ -355,13 +356,12 @@ fn nested_name(s: &[u8], text: &mut [u8], store: &mut [u8], ends: &mut [u16], p:
     ensures { λ r. ⌜ Reads (reading ⟨nested-name⟩) (keep (p .depth)) (p .at + 1) (now (s .entry))
         (mem (now (text .entry)) (now (store .entry)) (now (ends .entry))) (mem (now (text .exit)) (now (store .exit)) (now (ends .exit))) p r ⌝ }
 {
-    let at = p.at;
-    if !bytes::here(s, at, b'N') {
+    let Eaten::Next(behind) = p.eat(s, b'N') else {
         return Read::Refused(4);
-    }
-    let from = at + 1;
+    };
+    let from = behind.at;
     let to = leaf::qualifiers(s, from);
-    let mut next = p.moved(to);
+    let mut next = behind.moved(to);
     let mut parts = Parts {
         n: 0,
         last: 0,
@@ -369,12 +369,11 @@ fn nested_name(s: &[u8], text: &mut [u8], store: &mut [u8], ends: &mut [u16], p:
         structor: false,
     };
     loop {
-        let Peeked::Byte(c) = next.peek(s) else {
+        let Taken::Byte(c, last) = next.take(s) else {
             return Read::Refused(4);
         };
         if c == b'E' {
-            let end = next.at;
-            let named = next.moved(end + 1).with_cv(from, to);
+            let named = last.with_cv(from, to);
             let n = parts.n;
             if parts.structor {
                 return memory::given(named.with_templated(false), n);
@@ -399,24 +398,24 @@ fn unq(s: &[u8], text: &mut [u8], store: &mut [u8], ends: &mut [u16], p: Parser)
     let first = p.at;
     let at = bytes::behind(s, first, b'L');
     let q = p.moved(at);
-    let Peeked::Byte(c) = q.peek(s) else {
+    let Taken::Byte(c, behind) = q.take(s) else {
         return Read::Refused(4);
     };
     match c {
         b'0'..=b'9' => names::source_name(s, text, q),
         b'C' => {
-            if s.len() <= at + 1 {
+            let Taken::Byte(_, next) = behind.take(s) else {
                 return Read::Refused(4);
-            }
-            Read::Text(memory::put(text, q.moved(at + 2), b"{ctor}"), 6)
+            };
+            Read::Text(memory::put(text, next, b"{ctor}"), 6)
         }
         b'D' => {
-            if s.len() <= at + 1 {
+            let Taken::Byte(_, next) = behind.take(s) else {
                 return Read::Refused(4);
-            }
-            Read::Text(memory::put(text, q.moved(at + 2), b"{dtor}"), 6)
+            };
+            Read::Text(memory::put(text, next, b"{dtor}"), 6)
         }
-        b'U' => names::unnamed_type_name(s, text, q.moved(at + 1)),
+        b'U' => names::unnamed_type_name(s, text, behind),
         _ => operator(s, text, store, ends, q),
     }
 }
@@ -479,11 +478,9 @@ fn func(s: &[u8], text: &mut [u8], store: &mut [u8], ends: &mut [u16], p: Parser
     let Texts::Listed(last, n, count) = list else {
         return lists::refused(list);
     };
-    let at = last.at;
-    if !bytes::here(s, at, b'E') {
+    let Eaten::Next(next) = last.eat(s, b'E') else {
         return Read::Refused(4);
-    }
-    let next = last.moved(at + 1);
+    };
     lists::func_end(text, store, ends, next, r, n, count)
 }
 
@@ -567,11 +564,9 @@ pub fn ty_inner(s: &[u8], text: &mut [u8], store: &mut [u8], ends: &mut [u16], p
     ensures { λ r. ⌜ Reads (type-inner reading) (keep (p .depth)) (p .at + 1) (now (s .entry))
         (mem (now (text .entry)) (now (store .entry)) (now (ends .entry))) (mem (now (text .exit)) (now (store .exit)) (now (ends .exit))) p r ⌝ }
 {
-    let Peeked::Byte(c) = p.peek(s) else {
+    let Taken::Byte(c, behind) = p.take(s) else {
         return Read::Refused(4);
     };
-    let at = p.at;
-    let behind = p.moved(at + 1);
     if let Picked::At(w) = codes::builtin(c) {
         return names::word(text, behind, w);
     }
@@ -597,10 +592,11 @@ pub fn ty(s: &[u8], text: &mut [u8], store: &mut [u8], ends: &mut [u16], p: Pars
         (mem (now (text .entry)) (now (store .entry)) (now (ends .entry))) (mem (now (text .exit)) (now (store .exit)) (now (ends .exit))) p r ⌝ }
 {
     let depth = p.depth;
-    if Parser::DEPTH <= depth {
-        return Read::Refused(8);
-    }
-    let got = ty_inner(s, text, store, ends, p.enter());
+    let entered = p.enter();
+    let Read::Text(open, _) = entered else {
+        return entered;
+    };
+    let got = ty_inner(s, text, store, ends, open);
     let Read::Text(next, n) = got else {
         return got;
     };
@@ -675,24 +671,22 @@ pub fn args(s: &[u8], text: &mut [u8], store: &mut [u8], ends: &mut [u16], p: Pa
     ensures { λ r. ⌜ Reads (reading ⟨template-args⟩) (keep (p .depth + 1)) (p .at + 1) (now (s .entry))
         (mem (now (text .entry)) (now (store .entry)) (now (ends .entry))) (mem (now (text .exit)) (now (store .exit)) (now (ends .exit))) p r ⌝ }
 {
-    let at = p.at;
-    if !bytes::here(s, at, b'I') {
+    let Eaten::Next(behind) = p.eat(s, b'I') else {
         return Read::Refused(4);
-    }
-    let depth = p.depth;
-    if depth >= Parser::DEPTH {
-        return Read::Refused(8);
-    }
-    let open = memory::put(text, p.moved(at + 1).enter(), b"<");
+    };
+    let entered = behind.enter();
+    let Read::Text(inner, _) = entered else {
+        return entered;
+    };
+    let open = memory::put(text, inner, b"<");
     let list = items(s, text, store, ends, open, Kind::Arguments);
     let Texts::Listed(last, n, _) = list else {
         return lists::refused(list);
     };
-    let end = last.at;
-    if !bytes::here(s, end, b'E') {
+    let Eaten::Next(closed) = last.eat(s, b'E') else {
         return Read::Refused(4);
-    }
-    let next = last.moved(end + 1).leave(depth);
+    };
+    let next = closed.leave(p.depth);
     let top = next.top;
     if text[top - 1] == b'>' {
         let close = memory::put(text, next, b" >");
@@ -714,12 +708,11 @@ fn pack(s: &[u8], text: &mut [u8], store: &mut [u8], ends: &mut [u16], p: Parser
     let mut level: usize = 0;
     let mut n: usize = 0;
     loop {
-        let Peeked::Byte(c) = next.peek(s) else {
+        let Taken::Byte(c, behind) = next.take(s) else {
             return Read::Refused(4);
         };
-        let at = next.at;
         if c == b'E' {
-            next = next.moved(at + 1);
+            next = behind;
             if lists::pack_ends(level, n) {
                 return memory::given(next, lists::joined_size(n));
             }
@@ -727,14 +720,14 @@ fn pack(s: &[u8], text: &mut [u8], store: &mut [u8], ends: &mut [u16], p: Parser
             n = memory::sum(outer[level], lists::joined_size(n) + 2);
             continue;
         }
-        next = lists::comma(text, next, n);
         if lists::pack_opens(level, c) {
+            next = lists::comma(text, behind, n);
             outer[level] = n;
             level += 1;
             n = 0;
-            next = next.moved(at + 1);
             continue;
         }
+        next = lists::comma(text, next, n);
         let got = arg(s, text, store, ends, next);
         let Read::Text(after, m) = got else {
             return got;
@@ -754,14 +747,15 @@ pub fn arg(s: &[u8], text: &mut [u8], store: &mut [u8], ends: &mut [u16], p: Par
     if bytes::here(s, at, b'L') {
         return lit(s, text, store, ends, p);
     }
-    if bytes::here(s, at, b'X') {
-        let Skipped::To(end) = leaf::expression(s, at + 1) else {
+    if let Eaten::Next(behind) = p.eat(s, b'X') {
+        let from = behind.at;
+        let Skipped::To(end) = leaf::expression(s, from) else {
             return Read::Refused(4);
         };
-        return Read::Text(memory::put(text, p.moved(end), b"..."), 3);
+        return Read::Text(memory::put(text, behind.moved(end), b"..."), 3);
     }
-    if bytes::here(s, at, b'J') {
-        return pack(s, text, store, ends, p.moved(at + 1));
+    if let Eaten::Next(behind) = p.eat(s, b'J') {
+        return pack(s, text, store, ends, behind);
     }
     ty(s, text, store, ends, p)
 }
@@ -772,23 +766,20 @@ fn lit(s: &[u8], text: &mut [u8], store: &mut [u8], ends: &mut [u16], p: Parser)
     ensures { λ r. ⌜ Reads (reading ⟨expr-primary⟩) (keep (p .depth)) (p .at + 1) (now (s .entry))
         (mem (now (text .entry)) (now (store .entry)) (now (ends .entry))) (mem (now (text .exit)) (now (store .exit)) (now (ends .exit))) p r ⌝ }
 {
-    let first = p.at;
-    if !bytes::here(s, first, b'L') {
+    let Eaten::Next(behind) = p.eat(s, b'L') else {
         return Read::Refused(4);
-    }
-    let at = first + 1;
-    if bytes::here(s, at, b'_') {
-        let got = name(s, text, store, ends, p.moved(at + 1));
+    };
+    if let Eaten::Next(mangled) = behind.eat(s, b'_') {
+        let got = name(s, text, store, ends, mangled);
         let Read::Text(next, n) = got else {
             return got;
         };
-        let end = next.at;
-        if bytes::here(s, end, b'E') {
-            return Read::Text(next.moved(end + 1), n);
-        }
-        return got;
+        let Eaten::Next(last) = next.eat(s, b'E') else {
+            return got;
+        };
+        return Read::Text(last, n);
     }
-    let got = ty(s, text, store, ends, p.moved(at));
+    let got = ty(s, text, store, ends, behind);
     let Read::Text(next, n) = got else {
         return got;
     };

@@ -5,6 +5,7 @@ use mathlib.Core.Option.{Option, none, some}
 use mathlib.Core.Path.{_≡_, refl, sym, ap, _∙_, subst}
 use Prim.Native.Nat.{ℕ, _+_, _≤_, _<_}
 use Prim.Native.Char.{code}
+use native.Mathlib.Omega.{arith}
 use lib.ListN.{length, drop}
 use lib.Seq.{drop-drop}
 use Rattle.grammar.specs.Text.{Text, b, choose, join, starts}
@@ -19,10 +20,12 @@ use Rattle.grammar.specs.Loops.{argument}
 use Rattle.grammar.specs.laws.Loops.{closed, up-to-E-is}
 use Rattle.grammar.specs.laws.Steps.{at-level, entered-in, entered-8, need-yes, need-no, from-text, same-from}
 use Rattle.grammar.specs.laws.NameSteps.{starts-one, arg-L, arg-X, arg-J, arg-type}
-use Rattle.parser.specs.Holds.{Memory, Holds, Stands, Refines, refuses}
-use Rattle.parser.specs.laws.Holds.{by-state, holds-entered, holds-moved}
+use Rattle.parser.specs.Holds.{Memory, Holds, Stands, Refines, Reads, refuses, keep}
+use Rattle.parser.specs.laws.Holds.{by, by-state, holds-entered, holds-moved}
+use Rattle.grammar.specs.laws.States.{stayed-out}
 use Rattle.parser.specs.Leaves.{left-at, Skips, Skipped-inside}
 use Rattle.grammar.specs.States.{moved-to, deeper}
+use Rattle.grammar.specs.States.{entered as entered-from}
 use Rattle.parser.specs.declared.leaf.Skipped.{Skipped}
 use Rattle.parser.specs.declared.leaf.Skipped.the-variants as skipped-as
 use Rattle.grammar.specs.declared.state.Parser.{Parser}
@@ -159,6 +162,14 @@ module _ (s : Text) (at : ℕ) (σ : State) (e : σ .rest ≡ drop at s) where
       args-in h
       ∙ entered-in bracketed (moved (drop (at + 1) s) σ) d
       ∙ ap (λ (x : Result (List Text)). onto (λ t u. ok t (at-level (σ .depth) u)) (onto (λ ts. give (g.angled ts)) x)) (up-arguments (at-level (σ .depth + 1) (moved (drop (at + 1) s) σ)))
+
+pub args-deep :
+    {s : Text} {m m' : Memory} {p q : Parser} {r : Read} {j : ℕ} → starts (drop (p .at) s) (73 ∷ []) ≡ true → q ≡ moved-to p (p .at + 1) → r ≡ entered-from q → r ≡ Refused j →
+    Reads (reading ⟨template-args⟩) (keep (p .depth + 1)) (p .at + 1) s m m' p r
+args-deep {s} {m} {m'} {p} {q} {r} k e f i =
+    let o = stayed-out q f i in
+    subst (λ (x : Read). Reads (reading ⟨template-args⟩) (keep (p .depth + 1)) (p .at + 1) s m m' p x) (sym (o .1))
+    (λ σ h. by (args-8 s (p .at) σ (h .rest) (ahead-is _ _ _ (h .rest) refl k) (omega (arith, h .depth, o .0, ap (λ (z : Parser). z .depth) e))) refuses)
 
 pub args-open :
     {s : Text} {m : Memory} {p q r : Parser} {at : ℕ} {σ : State} → r ≡ deeper q → q ≡ moved-to p at → p .depth < most-open → at ≤ length s → Holds s m p σ →

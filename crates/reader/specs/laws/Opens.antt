@@ -20,6 +20,8 @@ use Rattle.grammar.specs.declared.state.Parser.{Parser}
 use Rattle.grammar.specs.declared.state.Read.{Read}
 use Rattle.grammar.specs.declared.state.Read.the-variants.{Text as read, Refused}
 use Rattle.grammar.specs.States.{moved-to, deeper, at-depth}
+use Rattle.grammar.specs.States.{entered as entered-from}
+use Rattle.grammar.specs.laws.States.{went-in, stayed-out}
 use Rattle.parser.specs.Holds.{Memory, window, Holds, Ready, Wrote, Refines, refuses, Reads, keep}
 use Rattle.reader.specs.laws.Standing.{wrote-kept}
 use Rattle.parser.specs.laws.Holds.{at-level, by-state, holds-moved, holds-entered, holds-depth, by, answers, Got, got, refused-on}
@@ -29,8 +31,10 @@ at-of e = ap (λ (x : Parser). x .at) e
 
 -- ---------------------------------------------------------------- one level down
 
-pub ready-entered : {s : Text} {m : Memory} {p q : Parser} → q ≡ deeper p → Ready s m p → p .depth < most-open → Ready s m q
-ready-entered e h l = (at-level (h .0 .depth + 1) (h .0), by-state e (holds-entered (h .1) l))
+pub ready-entered : {s : Text} {m : Memory} {p q : Parser} {r : Read} {n : ℕ} → r ≡ entered-from p → r ≡ read q n → Ready s m p → Ready s m q
+ready-entered {p = p} e f h =
+    let i = went-in p e f in
+    (at-level (h .0 .depth + 1) (h .0), by-state (i .1) (holds-entered (h .1) (i .0)))
 
 abbrev leaving : ℕ → Text → Reader Text
 leaving d t u = ok t (at-level d u)
@@ -43,8 +47,11 @@ module _ (k : Production) (f : Reader Text) (opens : (σ : State) → g.producti
       ∙ entered-in f σ (omega (arith, h .depth))
       ∙ ap (λ (d : ℕ). onto (leaving d) (f (at-level (σ .depth + 1) σ))) (h .depth)
 
-  pub too-deep : {m' : Memory} → most-open ≤ p .depth → Reads (reading k) (keep (p .depth + 1)) (p .at + 1) s m m' p (Refused 8)
-  too-deep l σ h = by (reading-is k σ ∙ opens σ ∙ entered-8 f σ (omega (arith, h .depth))) refuses
+  pub too-deep : {m' : Memory} {r : Read} {j : ℕ} → r ≡ entered-from p → r ≡ Refused j → Reads (reading k) (keep (p .depth + 1)) (p .at + 1) s m m' p r
+  too-deep {m'} {r} e i =
+      let o = stayed-out p e i in
+      subst (λ (x : Read). Reads (reading k) (keep (p .depth + 1)) (p .at + 1) s m m' p x) (sym (o .1))
+      (λ σ h. by (reading-is k σ ∙ opens σ ∙ entered-8 f σ (omega (arith, h .depth, o .0))) refuses)
 
   module _ {m' : Memory} {q : Parser} {r : Read} (l : p .depth < most-open) (e : q ≡ deeper p) (h : Reads f (keep (q .depth)) (q .at + 1) s m m' q r) where
     inner : Reads f (keep (p .depth + 1)) (p .at + 1) s m m' (deeper p) r

@@ -30,6 +30,7 @@ use Rattle.grammar.specs.declared.state.Peeked.{Peeked}
 use Rattle.grammar.specs.declared.state.Peeked.the-variants as peeked-as
 use Rattle.grammar.specs.States.{moved-to, templated-to, peeked}
 use Rattle.parser.specs.Holds.{Memory, mem, window, Holds, Refines, refuses, Reads, Puts, keep, given-of}
+use Rattle.grammar.specs.laws.States.{Past}
 use Rattle.parser.specs.laws.Holds.{by, by-state, got, refused-on, less, sooner, holds-moved}
 use Rattle.parser.specs.laws.Adds.{puts-from, reads-moved}
 use Rattle.grammar.specs.laws.Runs.{case-here, case-not, past-is, past-stops}
@@ -40,6 +41,22 @@ use Rattle.parser.specs.laws.Wraps.{picked-at, picked-none}
 use Rattle.reader.specs.laws.Opens.{call-moved}
 use Rattle.reader.specs.laws.Standing.{stands-templated, given-as, fewer, word-holds, word-joined}
 use Rattle.reader.specs.laws.Items.{peek-end, byte-there, byte-within}
+
+-- ---------------------------------------------------------------- two bytes
+
+-- a byte behind a byte
+module _ {s : Text} {q r : Parser} {x to : ℕ} (e : q .at ≡ to) (h : Past s q x r) where
+  behind-at : r .at ≡ to + 1
+  behind-at = ap (λ (z : Parser). z .at) (h .next) ∙ ap (λ (i : ℕ). i + 1) e
+
+  pub two-behind : {y : ℕ} {n : Parser} → Past s r y n → (to + 1 < length s) × (n ≡ moved-to q (to + 2))
+  two-behind {n = n} k = (
+    omega (arith, k .inside, behind-at),
+    k .next ∙ ap (λ (z : Parser). moved-to z (z .at + 1)) (h .next) ∙ ap (λ (i : ℕ). moved-to q i) {x = q .at + 1 + 1} {y = to + 2} (omega (arith, e)),
+  )
+
+  pub none-behind : drop (r .at) s ≡ [] → length s ≤ to + 1
+  none-behind k = omega (arith, length-drop (r .at) s, ap length k, behind-at)
 
 -- ---------------------------------------------------------------- the definition
 

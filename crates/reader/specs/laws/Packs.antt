@@ -25,6 +25,7 @@ use Rattle.parser.specs.Holds.{Memory, mem, Holds, Reads, Refines, reads, refus
 use Rattle.parser.specs.laws.Halves.{give-short, give-long}
 use Rattle.parser.specs.laws.Holds.{by, holds-moved, holds-puts, tail-puts, got}
 use Rattle.grammar.specs.States.{peeked, moved-to}
+use Rattle.parser.specs.laws.Adds.{puts-from}
 use Rattle.grammar.specs.declared.state.Parser.{Parser}
 use Rattle.grammar.specs.declared.state.Peeked.the-variants as peeked-as
 use Rattle.grammar.specs.declared.state.Read.{Read}
@@ -203,12 +204,12 @@ module _ {s : Text} {m₀ : Memory} {p₀ : Parser} {m : Memory} {p : Parser} {o
 
 -- ---------------------------------------------------------------- a pack opens
 
-pub packed-opens :
+opens-at :
     {s : Text} {m₀ : Memory} {p₀ : Parser} {text text' store ends : List ℕ} {p q p' : Parser} {outer : List ℕ} {level n c : ℕ} {σ₀ : State} →
     Packed s m₀ p₀ (mem text store ends) p outer level n σ₀ → peeked (drop (p .at) s) ≡ peeked-as.Byte c → Puts text text' p q (before-text n) →
     opens-pack level c ≡ true → length outer ≡ 64 → p' ≡ moved-to q (p .at + 1) → Packed s m₀ p₀ (mem text' store ends) p' (set outer level n) (level + 1) 0 σ₀
 unfolding join
-packed-opens {s} {m₀} {p₀} {text} {text'} {store} {ends} {p} {q} {p'} {outer} {level} {n} {c} {σ₀} l e u o z f =
+opens-at {s} {m₀} {p₀} {text} {text'} {store} {ends} {p} {q} {p'} {outer} {level} {n} {c} {σ₀} l e u o z f =
     let a = opens-J level c o in
     let i : p .at < length s = inside l e in
     let j : Text = join (b ", ") (l .texts) in
@@ -235,6 +236,21 @@ packed-opens {s} {m₀} {p₀} {text} {text'} {store} {ends} {p} {q} {p'} {outer
           l .same
           ∙ goes-in (l .around) (l .texts) (l .state) s (p .at) (l .holds .rest) (before l e (λ x. omega (arith, x, a .0))) (ahead l e (a .0));
     })
+
+-- bytes put by a state that is further on
+puts-ahead :
+    {text text' : List ℕ} {p p' q : Parser} {t : Text} {i : ℕ} → p' ≡ moved-to p i → Puts text text' p' q t → Puts text text' p (moved-to q (p .at)) t × (q ≡ moved-to (moved-to q (p .at)) i)
+puts-ahead {text} {text'} {p} {p'} {q} {t} {i} v u =
+    let w : Puts text text' (moved-to p i) q t = puts-from v u in
+    (record { same = ap (λ (z : Parser). moved-to z (p .at)) (w .same); put = w .put }, ap (λ (j : ℕ). moved-to q j) (ap (λ (z : Parser). z .at) (w .same)))
+
+pub packed-opens :
+    {s : Text} {m₀ : Memory} {p₀ : Parser} {text text' store ends : List ℕ} {p q p' : Parser} {outer : List ℕ} {level n c : ℕ} {σ₀ : State} →
+    Packed s m₀ p₀ (mem text store ends) p outer level n σ₀ → peeked (drop (p .at) s) ≡ peeked-as.Byte c → p' ≡ moved-to p (p .at + 1) → Puts text text' p' q (before-text n) →
+    opens-pack level c ≡ true → length outer ≡ 64 → Packed s m₀ p₀ (mem text' store ends) q (set outer level n) (level + 1) 0 σ₀
+packed-opens l e v u o z =
+    let k = puts-ahead v u in
+    opens-at l e (k .0) o z (k .1)
 
 -- ---------------------------------------------------------------- a text more
 

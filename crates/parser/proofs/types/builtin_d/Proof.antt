@@ -4,6 +4,8 @@ use mathlib.Core.List.{[], _∷_}
 use mathlib.Core.Option.{Option, none, some}
 use Prim.Native.Nat.{ℕ, _+_}
 use native.Mathlib.Omega.{arith}
+use Rattle.grammar.specs.laws.States.{Past, past-from, end-from, took, took-none}
+use Rattle.grammar.specs.States.{moved-to}
 use borrow.Author.Needs.{needs}
 use lib.ListN.{drop}
 use lib.Seq.{drop-drop}
@@ -13,7 +15,7 @@ use Rattle.grammar.specs.Reader.{State, Reader, refused, refuse, by-code, find,
 use Rattle.grammar.specs.laws.Agree.{moved}
 use Rattle.grammar.specs.laws.Finds.{by-word, all-of}
 use Rattle.parser.specs.Holds.{refuses}
-use Rattle.grammar.specs.laws.Places.{rest-some, rest-none}
+use Rattle.grammar.specs.laws.Places.{rest-none}
 use Rattle.parser.specs.laws.Holds.{by, sooner, holds-moved}
 use Rattle.parser.specs.laws.Wraps.{picked-at, picked-none, reads-at}
 use Rattle.parser.proofs.types.builtin_d.Statement.{statement}
@@ -48,41 +50,46 @@ module _ (σ : State) {x : ℕ} {u : Text} (e : σ .rest ≡ 68 ∷ (x ∷ u)) w
   unfolding choose
   unknown f = looked ∙ ap (λ (o : Option Text). choose o (λ t. read-on t u) (refuse 4) σ) f
 
+-- the letter was read
+past : (c : tie.After-c) → Past (c .before .before .before .before .before .before .args .s .now) (moved-to (c .before .before .before .before .before .before .args .p) (c .before .before .before .before .before .before .args .p .at + 1)) (c .c .given .0 .0) (c .c .given .0 .1 .0)
+past c = past-from (c .before .before .before .moved .ensures) (took _ _ (c .before .before .take .ensures) (c .c .given .1))
+
 returns : tie.Need-returns
 returns c store ends rest σ e h =
-    let a = c .before .before .before .before .args in
-    by (ended σ (e ∙ ap (λ (z : Text). 68 ∷ z) (behind-d (a .s .now) (a .p .at) (sym (h .rest) ∙ e) ∙ rest-none (a .s .now) (a .p .at + 1) (c .if1 .taken)))) refuses
+    let a = c .before .before .before .before .before .before .args in
+    by (ended σ (e ∙ ap (λ (z : Text). 68 ∷ z) (behind-d (a .s .now) (a .p .at) (sym (h .rest) ∙ e) ∙ rest-none (a .s .now) (a .p .at + 1) (end-from (a .s .now) (c .before .before .before .moved .ensures) (took-none (a .s .now) (c .before .before .before .moved .result) (c .before .before .take .ensures) (c .enum-told .given .1)))))) refuses
 
 returns-2 : tie.Need-returns-2
 unfolding b
 returns-2 c store ends rest σ e h =
-    let a = c .before .before .before .before .before .before .before .before .args in
-    by (unknown σ (e ∙ ap (λ (z : Text). 68 ∷ z) (behind-d (a .s .now) (a .p .at) (sym (h .rest) ∙ e) ∙ rest-some (a .s .now) (a .p .at + 1) (c .before .before .before .before .if1 .left))) (picked-none (c .before .before .builtin-d .ensures) (c .enum-told .given .1))) refuses
+    let a = c .before .before .before .before .before .before .before .before .before .before .args in
+    by (unknown σ (e ∙ ap (λ (z : Text). 68 ∷ z) (behind-d (a .s .now) (a .p .at) (sym (h .rest) ∙ e) ∙ past (c .before .before .before .before) .there)) (picked-none (c .before .before .builtin-d .ensures) (c .enum-told2 .given .1))) refuses
 
 word-requires : tie.Need-word-requires
-word-requires c κs = (rw (c .before .moved .ensures) (c .before .before .before .before .before .before .before .before .before .before .before .pre .1 .1 .1 .text), picked-at (c .before .before .before .before .before .builtin-d .ensures) (c .before .before .before .picked .given .1) .1)
+word-requires c κs = (rw (past (c .before .before .before .before .before .before) .next) (c .before .before .before .before .before .before .before .before .before .before .before .before .pre .1 .1 .1 .text), picked-at (c .before .before .before .before .builtin-d .ensures) (c .before .before .picked .given .1) .1)
 
 returns-3 : tie.Need-returns-3
 unfolding b
 returns-3 c store ends rest σ e h =
-    let a = c .before .before .before .before .before .before .before .before .before .before .before .before .before .before .args in
-    let w = picked-at (c .before .before .before .before .before .before .before .before .builtin-d .ensures) (c .before .before .before .before .before .before .picked .given .1) in
-    by (known σ (e ∙ ap (λ (z : Text). 68 ∷ z) (behind-d (a .s .now) (a .p .at) (sym (h .rest) ∙ e) ∙ rest-some (a .s .now) (a .p .at + 1) (c .before .before .before .before .before .before .before .before .before .before .if1 .left))) (w .0))
-    (sooner (omega arith) (reads-at (c .before .before .before .before .moved .ensures) (c .before .before .word .ensures (a .s .now) store ends) _ (holds-moved h (a .p .at + 1 + 1) (omega (arith, c .before .before .before .before .before .before .before .before .before .before .if1 .left)))))
+    let a = c .before .before .before .before .before .before .before .before .before .before .before .before .before .before .before .args in
+    let w = picked-at (c .before .before .before .before .before .before .before .builtin-d .ensures) (c .before .before .before .before .before .picked .given .1) in
+    by (known σ (e ∙ ap (λ (z : Text). 68 ∷ z) (behind-d (a .s .now) (a .p .at) (sym (h .rest) ∙ e) ∙ past (c .before .before .before .before .before .before .before .before .before) .there)) (w .0))
+    (sooner (omega arith) (reads-at (past (c .before .before .before .before .before .before .before .before .before) .next) (c .before .before .word .ensures (a .s .now) store ends) _ (holds-moved h (a .p .at + 1 + 1) (omega (arith, past (c .before .before .before .before .before .before .before .before .before) .inside)))))
 
 pub builtin-d-spec : {M : Type 1} → statement M
 builtin-d-spec =
     tie.close
     (tie.spec
     (λ c. search needs)
-    returns
+    (λ c κs. search needs)
+    (λ c κs. search needs)
     (λ c. search needs)
+    (λ c. search needs)
+    returns
     (λ c κs. search needs)
     (λ c. search needs)
     (λ c. search needs)
     returns-2
-    (λ c. search needs)
-    (λ c κs. search needs)
     word-requires
     (λ c. search needs)
     returns-3)

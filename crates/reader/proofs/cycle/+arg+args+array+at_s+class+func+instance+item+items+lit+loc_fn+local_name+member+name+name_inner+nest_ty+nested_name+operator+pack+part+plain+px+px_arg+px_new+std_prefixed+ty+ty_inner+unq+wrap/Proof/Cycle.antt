@@ -116,6 +116,8 @@ use Rattle.parser.proofs.names.substitution.Reads as substitution-reads
 use Rattle.parser.proofs.names.template_param.Reads as template-param-reads
 use Rattle.parser.proofs.names.unnamed_type_name.Reads as unnamed-type-name-reads
 use Rattle.parser.proofs.names.word.Reads as word-reads
+use Rattle.parser.proofs.state.Parser.eat.Reads as eat-reads
+use Rattle.parser.proofs.state.Parser.take.Reads as take-reads
 use Rattle.parser.proofs.state.Parser.enter.Reads as enter-reads
 use Rattle.parser.proofs.state.Parser.leave.Reads as leave-reads
 use Rattle.parser.proofs.state.Parser.moved.Reads as moved-reads
@@ -402,10 +404,10 @@ abbrev pub wrap-below : ℕ → In 4 wrap-kinds.ps
 wrap-below t = and 4 wrap-kinds.ps (falls 4 wrap-kinds.ps _<_ μ-wrap t) wrap.Pre
 
 abbrev pub arg-calls : ℕ → arg-lts.Claims
-arg-calls t = (here-reads.Asked, here-reads.Learnt, lit-below t, lit.Post, expression-reads.Asked, expression-reads.Learnt, moved-reads.Asked, moved-reads.Learnt, put-reads.Asked, put-reads.Learnt, pack-below t, pack.Post, ty-below t, ty.Post)
+arg-calls t = (here-reads.Asked, here-reads.Learnt, lit-below t, lit.Post, eat-reads.Asked, eat-reads.Learnt, expression-reads.Asked, expression-reads.Learnt, moved-reads.Asked, moved-reads.Learnt, put-reads.Asked, put-reads.Learnt, pack-below t, pack.Post, ty-below t, ty.Post)
 
 abbrev pub args-calls : ℕ → args-lts.Claims
-args-calls t = (here-reads.Asked, here-reads.Learnt, moved-reads.Asked, moved-reads.Learnt, enter-reads.Asked, enter-reads.Learnt, put-reads.Asked, put-reads.Learnt, items-below t, items.Post, refused-reads.Asked, refused-reads.Learnt, leave-reads.Asked, leave-reads.Learnt, sum-reads.Asked, sum-reads.Learnt, given-reads.Asked, given-reads.Learnt)
+args-calls t = (eat-reads.Asked, eat-reads.Learnt, enter-reads.Asked, enter-reads.Learnt, put-reads.Asked, put-reads.Learnt, items-below t, items.Post, refused-reads.Asked, refused-reads.Learnt, leave-reads.Asked, leave-reads.Learnt, sum-reads.Asked, sum-reads.Learnt, given-reads.Asked, given-reads.Learnt)
 
 abbrev pub array-calls : ℕ → array-lts.Claims
 array-calls t = (before-reads.Asked, before-reads.Learnt, moved-reads.Asked, moved-reads.Learnt, ty-below t, ty.Post, put-reads.Asked, put-reads.Learnt, put-part-reads.Asked, put-part-reads.Learnt, given-reads.Asked, given-reads.Learnt)
@@ -417,7 +419,7 @@ abbrev pub class-calls : ℕ → class-lts.Claims
 class-calls t = (source-name-reads.Asked, source-name-reads.Learnt, push-sub-reads.Asked, push-sub-reads.Learnt, here-reads.Asked, here-reads.Learnt, instance-below t, instance.Post)
 
 abbrev pub func-calls : ℕ → func-lts.Claims
-func-calls t = (ty-below t, ty.Post, put-reads.Asked, put-reads.Learnt, items-below t, items.Post, refused-reads.Asked, refused-reads.Learnt, here-reads.Asked, here-reads.Learnt, moved-reads.Asked, moved-reads.Learnt, func-end-reads.Asked, func-end-reads.Learnt)
+func-calls t = (ty-below t, ty.Post, put-reads.Asked, put-reads.Learnt, items-below t, items.Post, refused-reads.Asked, refused-reads.Learnt, eat-reads.Asked, eat-reads.Learnt, func-end-reads.Asked, func-end-reads.Learnt)
 
 abbrev pub instance-calls : ℕ → instance-lts.Claims
 instance-calls t = (bare-reads.Asked, bare-reads.Learnt, args-below t, args.Post, marked-reads.Asked, marked-reads.Learnt, recorded-reads.Asked, recorded-reads.Learnt)
@@ -429,13 +431,13 @@ abbrev pub items-calls : ℕ → items-lts.Claims
 items-calls t = (peek-reads.Asked, peek-reads.Learnt, stops-reads.Asked, stops-reads.Learnt, put-reads.Asked, put-reads.Learnt, sum-reads.Asked, sum-reads.Learnt, item-below t, item.Post, unlisted-reads.Asked, unlisted-reads.Learnt)
 
 abbrev pub lit-calls : ℕ → lit-lts.Claims
-lit-calls t = (here-reads.Asked, here-reads.Learnt, moved-reads.Asked, moved-reads.Learnt, name-below t, name.Post, ty-below t, ty.Post, before-reads.Asked, before-reads.Learnt, literal-reads.Asked, literal-reads.Learnt)
+lit-calls t = (eat-reads.Asked, eat-reads.Learnt, name-below t, name.Post, ty-below t, ty.Post, before-reads.Asked, before-reads.Learnt, moved-reads.Asked, moved-reads.Learnt, literal-reads.Asked, literal-reads.Learnt)
 
 abbrev pub loc-fn-calls : ℕ → loc-fn-lts.Claims
-loc-fn-calls t = (name-below t, name.Post, here-reads.Asked, here-reads.Learnt, moved-reads.Asked, moved-reads.Learnt, put-reads.Asked, put-reads.Learnt, items-below t, items.Post, refused-reads.Asked, refused-reads.Learnt, given-reads.Asked, given-reads.Learnt)
+loc-fn-calls t = (name-below t, name.Post, eat-reads.Asked, eat-reads.Learnt, put-reads.Asked, put-reads.Learnt, items-below t, items.Post, refused-reads.Asked, refused-reads.Learnt, given-reads.Asked, given-reads.Learnt)
 
 abbrev pub local-name-calls : ℕ → local-name-lts.Claims
-local-name-calls t = (here-reads.Asked, here-reads.Learnt, moved-reads.Asked, moved-reads.Learnt, loc-fn-below t, loc-fn.Post, put-reads.Asked, put-reads.Learnt, given-reads.Asked, given-reads.Learnt, name-below t, name.Post)
+local-name-calls t = (eat-reads.Asked, eat-reads.Learnt, loc-fn-below t, loc-fn.Post, put-reads.Asked, put-reads.Learnt, given-reads.Asked, given-reads.Learnt, name-below t, name.Post)
 
 abbrev pub member-calls : ℕ → member-lts.Claims
 member-calls t = (ty-below t, ty.Post, wrap-member-reads.Asked, wrap-member-reads.Learnt)
@@ -444,19 +446,19 @@ abbrev pub name-calls : ℕ → name-lts.Claims
 name-calls t = (enter-reads.Asked, enter-reads.Learnt, name-inner-below t, name-inner.Post, leave-reads.Asked, leave-reads.Learnt)
 
 abbrev pub name-inner-calls : ℕ → name-inner-lts.Claims
-name-inner-calls t = (peek-reads.Asked, peek-reads.Learnt, nested-name-below t, nested-name.Post, at-s-below t, at-s.Post, moved-reads.Asked, moved-reads.Learnt, name-below t, name.Post, local-name-below t, local-name.Post, plain-below t, plain.Post)
+name-inner-calls t = (take-reads.Asked, take-reads.Learnt, nested-name-below t, nested-name.Post, at-s-below t, at-s.Post, name-below t, name.Post, local-name-below t, local-name.Post, plain-below t, plain.Post)
 
 abbrev pub nest-ty-calls : ℕ → nest-ty-lts.Claims
 nest-ty-calls t = (nested-name-below t, nested-name.Post, newest-entry-reads.Asked, newest-entry-reads.Learnt, recorded-reads.Asked, recorded-reads.Learnt)
 
 abbrev pub nested-name-calls : ℕ → nested-name-lts.Claims
-nested-name-calls t = (here-reads.Asked, here-reads.Learnt, qualifiers-reads.Asked, qualifiers-reads.Learnt, moved-reads.Asked, moved-reads.Learnt, peek-reads.Asked, peek-reads.Learnt, with-cv-reads.Asked, with-cv-reads.Learnt, with-templated-reads.Asked, with-templated-reads.Learnt, given-reads.Asked, given-reads.Learnt, px-below t, px.Post, unprefixed-reads.Asked, unprefixed-reads.Learnt)
+nested-name-calls t = (eat-reads.Asked, eat-reads.Learnt, qualifiers-reads.Asked, qualifiers-reads.Learnt, moved-reads.Asked, moved-reads.Learnt, take-reads.Asked, take-reads.Learnt, with-cv-reads.Asked, with-cv-reads.Learnt, with-templated-reads.Asked, with-templated-reads.Learnt, given-reads.Asked, given-reads.Learnt, px-below t, px.Post, unprefixed-reads.Asked, unprefixed-reads.Learnt)
 
 abbrev pub operator-calls : ℕ → operator-lts.Claims
 operator-calls t = (moved-reads.Asked, moved-reads.Learnt, operator-name-reads.Asked, operator-name-reads.Learnt, word-reads.Asked, word-reads.Learnt, put-reads.Asked, put-reads.Learnt, ty-below t, ty.Post, with-templated-reads.Asked, with-templated-reads.Learnt, given-reads.Asked, given-reads.Learnt)
 
 abbrev pub pack-calls : ℕ → pack-lts.Claims
-pack-calls t = (peek-reads.Asked, peek-reads.Learnt, moved-reads.Asked, moved-reads.Learnt, pack-ends-reads.Asked, pack-ends-reads.Learnt, joined-size-reads.Asked, joined-size-reads.Learnt, given-reads.Asked, given-reads.Learnt, sum-reads.Asked, sum-reads.Learnt, comma-reads.Asked, comma-reads.Learnt, pack-opens-reads.Asked, pack-opens-reads.Learnt, arg-below t, arg.Post)
+pack-calls t = (take-reads.Asked, take-reads.Learnt, pack-ends-reads.Asked, pack-ends-reads.Learnt, joined-size-reads.Asked, joined-size-reads.Learnt, given-reads.Asked, given-reads.Learnt, sum-reads.Asked, sum-reads.Learnt, pack-opens-reads.Asked, pack-opens-reads.Learnt, comma-reads.Asked, comma-reads.Learnt, arg-below t, arg.Post)
 
 abbrev pub part-calls : ℕ → part-lts.Claims
 part-calls t = (template-param-reads.Asked, template-param-reads.Learnt, digit-ahead-reads.Asked, digit-ahead-reads.Learnt, source-name-reads.Asked, source-name-reads.Learnt, unq-below t, unq.Post)
@@ -481,10 +483,8 @@ ty-calls t = (enter-reads.Asked, enter-reads.Learnt, ty-inner-below t, ty-inner.
 
 abbrev pub ty-inner-calls : ℕ → ty-inner-lts.Claims
 ty-inner-calls t = (
-  peek-reads.Asked,
-  peek-reads.Learnt,
-  moved-reads.Asked,
-  moved-reads.Learnt,
+  take-reads.Asked,
+  take-reads.Learnt,
   builtin-reads.Asked,
   builtin-reads.Learnt,
   word-reads.Asked,
@@ -512,7 +512,7 @@ ty-inner-calls t = (
 )
 
 abbrev pub unq-calls : ℕ → unq-lts.Claims
-unq-calls t = (behind-reads.Asked, behind-reads.Learnt, moved-reads.Asked, moved-reads.Learnt, peek-reads.Asked, peek-reads.Learnt, put-reads.Asked, put-reads.Learnt, unnamed-type-name-reads.Asked, unnamed-type-name-reads.Learnt, source-name-reads.Asked, source-name-reads.Learnt, operator-below t, operator.Post)
+unq-calls t = (behind-reads.Asked, behind-reads.Learnt, moved-reads.Asked, moved-reads.Learnt, take-reads.Asked, take-reads.Learnt, put-reads.Asked, put-reads.Learnt, unnamed-type-name-reads.Asked, unnamed-type-name-reads.Learnt, source-name-reads.Asked, source-name-reads.Learnt, operator-below t, operator.Post)
 
 abbrev pub wrap-calls : ℕ → wrap-lts.Claims
 wrap-calls t = (ty-below t, ty.Post, wrap-reads.Asked, wrap-reads.Learnt)

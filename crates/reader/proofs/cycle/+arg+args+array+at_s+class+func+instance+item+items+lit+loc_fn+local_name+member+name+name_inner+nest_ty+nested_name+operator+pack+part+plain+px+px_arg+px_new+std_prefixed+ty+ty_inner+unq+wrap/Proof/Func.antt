@@ -1,15 +1,18 @@
 -- The answers of `reader::cycle::func`.
 -- Assumes nothing.
-use mathlib.Core.Path.{sym, ap, _∙_}
+use mathlib.Core.Path.{ap, _∙_, _≡_, refl}
 use Prim.Native.Nat.{ℕ}
+use Rattle.grammar.specs.laws.States.{Past, ate, ate-none}
+use mathlib.Core.Bool.{false}
+use lib.ListN.{drop}
+use mathlib.Core.List.{[], _∷_}
+use Rattle.grammar.specs.Text.{starts}
 use borrow.Author.Needs.{needs}
-use borrow.Author.Tests.{not-true, not-false}
 use native.Mathlib.Omega.{arith}
 use Rattle.grammar.specs.Reader.{recorded}
 use Rattle.grammar.specs.declared.state.Parser.{Parser}
 use Rattle.parser.specs.Holds.{refuses}
 use Rattle.parser.specs.laws.Holds.{by, got, refused-on, holds-puts}
-use Rattle.grammar.specs.laws.Places.{starts-inside}
 use Rattle.reader.specs.laws.Closes.{got-list, list-refused, refuses-list, closed-no, closed-yes, ahead-is, behind-is, then-refused, then-ok}
 use Rattle.reader.specs.laws.Standing.{stands-moved, stands-least}
 use Rattle.reader.specs.laws.Funcs.{function-open, function-of, func-stands, func-ended}
@@ -33,7 +36,13 @@ module _ (t : ℕ) where
   before-items c = c .before .before .before .before .before .before
 
   abbrev before-func-end : lts.After-func-end (func-calls t) (func-at t) func.Post → lts.After-items (func-calls t) (func-at t) func.Post
-  before-func-end c = c .before .before .before .before .before .before .before .before .before .before .before .before .before .before .before .before
+  before-func-end c = c .before .before .before .before .before .before .before .before .before .before .before .before .before .before .before .before .before
+
+  past-E : (c : lts.After-next (func-calls t) (func-at t) func.Post) → Past (before-ty (before-got (before-put (before-items (c .before .before .before .before .before .before .before .before .before .before .before .before)))) .args .s .now) (c .before .before .before .before .list .given .0 .0) 69 (c .next .given .0 .0)
+  past-E c = ate _ _ 69 (c .before .before .eat .ensures) (c .next .given .1)
+
+  no-E : (c : lts.After-enum-told3 (func-calls t) (func-at t) func.Post) → starts (drop ((c .before .before .before .before .list .given .0 .0) .at) (before-ty (before-got (before-put (before-items (c .before .before .before .before .before .before .before .before .before .before .before .before)))) .args .s .now)) (69 ∷ []) ≡ false
+  no-E c = ate-none (before-ty (before-got (before-put (before-items (c .before .before .before .before .before .before .before .before .before .before .before .before)))) .args .s .now) (c .before .before .before .before .list .given .0 .0) 69 (c .before .before .eat .ensures) (c .enum-told3 .given .1)
 
 pub ty-requires : (t : ℕ) → lts.Need-ty-requires (func-calls t) (func-at t) func.Post
 ty-requires t c κs =
@@ -110,55 +119,50 @@ returns-2 t c =
     by (function-of σ (g .is) ∙ then-refused _ (then-refused _ (list-refused (c .before .enum-told2 .given .1) (at-items .items .ensures _ (holds-puts (at-put .put .ensures) (g .wrote .holds))))))
     (refuses-list (c .before .enum-told2 .given .1) (c .refused .ensures))
 
-pub here-requires : (t : ℕ) → lts.Need-here-requires (func-calls t) (func-at t) func.Post
-here-requires t c κs = search needs
+pub eat-requires : (t : ℕ) → lts.Need-eat-requires (func-calls t) (func-at t) func.Post
+eat-requires t c κs = search needs
+
+pub enum-known-next : (t : ℕ) → lts.Need-enum-known-next (func-calls t) (func-at t) func.Post
+enum-known-next t c = search needs
+
+pub enum-told-3 : (t : ℕ) → lts.Need-enum-told-3 (func-calls t) (func-at t) func.Post
+enum-told-3 t c = search needs
 
 pub same-length-7 : (t : ℕ) → lts.Need-same-length-7 (func-calls t) (func-at t) func.Post
 same-length-7 t c =
-    let at-items = c .before .before .before .before .before .before .before .before .before .before .before in let at-put = before-items t at-items in
+    let at-items = c .before .before .before .before .before .before .before .before .before .before .before .before in let at-put = before-items t at-items in
     let at-got = before-put t at-put in let at-ty = before-got t at-got in
     omega (arith, at-items .items .kept, at-put .put .kept, at-ty .ty .kept)
 
 pub same-length-8 : (t : ℕ) → lts.Need-same-length-8 (func-calls t) (func-at t) func.Post
 same-length-8 t c =
-    let at-items = c .before .before .before .before .before .before .before .before .before .before .before in let at-put = before-items t at-items in
+    let at-items = c .before .before .before .before .before .before .before .before .before .before .before .before in let at-put = before-items t at-items in
     let at-got = before-put t at-put in let at-ty = before-got t at-got in
     omega (arith, at-items .items .kept, at-put .put .kept, at-ty .ty .kept)
 
 pub same-length-9 : (t : ℕ) → lts.Need-same-length-9 (func-calls t) (func-at t) func.Post
 same-length-9 t c =
-    let at-items = c .before .before .before .before .before .before .before .before .before .before .before in let at-put = before-items t at-items in
+    let at-items = c .before .before .before .before .before .before .before .before .before .before .before .before in let at-put = before-items t at-items in
     let at-got = before-put t at-put in let at-ty = before-got t at-got in
     omega (arith, at-items .items .kept, at-put .put .kept, at-ty .ty .kept)
 
 pub returns-3 : (t : ℕ) → lts.Need-returns-3 (func-calls t) (func-at t) func.Post
 returns-3 t c =
-    let at-items = c .before .before .before .before .before .before .before .before .before .before .before in let at-put = before-items t at-items in
+    let at-items = c .before .before .before .before .before .before .before .before .before .before .before .before in let at-put = before-items t at-items in
     let at-got = before-put t at-put in let at-ty = before-got t at-got in
     λ σ h.
     let g = got (at-got .got .given .1) (at-ty .ty .ensures _ h) in
-    let w = got-list (c .before .before .before .list .given .1) (at-items .items .ensures _ (holds-puts (at-put .put .ensures) (g .wrote .holds))) in
-    by (function-of σ (g .is) ∙ then-refused _ (closed-no (w .is) (ahead-is _ _ _ (w .stands .holds .rest) (c .before .here .ensures) (not-true _ (c .if1 .taken))))) refuses
-
-pub add-moved : (t : ℕ) → lts.Need-add-moved (func-calls t) (func-at t) func.Post
-add-moved t c =
-    let at-items = c .before .before .before .before .before .before .before .before .before .before .before in let at-put = before-items t at-items in
-    let at-got = before-put t at-put in let at-ty = before-got t at-got in let at-start = before-ty t at-ty in
-    let g = got (at-got .got .given .1) (at-ty .ty .ensures _ (at-start .pre .1 .1)) in
-    let w = got-list (c .before .before .before .list .given .1) (at-items .items .ensures _ (holds-puts (at-put .put .ensures) (g .wrote .holds))) in
-    omega (arith, starts-inside (at-start .args .s .now) (c .before .before .before .list .given .0 .0 .at) 69 (sym (c .before .here .ensures) ∙ not-false _ (c .if1 .left)), w .stands .holds .source)
-
-pub moved-requires : (t : ℕ) → lts.Need-moved-requires (func-calls t) (func-at t) func.Post
-moved-requires t c κs = search needs
+    let w = got-list (c .before .before .before .before .list .given .1) (at-items .items .ensures _ (holds-puts (at-put .put .ensures) (g .wrote .holds))) in
+    by (function-of σ (g .is) ∙ then-refused _ (closed-no (w .is) (ahead-is _ _ _ (w .stands .holds .rest) refl (no-E t c)))) refuses
 
 pub func-end-requires : (t : ℕ) → lts.Need-func-end-requires (func-calls t) (func-at t) func.Post
 func-end-requires t c κs =
-    let at-items = c .before .before .before .before .before .before .before .before .before .before .before .before .before .before .before in
+    let at-items = c .before .before .before .before .before .before .before .before .before .before .before .before .before .before .before .before in
     let at-put = before-items t at-items in let at-got = before-put t at-put in let at-ty = before-got t at-got in let at-start = before-ty t at-ty in
     let g = got (at-got .got .given .1) (at-ty .ty .ensures _ (at-start .pre .1 .1)) in
-    let w = got-list (c .before .before .before .before .before .before .before .list .given .1) (at-items .items .ensures _ (holds-puts (at-put .put .ensures) (g .wrote .holds))) in
-    let i = starts-inside (at-start .args .s .now) (c .before .before .before .before .before .before .before .list .given .0 .0 .at) 69 (sym (c .before .before .before .before .before .here .ensures) ∙ not-false _ (c .before .before .before .before .if1 .left)) in
-    let v = stands-moved _ (c .before .before .before .moved .ensures) (func-stands (g .wrote) (at-put .put .ensures) (at-start .pre .1 .1 .deep) (w .stands)) (omega arith) (omega (arith, i)) in
+    let w = got-list (c .before .before .before .before .before .before .before .before .list .given .1) (at-items .items .ensures _ (holds-puts (at-put .put .ensures) (g .wrote .holds))) in
+    let i = past-E t (c .before .before .before .before) .inside in
+    let v = stands-moved _ (past-E t (c .before .before .before .before) .next) (func-stands (g .wrote) (at-put .put .ensures) (at-start .pre .1 .1 .deep) (w .stands)) (omega arith) (omega (arith, i)) in
     ((_, (_, v .holds)), (omega (arith, g .wrote .size, g .wrote .short), (omega (arith, w .stands .size), omega (arith, stands-least v))))
 
 pub same-length-10 : (t : ℕ) → lts.Need-same-length-10 (func-calls t) (func-at t) func.Post
@@ -185,13 +189,11 @@ returns-4 t c =
     let at-got = before-put t at-put in let at-ty = before-got t at-got in let at-start = before-ty t at-ty in
     λ σ h.
     let g = got (at-got .got .given .1) (at-ty .ty .ensures _ h) in
-    let w = got-list (at-func-end .before .before .before .before .before .before .before .before .list .given .1) (at-items .items .ensures _ (holds-puts (at-put .put .ensures) (g .wrote .holds))) in
-    let i = starts-inside (at-start .args .s .now) (at-func-end .before .before .before .before .before .before .before .before .list .given .0 .0 .at) 69
-    (sym (at-func-end .before .before .before .before .before .before .here .ensures) ∙ not-false _ (at-func-end .before .before .before .before .before .if1 .left)) in
+    let w = got-list (at-func-end .before .before .before .before .before .before .before .before .before .list .given .1) (at-items .items .ensures _ (holds-puts (at-put .put .ensures) (g .wrote .holds))) in
+    let i = past-E t (at-func-end .before .before .before .before .before) .inside in
     by (function-of σ (g .is) ∙ then-ok _
-    (closed-yes (w .is) (ahead-is _ _ _ (w .stands .holds .rest) (at-func-end .before .before .before .before .before .before .here .ensures)
-    (not-false _ (at-func-end .before .before .before .before .before .if1 .left)))) ∙ ap (recorded _)
-    (behind-is (at-start .args .s .now) (at-func-end .before .before .before .before .before .before .before .before .list .given .0 .0 .at) (w .state) (w .stands .holds .rest)))
+    (closed-yes (w .is) (ahead-is _ _ _ (w .stands .holds .rest) refl (past-E t (at-func-end .before .before .before .before .before) .ahead))) ∙ ap (recorded _)
+    (behind-is (at-start .args .s .now) (at-func-end .before .before .before .before .before .before .before .before .before .list .given .0 .0 .at) (w .state) (w .stands .holds .rest)))
     (func-ended (g .said) (w .texts) (at-func-end .func-end .ensures)
-    (stands-moved _ (at-func-end .before .before .before .before .moved .ensures) (func-stands (g .wrote) (at-put .put .ensures) (h .deep) (w .stands)) (omega arith)
+    (stands-moved _ (past-E t (at-func-end .before .before .before .before .before) .next) (func-stands (g .wrote) (at-put .put .ensures) (h .deep) (w .stands)) (omega arith)
     (omega (arith, i))) (g .wrote .size) (w .stands .size) (w .count-is))

@@ -1,14 +1,18 @@
 -- The answers of `reader::cycle::lit`: L, and an underscore and a name, or a type and a value up to an E.
 -- Assumes nothing.
-use mathlib.Core.Path.{sym, ap, _∙_}
-use borrow.Author.Tests.{not-true, not-false}
+use mathlib.Core.Path.{sym, ap, _∙_, _≡_}
 use Rattle.grammar.specs.declared.state.Parser.{Parser}
 use Rattle.parser.specs.Holds.{refuses}
 use Rattle.parser.specs.laws.Holds.{by}
-use Rattle.grammar.specs.laws.Places.{starts-inside}
 use Rattle.reader.specs.laws.Lits.{lit-none, lit-name-ready, lit-name-refused, lit-name-E, lit-name-open, lit-type-ready, lit-type-refused, lit-type-got}
 use Rattle.reader.specs.laws.Lits.{lit-open, lit-ready, lit-given}
-use Prim.Native.Nat.{ℕ}
+use Prim.Native.Nat.{ℕ, _+_}
+use mathlib.Core.Bool.{true, false}
+use mathlib.Core.List.{[], _∷_}
+use lib.ListN.{drop}
+use Rattle.grammar.specs.Text.{starts}
+use Rattle.grammar.specs.laws.States.{Past, ate, ate-none}
+use Rattle.grammar.specs.States.{moved-to}
 use borrow.Author.Needs.{needs}
 use native.Mathlib.Omega.{arith}
 use Rattle.reader.proofs.cycle.lit.Reads as lit
@@ -18,58 +22,86 @@ use Rattle.reader.proofs.cycle.+arg+args+array+at_s+class+func+instance
 
 -- Stages: places that later facts cite. Each function goes from one to the one before it.
 module _ (t : ℕ) where
-  abbrev before-here2 : lts.After-here2 (lit-calls t) (lit-at t) lit.Post → lts.Start (lit-calls t) (lit-at t) lit.Post
-  before-here2 c = c .before .before .before .before .before .before .before
+  abbrev before-behind : lts.After-behind (lit-calls t) (lit-at t) lit.Post → lts.Start (lit-calls t) (lit-at t) lit.Post
+  before-behind c = c .before .before .before .before .before .before .before
 
-  abbrev before-then2 : lts.Then2 (lit-calls t) (lit-at t) lit.Post → lts.After-here2 (lit-calls t) (lit-at t) lit.Post
-  before-then2 c = c .before
+  abbrev before-mangled : lts.After-mangled (lit-calls t) (lit-at t) lit.Post → lts.After-behind (lit-calls t) (lit-at t) lit.Post
+  before-mangled c = c .before .before .before .before
 
-  abbrev before-else2 : lts.Else2 (lit-calls t) (lit-at t) lit.Post → lts.After-here2 (lit-calls t) (lit-at t) lit.Post
-  before-else2 c = c .before
+  abbrev before-type : lts.After-enum-told4 (lit-calls t) (lit-at t) lit.Post → lts.After-behind (lit-calls t) (lit-at t) lit.Post
+  before-type c = c .before .before .before .before
 
-  abbrev before-name : lts.After-name (lit-calls t) (lit-at t) lit.Post → lts.Then2 (lit-calls t) (lit-at t) lit.Post
+  abbrev before-name : lts.After-name (lit-calls t) (lit-at t) lit.Post → lts.After-mangled (lit-calls t) (lit-at t) lit.Post
   before-name c = c .before .before .before .before .before
 
-  abbrev before-ty : lts.After-ty (lit-calls t) (lit-at t) lit.Post → lts.Else2 (lit-calls t) (lit-at t) lit.Post
-  before-ty c = c .before .before .before .before .before
+  abbrev before-ty : lts.After-ty (lit-calls t) (lit-at t) lit.Post → lts.After-enum-told4 (lit-calls t) (lit-at t) lit.Post
+  before-ty c = c .before .before .before .before
 
-pub here-requires : (t : ℕ) → lts.Need-here-requires (lit-calls t) (lit-at t) lit.Post
-here-requires t c κs = search needs
+  past-L : (c : lts.After-behind (lit-calls t) (lit-at t) lit.Post) → Past (c .before .before .before .before .before .before .before .args .s .now) (c .before .before .before .before .before .before .before .args .p) 76 (c .behind .given .0 .0)
+  past-L c = ate _ _ 76 (c .before .before .eat .ensures) (c .behind .given .1)
+
+  -- _ behind L
+  past-mangled : (c : lts.After-mangled (lit-calls t) (lit-at t) lit.Post) → Past (c .before .before .before .before .before .before .before .before .before .before .before .args .s .now) (c .before .before .before .before .behind .given .0 .0) 95 (c .mangled .given .0 .0)
+  past-mangled c = ate _ _ 95 (c .before .before .eat2 .ensures) (c .mangled .given .1)
+
+  mangled-ahead : (c : lts.After-mangled (lit-calls t) (lit-at t) lit.Post) → starts (drop (c .before .before .before .before .before .before .before .before .before .before .before .args .p .at + 1) (c .before .before .before .before .before .before .before .before .before .before .before .args .s .now)) (95 ∷ []) ≡ true
+  mangled-ahead c =
+      ap (λ (i : ℕ). starts (drop i (c .before .before .before .before .before .before .before .before .before .before .before .args .s .now)) (95 ∷ [])) (sym (ap (λ (z : Parser). z .at) (past-L (c .before .before .before .before) .next)))
+      ∙ past-mangled c .ahead
+
+  mangled-next : (c : lts.After-mangled (lit-calls t) (lit-at t) lit.Post) → c .mangled .given .0 .0 ≡ moved-to (c .before .before .before .before .before .before .before .before .before .before .before .args .p) (c .before .before .before .before .before .before .before .before .before .before .before .args .p .at + 1 + 1)
+  mangled-next c = past-mangled c .next ∙ ap (λ (z : Parser). moved-to z (z .at + 1)) (past-L (c .before .before .before .before) .next)
+
+  no-mangled : (c : lts.After-enum-told4 (lit-calls t) (lit-at t) lit.Post) → starts (drop (c .before .before .before .before .before .before .before .before .before .before .before .args .p .at + 1) (c .before .before .before .before .before .before .before .before .before .before .before .args .s .now)) (95 ∷ []) ≡ false
+  no-mangled c =
+      ap (λ (i : ℕ). starts (drop i (c .before .before .before .before .before .before .before .before .before .before .before .args .s .now)) (95 ∷ [])) (sym (ap (λ (z : Parser). z .at) (past-L (c .before .before .before .before) .next)))
+      ∙ (ate-none (c .before .before .before .before .before .before .before .before .before .before .before .args .s .now) (c .before .before .before .before .behind .given .0 .0) 95 (c .before .before .eat2 .ensures) (c .enum-told4 .given .1))
+
+  past-E : (c : lts.After-last (lit-calls t) (lit-at t) lit.Post) → Past
+      (c .before .before .before .before .before .before .before .before .before .before .before .before .before .before .before .before .before .before .before .before .before .before .before .before .before .before .before .before .args .s .now) (c .before .before .before .before .got .given .0 .0) 69 (c .last .given .0 .0)
+  past-E c = ate _ _ 69 (c .before .before .eat3 .ensures) (c .last .given .1)
+
+  no-E : (c : lts.After-enum-told3 (lit-calls t) (lit-at t) lit.Post) → starts (drop (c .before .before .before .before .got .given .0 .0 .at)
+      (c .before .before .before .before .before .before .before .before .before .before .before .before .before .before .before .before .before .before .before .before .before .before .before .before .before .before .before .before .args .s .now)) (69 ∷ []) ≡ false
+  no-E c = ate-none (c .before .before .before .before .before .before .before .before .before .before .before .before .before .before .before .before .before .before .before .before .before .before .before .before .before .before .before .before .args .s .now) (c .before .before .before .before .got .given .0 .0) 69 (c .before .before .eat3 .ensures) (c .enum-told3 .given .1)
+
+pub eat-requires : (t : ℕ) → lts.Need-eat-requires (lit-calls t) (lit-at t) lit.Post
+eat-requires t c κs = search needs
+
+pub enum-known-behind : (t : ℕ) → lts.Need-enum-known-behind (lit-calls t) (lit-at t) lit.Post
+enum-known-behind t c = search needs
+
+pub enum-told : (t : ℕ) → lts.Need-enum-told (lit-calls t) (lit-at t) lit.Post
+enum-told t c = search needs
 
 pub returns : (t : ℕ) → lts.Need-returns (lit-calls t) (lit-at t) lit.Post
 returns t c =
-    let at-start = c .before .before .before .before .before .before in
-    λ σ h. by (lit-none (at-start .args .s .now) (at-start .args .p .at) σ (h .rest) (sym (c .before .here .ensures) ∙ not-true _ (c .if1 .taken))) refuses
+    let at-start = c .before .before .before .before .before .before .before in
+    λ σ h. by (lit-none (at-start .args .s .now) (at-start .args .p .at) σ (h .rest) (ate-none (at-start .args .s .now) (at-start .args .p) 76 (c .before .before .eat .ensures) (c .enum-told .given .1))) refuses
 
-pub add-at : (t : ℕ) → lts.Need-add-at (lit-calls t) (lit-at t) lit.Post
-add-at t c = search needs
+pub eat-requires-2 : (t : ℕ) → lts.Need-eat-requires-2 (lit-calls t) (lit-at t) lit.Post
+eat-requires-2 t c κs = search needs
 
-pub here-requires-2 : (t : ℕ) → lts.Need-here-requires-2 (lit-calls t) (lit-at t) lit.Post
-here-requires-2 t c κs = search needs
-
-pub add-moved : (t : ℕ) → lts.Need-add-moved (lit-calls t) (lit-at t) lit.Post
-add-moved t c = search needs
-
-pub moved-requires : (t : ℕ) → lts.Need-moved-requires (lit-calls t) (lit-at t) lit.Post
-moved-requires t c κs = search needs
+pub enum-known-mangled : (t : ℕ) → lts.Need-enum-known-mangled (lit-calls t) (lit-at t) lit.Post
+enum-known-mangled t c = search needs
 
 pub name-requires : (t : ℕ) → lts.Need-name-requires (lit-calls t) (lit-at t) lit.Post
 name-requires t c κs =
-    let at-then2 = c .before .before .before .before in let at-here2 = before-then2 t at-then2 in
-    let at-start = before-here2 t at-here2 in (
-      omega (arith, at-start .pre .0, ap (λ (z : Parser). z .at) (c .moved .ensures)),
+    let at-mangled = c .before .before .before .before in let at-behind = before-mangled t at-mangled in
+    let at-start = before-behind t at-behind in (
+      omega (arith, at-start .pre .0, ap (λ (z : Parser). z .at) (mangled-next t (c .before .before .before .before))),
       (
         _,
-        lit-name-ready (at-start .pre .1 .1) (sym (at-here2 .before .before .here .ensures) ∙ not-false _ (at-here2 .before .if1 .left))
-            (sym (at-here2 .here2 .ensures) ∙ c .before .before .before .before .if2 .taken) (c .moved .ensures),
+        lit-name-ready (at-start .pre .1 .1) (past-L t at-behind .ahead)
+            (mangled-ahead t (c .before .before .before .before)) (mangled-next t (c .before .before .before .before)),
       ),
     )
 
 pub enum-known-got : (t : ℕ) → lts.Need-enum-known-got (lit-calls t) (lit-at t) lit.Post
 enum-known-got t c = search needs
 
-pub enum-told : (t : ℕ) → lts.Need-enum-told (lit-calls t) (lit-at t) lit.Post
-enum-told t c = search needs
+pub enum-told-2 : (t : ℕ) → lts.Need-enum-told-2 (lit-calls t) (lit-at t) lit.Post
+enum-told-2 t c = search needs
 
 pub same-length : (t : ℕ) → lts.Need-same-length (lit-calls t) (lit-at t) lit.Post
 same-length t c = search needs
@@ -82,20 +114,17 @@ same-length-3 t c = search needs
 
 pub returns-2 : (t : ℕ) → lts.Need-returns-2 (lit-calls t) (lit-at t) lit.Post
 returns-2 t c =
-    let at-name = c .before .before .before .before .before .before .before .before in let at-then2 = before-name t at-name in let at-here2 = before-then2 t at-then2 in
-    λ σ h. lit-name-refused h (sym (at-here2 .before .before .here .ensures) ∙ not-false _ (at-here2 .before .if1 .left)) (sym (at-here2 .here2 .ensures) ∙ at-then2 .if2 .taken) (at-name .before .moved .ensures) (at-name .name .ensures) (c .enum-told .given .1)
+    let at-name = c .before .before .before .before .before .before .before .before in let at-mangled = before-name t at-name in let at-behind = before-mangled t at-mangled in
+    λ σ h. lit-name-refused h (past-L t at-behind .ahead) (mangled-ahead t at-mangled) (mangled-next t (at-name .before .before .before .before .before)) (at-name .name .ensures) (c .enum-told2 .given .1)
 
-pub here-requires-3 : (t : ℕ) → lts.Need-here-requires-3 (lit-calls t) (lit-at t) lit.Post
-here-requires-3 t c κs = search needs
+pub eat-requires-3 : (t : ℕ) → lts.Need-eat-requires-3 (lit-calls t) (lit-at t) lit.Post
+eat-requires-3 t c κs = search needs
 
-pub add-moved-2 : (t : ℕ) → lts.Need-add-moved-2 (lit-calls t) (lit-at t) lit.Post
-add-moved-2 t c =
-    let at-name = c .before .before .before .before .before .before .before .before .before .before .before in let at-then2 = before-name t at-name in
-    let at-here2 = before-then2 t at-then2 in let at-start = before-here2 t at-here2 in
-    omega (arith, starts-inside (at-start .args .s .now) (c .before .before .before .got .given .0 .0 .at) 69 (sym (c .before .here3 .ensures) ∙ c .if3 .taken), at-start .pre .1 .1 .source)
+pub enum-known-last : (t : ℕ) → lts.Need-enum-known-last (lit-calls t) (lit-at t) lit.Post
+enum-known-last t c = search needs
 
-pub moved-requires-2 : (t : ℕ) → lts.Need-moved-requires-2 (lit-calls t) (lit-at t) lit.Post
-moved-requires-2 t c κs = search needs
+pub enum-told-3 : (t : ℕ) → lts.Need-enum-told-3 (lit-calls t) (lit-at t) lit.Post
+enum-told-3 t c = search needs
 
 pub same-length-4 : (t : ℕ) → lts.Need-same-length-4 (lit-calls t) (lit-at t) lit.Post
 same-length-4 t c = search needs
@@ -108,11 +137,10 @@ same-length-6 t c = search needs
 
 pub returns-3 : (t : ℕ) → lts.Need-returns-3 (lit-calls t) (lit-at t) lit.Post
 returns-3 t c =
-    let at-name = c .before .before .before .before .before .before .before .before .before .before .before .before in let at-then2 = before-name t at-name in
-    let at-here2 = before-then2 t at-then2 in
-    λ σ h. lit-name-E h (sym (at-here2 .before .before .here .ensures) ∙ not-false _ (at-here2 .before .if1 .left)) (sym (at-here2 .here2 .ensures) ∙ at-then2 .if2 .taken)
-    (at-name .before .moved .ensures) (at-name .name .ensures) (c .before .before .before .before .got .given .1) (sym (c .before .before .here3 .ensures) ∙ c .before .if3 .taken)
-    (c .moved2 .ensures)
+    let at-name = c .before .before .before .before .before .before .before .before .before .before .before .before in let at-mangled = before-name t at-name in
+    let at-behind = before-mangled t at-mangled in
+    λ σ h. lit-name-open h (past-L t at-behind .ahead) (mangled-ahead t at-mangled)
+    (mangled-next t (at-name .before .before .before .before .before)) (at-name .name .ensures) (c .before .before .before .before .got .given .1) (no-E t c)
 
 pub same-length-7 : (t : ℕ) → lts.Need-same-length-7 (lit-calls t) (lit-at t) lit.Post
 same-length-7 t c = search needs
@@ -125,31 +153,32 @@ same-length-9 t c = search needs
 
 pub returns-4 : (t : ℕ) → lts.Need-returns-4 (lit-calls t) (lit-at t) lit.Post
 returns-4 t c =
-    let at-name = c .before .before .before .before .before .before .before .before .before .before .before in let at-then2 = before-name t at-name in
-    let at-here2 = before-then2 t at-then2 in
-    λ σ h. lit-name-open h (sym (at-here2 .before .before .here .ensures) ∙ not-false _ (at-here2 .before .if1 .left)) (sym (at-here2 .here2 .ensures) ∙ at-then2 .if2 .taken)
-    (at-name .before .moved .ensures) (at-name .name .ensures) (c .before .before .before .got .given .1) (sym (c .before .here3 .ensures) ∙ c .if3 .left)
+    let at-name = c .before .before .before .before .before .before .before .before .before .before .before .before .before in let at-mangled = before-name t at-name in
+    let at-behind = before-mangled t at-mangled in
+    λ σ h. lit-name-E h (past-L t at-behind .ahead) (mangled-ahead t at-mangled)
+    (mangled-next t (at-name .before .before .before .before .before)) (at-name .name .ensures) (c .before .before .before .before .before .got .given .1) (past-E t (c .before) .ahead)
+    (past-E t (c .before) .next)
 
-pub moved-requires-3 : (t : ℕ) → lts.Need-moved-requires-3 (lit-calls t) (lit-at t) lit.Post
-moved-requires-3 t c κs = search needs
+pub enum-told-4 : (t : ℕ) → lts.Need-enum-told-4 (lit-calls t) (lit-at t) lit.Post
+enum-told-4 t c = search needs
 
 pub ty-requires : (t : ℕ) → lts.Need-ty-requires (lit-calls t) (lit-at t) lit.Post
 ty-requires t c κs =
-    let at-else2 = c .before .before .before .before in let at-here2 = before-else2 t at-else2 in
-    let at-start = before-here2 t at-here2 in (
-      omega (arith, at-start .pre .0, ap (λ (z : Parser). z .at) (c .moved3 .ensures)),
+    let at-type = c .before .before .before in let at-behind = before-type t at-type in
+    let at-start = before-behind t at-behind in (
+      omega (arith, at-start .pre .0, ap (λ (z : Parser). z .at) (past-L t (c .before .before .before .before .before .before .before) .next)),
       (
         _,
-        lit-type-ready (at-start .pre .1 .1) (sym (at-here2 .before .before .here .ensures) ∙ not-false _ (at-here2 .before .if1 .left))
-            (sym (at-here2 .here2 .ensures) ∙ c .before .before .before .before .if2 .left) (c .moved3 .ensures),
+        lit-type-ready (at-start .pre .1 .1) (past-L t at-behind .ahead)
+            (no-mangled t (c .before .before .before)) (past-L t (c .before .before .before .before .before .before .before) .next),
       ),
     )
 
 pub enum-known-got-2 : (t : ℕ) → lts.Need-enum-known-got-2 (lit-calls t) (lit-at t) lit.Post
 enum-known-got-2 t c = search needs
 
-pub enum-told-2 : (t : ℕ) → lts.Need-enum-told-2 (lit-calls t) (lit-at t) lit.Post
-enum-told-2 t c = search needs
+pub enum-told-5 : (t : ℕ) → lts.Need-enum-told-5 (lit-calls t) (lit-at t) lit.Post
+enum-told-5 t c = search needs
 
 pub same-length-10 : (t : ℕ) → lts.Need-same-length-10 (lit-calls t) (lit-at t) lit.Post
 same-length-10 t c = search needs
@@ -162,14 +191,14 @@ same-length-12 t c = search needs
 
 pub returns-5 : (t : ℕ) → lts.Need-returns-5 (lit-calls t) (lit-at t) lit.Post
 returns-5 t c =
-    let at-ty = c .before .before .before .before .before .before .before .before in let at-else2 = before-ty t at-ty in let at-here2 = before-else2 t at-else2 in
-    λ σ h. lit-type-refused h (sym (at-here2 .before .before .here .ensures) ∙ not-false _ (at-here2 .before .if1 .left)) (sym (at-here2 .here2 .ensures) ∙ at-else2 .if2 .left) (at-ty .before .moved3 .ensures) (at-ty .ty .ensures) (c .enum-told2 .given .1)
+    let at-ty = c .before .before .before .before .before .before .before .before in let at-type = before-ty t at-ty in let at-behind = before-type t at-type in
+    λ σ h. lit-type-refused h (past-L t at-behind .ahead) (no-mangled t at-type) (past-L t (at-ty .before .before .before .before .before .before .before .before) .next) (at-ty .ty .ensures) (c .enum-told5 .given .1)
 
 pub before-requires : (t : ℕ) → lts.Need-before-requires (lit-calls t) (lit-at t) lit.Post
 before-requires t c κs =
-    let at-ty = c .before .before .before .before .before .before .before .before .before in let at-else2 = before-ty t at-ty in let at-here2 = before-else2 t at-else2 in
-    let at-start = before-here2 t at-here2 in
-    lit-type-got (at-start .pre .1 .1) (sym (at-here2 .before .before .here .ensures) ∙ not-false _ (at-here2 .before .if1 .left)) (sym (at-here2 .here2 .ensures) ∙ at-else2 .if2 .left) (at-ty .before .moved3 .ensures) (at-ty .ty .ensures) (c .before .got2 .given .1) .wrote .holds .place
+    let at-ty = c .before .before .before .before .before .before .before .before .before in let at-type = before-ty t at-ty in let at-behind = before-type t at-type in
+    let at-start = before-behind t at-behind in
+    lit-type-got (at-start .pre .1 .1) (past-L t at-behind .ahead) (no-mangled t at-type) (past-L t (at-ty .before .before .before .before .before .before .before .before) .next) (at-ty .ty .ensures) (c .before .got2 .given .1) .wrote .holds .place
 
 pub same-length-13 : (t : ℕ) → lts.Need-same-length-13 (lit-calls t) (lit-at t) lit.Post
 same-length-13 t c = search needs
@@ -182,27 +211,27 @@ same-length-15 t c = search needs
 
 pub returns-6 : (t : ℕ) → lts.Need-returns-6 (lit-calls t) (lit-at t) lit.Post
 returns-6 t c =
-    let at-ty = c .before .before .before .before .before .before .before .before .before .before .before in let at-else2 = before-ty t at-ty in
-    let at-here2 = before-else2 t at-else2 in
-    λ σ h. lit-open h (sym (at-here2 .before .before .here .ensures) ∙ not-false _ (at-here2 .before .if1 .left)) (sym (at-here2 .here2 .ensures) ∙ at-else2 .if2 .left)
-    (at-ty .before .moved3 .ensures) (at-ty .ty .ensures) (c .before .before .before .got2 .given .1) (c .before .before2 .ensures) (c .if4 .taken)
+    let at-ty = c .before .before .before .before .before .before .before .before .before .before .before in let at-type = before-ty t at-ty in
+    let at-behind = before-type t at-type in
+    λ σ h. lit-open h (past-L t at-behind .ahead) (no-mangled t at-type)
+    (past-L t (at-ty .before .before .before .before .before .before .before .before) .next) (at-ty .ty .ensures) (c .before .before .before .got2 .given .1) (c .before .before2 .ensures) (c .if1 .taken)
 
-pub add-moved-3 : (t : ℕ) → lts.Need-add-moved-3 (lit-calls t) (lit-at t) lit.Post
-add-moved-3 t c =
-    let at-ty = c .before .before .before .before .before .before .before .before .before .before .before .before in let at-else2 = before-ty t at-ty in
-    let at-here2 = before-else2 t at-else2 in let at-start = before-here2 t at-here2 in
-    omega (arith, c .before .if4 .left, at-start .pre .1 .1 .source)
+pub add-moved : (t : ℕ) → lts.Need-add-moved (lit-calls t) (lit-at t) lit.Post
+add-moved t c =
+    let at-ty = c .before .before .before .before .before .before .before .before .before .before .before .before in let at-type = before-ty t at-ty in
+    let at-behind = before-type t at-type in let at-start = before-behind t at-behind in
+    omega (arith, c .before .if1 .left, at-start .pre .1 .1 .source)
 
-pub moved-requires-4 : (t : ℕ) → lts.Need-moved-requires-4 (lit-calls t) (lit-at t) lit.Post
-moved-requires-4 t c κs = search needs
+pub moved-requires : (t : ℕ) → lts.Need-moved-requires (lit-calls t) (lit-at t) lit.Post
+moved-requires t c κs = search needs
 
 pub literal-requires : (t : ℕ) → lts.Need-literal-requires (lit-calls t) (lit-at t) lit.Post
 literal-requires t c κs =
-    let at-ty = c .before .before .before .before .before .before .before .before .before .before .before .before .before in let at-else2 = before-ty t at-ty in
-    let at-here2 = before-else2 t at-else2 in let at-start = before-here2 t at-here2 in
-    lit-ready (at-start .pre .1 .1) (sym (at-here2 .before .before .here .ensures) ∙ not-false _ (at-here2 .before .if1 .left))
-    (sym (at-here2 .here2 .ensures) ∙ at-else2 .if2 .left) (at-ty .before .moved3 .ensures) (at-ty .ty .ensures) (c .before .before .before .before .before .got2 .given .1)
-    (c .before .before .before .before2 .ensures) (c .before .before .if4 .left) (c .moved4 .ensures)
+    let at-ty = c .before .before .before .before .before .before .before .before .before .before .before .before .before in let at-type = before-ty t at-ty in
+    let at-behind = before-type t at-type in let at-start = before-behind t at-behind in
+    lit-ready (at-start .pre .1 .1) (past-L t at-behind .ahead)
+    (no-mangled t at-type) (past-L t (at-ty .before .before .before .before .before .before .before .before) .next) (at-ty .ty .ensures) (c .before .before .before .before .before .got2 .given .1)
+    (c .before .before .before .before2 .ensures) (c .before .before .if1 .left) (c .moved .ensures)
 
 pub same-length-16 : (t : ℕ) → lts.Need-same-length-16 (lit-calls t) (lit-at t) lit.Post
 same-length-16 t c = search needs
@@ -216,8 +245,8 @@ same-length-18 t c = search needs
 pub returns-7 : (t : ℕ) → lts.Need-returns-7 (lit-calls t) (lit-at t) lit.Post
 returns-7 t c =
     let at-ty = c .before .before .before .before .before .before .before .before .before .before .before .before .before .before .before .before in
-    let at-else2 = before-ty t at-ty in let at-here2 = before-else2 t at-else2 in
-    λ σ h. lit-given h (sym (at-here2 .before .before .here .ensures) ∙ not-false _ (at-here2 .before .if1 .left)) (sym (at-here2 .here2 .ensures) ∙ at-else2 .if2 .left)
-    (at-ty .before .moved3 .ensures) (at-ty .ty .ensures) (c .before .before .before .before .before .before .before .before .got2 .given .1)
-    (c .before .before .before .before .before .before .before2 .ensures) (c .before .before .before .before .before .if4 .left) (c .before .before .before .moved4 .ensures)
+    let at-type = before-ty t at-ty in let at-behind = before-type t at-type in
+    λ σ h. lit-given h (past-L t at-behind .ahead) (no-mangled t at-type)
+    (past-L t (at-ty .before .before .before .before .before .before .before .before) .next) (at-ty .ty .ensures) (c .before .before .before .before .before .before .before .before .got2 .given .1)
+    (c .before .before .before .before .before .before .before2 .ensures) (c .before .before .before .before .before .if1 .left) (c .before .before .before .moved .ensures)
     (c .before .before .literal .ensures)

@@ -1,15 +1,17 @@
 -- The answers of `reader::cycle::local_name`: Z, a function's encoding, and s or a name.
 -- Assumes nothing.
-use mathlib.Core.Path.{sym, ap, _∙_}
-use borrow.Author.Tests.{not-true, not-false}
-use Rattle.grammar.specs.Text.{b}
+use mathlib.Core.Path.{ap, _≡_}
+use Rattle.grammar.specs.Text.{b, starts}
 use Rattle.grammar.specs.declared.state.Parser.{Parser}
 use Rattle.parser.specs.Holds.{refuses}
 use Rattle.parser.specs.laws.Holds.{by}
 use Rattle.parser.specs.laws.Adds.{stack-by}
-use Rattle.grammar.specs.laws.Places.{starts-inside}
 use Rattle.reader.specs.laws.Lits.{local-none, local-ready, local-refused, local-got, local-string, local-name-ready, local-name-refused, local-name-got, local-given}
 use Prim.Native.Nat.{ℕ}
+use Rattle.grammar.specs.laws.States.{Past, ate, ate-none}
+use mathlib.Core.Bool.{false}
+use lib.ListN.{drop}
+use mathlib.Core.List.{[], _∷_}
 use borrow.Author.Needs.{needs}
 use native.Mathlib.Omega.{arith}
 use Rattle.reader.proofs.cycle.local_name.Reads as local-name
@@ -19,54 +21,62 @@ use Rattle.reader.proofs.cycle.+arg+args+array+at_s+class+func+instance
 
 -- Stages: places that later facts cite. Each function goes from one to the one before it.
 module _ (t : ℕ) where
-  abbrev before-else1 : lts.Else1 (local-name-calls t) (local-name-at t) local-name.Post → lts.Start (local-name-calls t) (local-name-at t) local-name.Post
-  before-else1 c = c .before .before .before .before .before .before
+  abbrev before-behind : lts.After-behind (local-name-calls t) (local-name-at t) local-name.Post → lts.Start (local-name-calls t) (local-name-at t) local-name.Post
+  before-behind c = c .before .before .before .before .before .before .before
 
-  abbrev before-loc-fn : lts.After-loc-fn (local-name-calls t) (local-name-at t) local-name.Post → lts.Else1 (local-name-calls t) (local-name-at t) local-name.Post
+  abbrev before-loc-fn : lts.After-loc-fn (local-name-calls t) (local-name-at t) local-name.Post → lts.After-behind (local-name-calls t) (local-name-at t) local-name.Post
   before-loc-fn c = c .before .before .before .before .before
 
-  abbrev before-here2 : lts.After-here2 (local-name-calls t) (local-name-at t) local-name.Post → lts.After-loc-fn (local-name-calls t) (local-name-at t) local-name.Post
-  before-here2 c = c .before .before .before .before .before .before .before .before .before .before
+  abbrev before-eat2 : lts.After-eat2 (local-name-calls t) (local-name-at t) local-name.Post → lts.After-loc-fn (local-name-calls t) (local-name-at t) local-name.Post
+  before-eat2 c = c .before .before .before .before .before .before .before .before .before .before
 
-  abbrev before-put2 : lts.After-put2 (local-name-calls t) (local-name-at t) local-name.Post → lts.After-here2 (local-name-calls t) (local-name-at t) local-name.Post
-  before-put2 c = c .before .before .before .before
+  abbrev before-put2 : lts.After-put2 (local-name-calls t) (local-name-at t) local-name.Post → lts.After-eat2 (local-name-calls t) (local-name-at t) local-name.Post
+  before-put2 c = c .before .before .before .before .before
 
   abbrev before-name : lts.After-name (local-name-calls t) (local-name-at t) local-name.Post → lts.After-put2 (local-name-calls t) (local-name-at t) local-name.Post
   before-name c = c .before .before .before .before .before .before
 
-pub here-requires : (t : ℕ) → lts.Need-here-requires (local-name-calls t) (local-name-at t) local-name.Post
-here-requires t c κs = search needs
+  past-Z : (c : lts.After-behind (local-name-calls t) (local-name-at t) local-name.Post) → Past (before-behind c .args .s .now) (before-behind c .args .p) 90 (c .behind .given .0 .0)
+  past-Z c = ate _ _ 90 (c .before .before .eat .ensures) (c .behind .given .1)
+
+  past-s : (c : lts.After-last (local-name-calls t) (local-name-at t) local-name.Post) → Past (before-behind (before-loc-fn (before-eat2 (c .before .before))) .args .s .now) (c .before .before .before .before .got .given .0 .0) 115 (c .last .given .0 .0)
+  past-s c = ate _ _ 115 (c .before .before .eat2 .ensures) (c .last .given .1)
+
+  no-s : (c : lts.After-enum-told3 (local-name-calls t) (local-name-at t) local-name.Post) → starts (drop ((c .before .before .before .before .got .given .0 .0) .at) (before-behind (before-loc-fn (before-eat2 (c .before .before))) .args .s .now)) (115 ∷ []) ≡ false
+  no-s c = ate-none (before-behind (before-loc-fn (before-eat2 (c .before .before))) .args .s .now) (c .before .before .before .before .got .given .0 .0) 115 (c .before .before .eat2 .ensures) (c .enum-told3 .given .1)
+
+pub eat-requires : (t : ℕ) → lts.Need-eat-requires (local-name-calls t) (local-name-at t) local-name.Post
+eat-requires t c κs = search needs
+
+pub enum-known-behind : (t : ℕ) → lts.Need-enum-known-behind (local-name-calls t) (local-name-at t) local-name.Post
+enum-known-behind t c = search needs
+
+pub enum-told : (t : ℕ) → lts.Need-enum-told (local-name-calls t) (local-name-at t) local-name.Post
+enum-told t c = search needs
 
 pub returns : (t : ℕ) → lts.Need-returns (local-name-calls t) (local-name-at t) local-name.Post
 returns t c =
-    let at-start = c .before .before .before .before .before .before in
-    λ σ h. by (local-none (at-start .args .s .now) (at-start .args .p .at) σ (h .rest) (sym (c .before .here .ensures) ∙ not-true _ (c .if1 .taken))) refuses
-
-pub add-moved : (t : ℕ) → lts.Need-add-moved (local-name-calls t) (local-name-at t) local-name.Post
-add-moved t c = search needs
-
-pub moved-requires : (t : ℕ) → lts.Need-moved-requires (local-name-calls t) (local-name-at t) local-name.Post
-moved-requires t c κs = search needs
+    let at-start = c .before .before .before .before .before .before .before in
+    λ σ h. by (local-none (at-start .args .s .now) (at-start .args .p .at) σ (h .rest) (ate-none (at-start .args .s .now) (at-start .args .p) 90 (c .before .before .eat .ensures) (c .enum-told .given .1))) refuses
 
 pub loc-fn-requires : (t : ℕ) → lts.Need-loc-fn-requires (local-name-calls t) (local-name-at t) local-name.Post
 loc-fn-requires t c κs =
-    let at-else1 = c .before .before .before .before in
-    let at-start = before-else1 t at-else1 in (
+    let at-behind = c .before .before .before .before in
+    let at-start = before-behind t at-behind in (
       omega (
         arith,
         at-start .pre .0,
-        ap (λ (z : Parser). z .at) (c .moved .ensures),
-        starts-inside (at-start .args .s .now) (at-start .args .p .at) 90
-            (sym (at-else1 .before .here .ensures) ∙ not-false _ (c .before .before .before .before .if1 .left)),
+        ap (λ (z : Parser). z .at) (past-Z t (c .before .before .before .before) .next),
+        past-Z t (c .before .before .before .before) .inside,
       ),
-      (_, local-ready (at-start .pre .1 .1) (sym (at-else1 .before .here .ensures) ∙ not-false _ (c .before .before .before .before .if1 .left)) (c .moved .ensures)),
+      (_, local-ready (at-start .pre .1 .1) (past-Z t (c .before .before .before .before) .ahead) (past-Z t (c .before .before .before .before) .next)),
     )
 
 pub enum-known-got : (t : ℕ) → lts.Need-enum-known-got (local-name-calls t) (local-name-at t) local-name.Post
 enum-known-got t c = search needs
 
-pub enum-told : (t : ℕ) → lts.Need-enum-told (local-name-calls t) (local-name-at t) local-name.Post
-enum-told t c = search needs
+pub enum-told-2 : (t : ℕ) → lts.Need-enum-told-2 (local-name-calls t) (local-name-at t) local-name.Post
+enum-told-2 t c = search needs
 
 pub same-length : (t : ℕ) → lts.Need-same-length (local-name-calls t) (local-name-at t) local-name.Post
 same-length t c = search needs
@@ -79,19 +89,14 @@ same-length-3 t c = search needs
 
 pub returns-2 : (t : ℕ) → lts.Need-returns-2 (local-name-calls t) (local-name-at t) local-name.Post
 returns-2 t c =
-    let at-loc-fn = c .before .before .before .before .before .before .before .before in let at-else1 = before-loc-fn t at-loc-fn in
-    λ σ h. local-refused h (sym (at-else1 .before .here .ensures) ∙ not-false _ (at-else1 .if1 .left)) (at-loc-fn .before .moved .ensures) (at-loc-fn .loc-fn .ensures) (c .enum-told .given .1)
+    let at-loc-fn = c .before .before .before .before .before .before .before .before in let at-behind = before-loc-fn t at-loc-fn in
+    λ σ h. local-refused h (past-Z t at-behind .ahead) (past-Z t (at-loc-fn .before .before .before .before .before) .next) (at-loc-fn .loc-fn .ensures) (c .enum-told2 .given .1)
 
-pub here-requires-2 : (t : ℕ) → lts.Need-here-requires-2 (local-name-calls t) (local-name-at t) local-name.Post
-here-requires-2 t c κs = search needs
+pub eat-requires-2 : (t : ℕ) → lts.Need-eat-requires-2 (local-name-calls t) (local-name-at t) local-name.Post
+eat-requires-2 t c κs = search needs
 
-pub add-moved-2 : (t : ℕ) → lts.Need-add-moved-2 (local-name-calls t) (local-name-at t) local-name.Post
-add-moved-2 t c =
-    let at-here2 = c .before .before in let at-loc-fn = before-here2 t at-here2 in let at-else1 = before-loc-fn t at-loc-fn in let at-start = before-else1 t at-else1 in
-    omega (arith, starts-inside (at-start .args .s .now) (c .before .before .before .before .got .given .0 .0 .at) 115 (sym (c .before .before .here2 .ensures) ∙ c .before .if2 .taken), at-start .pre .1 .1 .source)
-
-pub moved-requires-2 : (t : ℕ) → lts.Need-moved-requires-2 (local-name-calls t) (local-name-at t) local-name.Post
-moved-requires-2 t c κs = search needs
+pub enum-known-last : (t : ℕ) → lts.Need-enum-known-last (local-name-calls t) (local-name-at t) local-name.Post
+enum-known-last t c = search needs
 
 pub slice-aggregate-put : (t : ℕ) → lts.Need-slice-aggregate-put (local-name-calls t) (local-name-at t) local-name.Post
 slice-aggregate-put t c = search needs
@@ -99,15 +104,15 @@ slice-aggregate-put t c = search needs
 pub put-requires : (t : ℕ) → lts.Need-put-requires (local-name-calls t) (local-name-at t) local-name.Post
 unfolding b
 put-requires t c κs =
-    let at-here2 = c .before .before .before .before in let at-loc-fn = before-here2 t at-here2 in let at-else1 = before-loc-fn t at-loc-fn in
-    let at-start = before-else1 t at-else1 in
-    (stack-by (c .before .moved2 .ensures) (local-got (at-start .pre .1 .1) (sym (at-else1 .before .here .ensures) ∙ not-false _ (at-else1 .if1 .left)) (at-loc-fn .before .moved .ensures) (at-loc-fn .loc-fn .ensures) (at-here2 .before .before .got .given .1) .wrote .holds .text), omega arith)
+    let at-eat2 = c .before .before .before .before .before in let at-loc-fn = before-eat2 t at-eat2 in let at-behind = before-loc-fn t at-loc-fn in
+    let at-start = before-behind t at-behind in
+    (stack-by (past-s t (c .before .before .before) .next) (local-got (at-start .pre .1 .1) (past-Z t at-behind .ahead) (past-Z t (at-loc-fn .before .before .before .before .before) .next) (at-loc-fn .loc-fn .ensures) (at-eat2 .before .before .got .given .1) .wrote .holds .text), omega arith)
 
 pub add-given : (t : ℕ) → lts.Need-add-given (local-name-calls t) (local-name-at t) local-name.Post
 add-given t c =
-    let at-here2 = c .before .before .before .before .before .before .before in let at-loc-fn = before-here2 t at-here2 in let at-else1 = before-loc-fn t at-loc-fn in
-    let at-start = before-else1 t at-else1 in
-    let w = local-got (at-start .pre .1 .1) (sym (at-else1 .before .here .ensures) ∙ not-false _ (at-else1 .if1 .left)) (at-loc-fn .before .moved .ensures) (at-loc-fn .loc-fn .ensures) (at-here2 .before .before .got .given .1) .wrote in
+    let at-eat2 = c .before .before .before .before .before .before .before .before in let at-loc-fn = before-eat2 t at-eat2 in let at-behind = before-loc-fn t at-loc-fn in
+    let at-start = before-behind t at-behind in
+    let w = local-got (at-start .pre .1 .1) (past-Z t at-behind .ahead) (past-Z t (at-loc-fn .before .before .before .before .before) .next) (at-loc-fn .loc-fn .ensures) (at-eat2 .before .before .got .given .1) .wrote in
     omega (arith, w .size, w .short)
 
 pub given-requires : (t : ℕ) → lts.Need-given-requires (local-name-calls t) (local-name-at t) local-name.Post
@@ -115,12 +120,12 @@ given-requires t c κs = search needs
 
 pub same-length-4 : (t : ℕ) → lts.Need-same-length-4 (local-name-calls t) (local-name-at t) local-name.Post
 same-length-4 t c =
-    let at-here2 = c .before .before .before .before .before .before .before .before in let at-loc-fn = before-here2 t at-here2 in
+    let at-eat2 = c .before .before .before .before .before .before .before .before .before in let at-loc-fn = before-eat2 t at-eat2 in
     omega (arith, c .before .before .before .put .kept, at-loc-fn .loc-fn .kept)
 
 pub same-length-5 : (t : ℕ) → lts.Need-same-length-5 (local-name-calls t) (local-name-at t) local-name.Post
 same-length-5 t c =
-    let at-here2 = c .before .before .before .before .before .before .before .before in let at-loc-fn = before-here2 t at-here2 in
+    let at-eat2 = c .before .before .before .before .before .before .before .before .before in let at-loc-fn = before-eat2 t at-eat2 in
     omega (arith, at-loc-fn .loc-fn .kept)
 
 pub same-length-6 : (t : ℕ) → lts.Need-same-length-6 (local-name-calls t) (local-name-at t) local-name.Post
@@ -129,10 +134,13 @@ same-length-6 t c = search needs
 pub returns-3 : (t : ℕ) → lts.Need-returns-3 (local-name-calls t) (local-name-at t) local-name.Post
 unfolding b
 returns-3 t c =
-    let at-here2 = c .before .before .before .before .before .before .before .before in let at-loc-fn = before-here2 t at-here2 in let at-else1 = before-loc-fn t at-loc-fn in
-    λ σ h. local-string h (sym (at-else1 .before .here .ensures) ∙ not-false _ (at-else1 .if1 .left)) (at-loc-fn .before .moved .ensures) (at-loc-fn .loc-fn .ensures)
-    (at-here2 .before .before .got .given .1) (sym (at-here2 .here2 .ensures) ∙ c .before .before .before .before .before .before .before .if2 .taken)
-    (c .before .before .before .before .before .moved2 .ensures) (c .before .before .before .put .ensures) (c .given .ensures)
+    let at-eat2 = c .before .before .before .before .before .before .before .before .before in let at-loc-fn = before-eat2 t at-eat2 in let at-behind = before-loc-fn t at-loc-fn in
+    λ σ h. local-string h (past-Z t at-behind .ahead) (past-Z t (at-loc-fn .before .before .before .before .before) .next) (at-loc-fn .loc-fn .ensures)
+    (at-eat2 .before .before .got .given .1) (past-s t (c .before .before .before .before .before .before .before) .ahead)
+    (past-s t (c .before .before .before .before .before .before .before) .next) (c .before .before .before .put .ensures) (c .given .ensures)
+
+pub enum-told-3 : (t : ℕ) → lts.Need-enum-told-3 (local-name-calls t) (local-name-at t) local-name.Post
+enum-told-3 t c = search needs
 
 pub slice-aggregate-put-2 : (t : ℕ) → lts.Need-slice-aggregate-put-2 (local-name-calls t) (local-name-at t) local-name.Post
 slice-aggregate-put-2 t c = search needs
@@ -140,75 +148,75 @@ slice-aggregate-put-2 t c = search needs
 pub put-requires-2 : (t : ℕ) → lts.Need-put-requires-2 (local-name-calls t) (local-name-at t) local-name.Post
 unfolding b
 put-requires-2 t c κs =
-    let at-here2 = c .before .before .before in let at-loc-fn = before-here2 t at-here2 in let at-else1 = before-loc-fn t at-loc-fn in let at-start = before-else1 t at-else1 in
-    (local-got (at-start .pre .1 .1) (sym (at-else1 .before .here .ensures) ∙ not-false _ (at-else1 .if1 .left)) (at-loc-fn .before .moved .ensures) (at-loc-fn .loc-fn .ensures) (at-here2 .before .before .got .given .1) .wrote .holds .text, omega arith)
+    let at-eat2 = c .before .before .before .before in let at-loc-fn = before-eat2 t at-eat2 in let at-behind = before-loc-fn t at-loc-fn in let at-start = before-behind t at-behind in
+    (local-got (at-start .pre .1 .1) (past-Z t at-behind .ahead) (past-Z t (at-loc-fn .before .before .before .before .before) .next) (at-loc-fn .loc-fn .ensures) (at-eat2 .before .before .got .given .1) .wrote .holds .text, omega arith)
 
 pub name-requires : (t : ℕ) → lts.Need-name-requires (local-name-calls t) (local-name-at t) local-name.Post
 unfolding b
 name-requires t c κs =
-    let at-put2 = c .before .before .before .before .before in let at-here2 = before-put2 t at-put2 in let at-loc-fn = before-here2 t at-here2 in
-    let at-else1 = before-loc-fn t at-loc-fn in let at-start = before-else1 t at-else1 in
-    let y = local-got (at-start .pre .1 .1) (sym (at-else1 .before .here .ensures) ∙ not-false _ (at-else1 .if1 .left)) (at-loc-fn .before .moved .ensures) (at-loc-fn .loc-fn .ensures) (at-here2 .before .before .got .given .1) .wrote in (
+    let at-put2 = c .before .before .before .before .before in let at-eat2 = before-put2 t at-put2 in let at-loc-fn = before-eat2 t at-eat2 in
+    let at-behind = before-loc-fn t at-loc-fn in let at-start = before-behind t at-behind in
+    let y = local-got (at-start .pre .1 .1) (past-Z t at-behind .ahead) (past-Z t (at-loc-fn .before .before .before .before .before) .next) (at-loc-fn .loc-fn .ensures) (at-eat2 .before .before .got .given .1) .wrote in (
       omega (arith, at-start .pre .0, ap (λ (z : Parser). z .at) (at-put2 .put2 .ensures .same), y .more, y .holds .place),
       (
         _,
-        local-name-ready (at-start .pre .1 .1) (sym (at-else1 .before .here .ensures) ∙ not-false _ (at-else1 .if1 .left)) (at-loc-fn .before .moved .ensures)
-            (at-loc-fn .loc-fn .ensures) (at-here2 .before .before .got .given .1) (sym (at-here2 .here2 .ensures) ∙ at-put2 .before .before .before .if2 .left) (at-put2 .put2 .ensures),
+        local-name-ready (at-start .pre .1 .1) (past-Z t at-behind .ahead) (past-Z t (at-loc-fn .before .before .before .before .before) .next)
+            (at-loc-fn .loc-fn .ensures) (at-eat2 .before .before .got .given .1) (no-s t (at-put2 .before .before .before)) (at-put2 .put2 .ensures),
       ),
     )
 
 pub enum-known-inner : (t : ℕ) → lts.Need-enum-known-inner (local-name-calls t) (local-name-at t) local-name.Post
 enum-known-inner t c = search needs
 
-pub enum-told-2 : (t : ℕ) → lts.Need-enum-told-2 (local-name-calls t) (local-name-at t) local-name.Post
-enum-told-2 t c = search needs
+pub enum-told-4 : (t : ℕ) → lts.Need-enum-told-4 (local-name-calls t) (local-name-at t) local-name.Post
+enum-told-4 t c = search needs
 
 pub same-length-7 : (t : ℕ) → lts.Need-same-length-7 (local-name-calls t) (local-name-at t) local-name.Post
 same-length-7 t c =
-    let at-name = c .before .before .before .before .before .before .before .before in let at-put2 = before-name t at-name in let at-here2 = before-put2 t at-put2 in
-    let at-loc-fn = before-here2 t at-here2 in
+    let at-name = c .before .before .before .before .before .before .before .before in let at-put2 = before-name t at-name in let at-eat2 = before-put2 t at-put2 in
+    let at-loc-fn = before-eat2 t at-eat2 in
     omega (arith, at-name .name .kept, at-put2 .put2 .kept, at-loc-fn .loc-fn .kept)
 
 pub same-length-8 : (t : ℕ) → lts.Need-same-length-8 (local-name-calls t) (local-name-at t) local-name.Post
 same-length-8 t c =
-    let at-name = c .before .before .before .before .before .before .before .before in let at-put2 = before-name t at-name in let at-here2 = before-put2 t at-put2 in
-    let at-loc-fn = before-here2 t at-here2 in
+    let at-name = c .before .before .before .before .before .before .before .before in let at-put2 = before-name t at-name in let at-eat2 = before-put2 t at-put2 in
+    let at-loc-fn = before-eat2 t at-eat2 in
     omega (arith, at-name .name .kept, at-loc-fn .loc-fn .kept)
 
 pub same-length-9 : (t : ℕ) → lts.Need-same-length-9 (local-name-calls t) (local-name-at t) local-name.Post
 same-length-9 t c =
-    let at-name = c .before .before .before .before .before .before .before .before in let at-put2 = before-name t at-name in let at-here2 = before-put2 t at-put2 in
-    let at-loc-fn = before-here2 t at-here2 in
+    let at-name = c .before .before .before .before .before .before .before .before in let at-put2 = before-name t at-name in let at-eat2 = before-put2 t at-put2 in
+    let at-loc-fn = before-eat2 t at-eat2 in
     omega (arith, at-name .name .kept, at-loc-fn .loc-fn .kept)
 
 pub returns-4 : (t : ℕ) → lts.Need-returns-4 (local-name-calls t) (local-name-at t) local-name.Post
 unfolding b
 returns-4 t c =
-    let at-name = c .before .before .before .before .before .before .before .before in let at-put2 = before-name t at-name in let at-here2 = before-put2 t at-put2 in
-    let at-loc-fn = before-here2 t at-here2 in let at-else1 = before-loc-fn t at-loc-fn in
-    λ σ h. local-name-refused h (sym (at-else1 .before .here .ensures) ∙ not-false _ (at-else1 .if1 .left)) (at-loc-fn .before .moved .ensures) (at-loc-fn .loc-fn .ensures)
-    (at-here2 .before .before .got .given .1) (sym (at-here2 .here2 .ensures) ∙ at-put2 .before .before .before .if2 .left) (at-put2 .put2 .ensures) (at-name .name .ensures)
-    (c .enum-told2 .given .1)
+    let at-name = c .before .before .before .before .before .before .before .before in let at-put2 = before-name t at-name in let at-eat2 = before-put2 t at-put2 in
+    let at-loc-fn = before-eat2 t at-eat2 in let at-behind = before-loc-fn t at-loc-fn in
+    λ σ h. local-name-refused h (past-Z t at-behind .ahead) (past-Z t (at-loc-fn .before .before .before .before .before) .next) (at-loc-fn .loc-fn .ensures)
+    (at-eat2 .before .before .got .given .1) (no-s t (at-put2 .before .before .before)) (at-put2 .put2 .ensures) (at-name .name .ensures)
+    (c .enum-told4 .given .1)
 
 pub add-given-2 : (t : ℕ) → lts.Need-add-given-2 (local-name-calls t) (local-name-at t) local-name.Post
 unfolding b
 add-given-2 t c =
-    let at-name = c .before .before .before .before .before .before .before .before .before in let at-put2 = before-name t at-name in let at-here2 = before-put2 t at-put2 in
-    let at-loc-fn = before-here2 t at-here2 in let at-else1 = before-loc-fn t at-loc-fn in let at-start = before-else1 t at-else1 in
-    let y = local-got (at-start .pre .1 .1) (sym (at-else1 .before .here .ensures) ∙ not-false _ (at-else1 .if1 .left)) (at-loc-fn .before .moved .ensures) (at-loc-fn .loc-fn .ensures) (at-here2 .before .before .got .given .1) .wrote in
-    let z = local-name-got (at-start .pre .1 .1) (sym (at-else1 .before .here .ensures) ∙ not-false _ (at-else1 .if1 .left)) (at-loc-fn .before .moved .ensures)
-    (at-loc-fn .loc-fn .ensures) (at-here2 .before .before .got .given .1) (sym (at-here2 .here2 .ensures) ∙ at-put2 .before .before .before .if2 .left) (at-put2 .put2 .ensures)
+    let at-name = c .before .before .before .before .before .before .before .before .before in let at-put2 = before-name t at-name in let at-eat2 = before-put2 t at-put2 in
+    let at-loc-fn = before-eat2 t at-eat2 in let at-behind = before-loc-fn t at-loc-fn in let at-start = before-behind t at-behind in
+    let y = local-got (at-start .pre .1 .1) (past-Z t at-behind .ahead) (past-Z t (at-loc-fn .before .before .before .before .before) .next) (at-loc-fn .loc-fn .ensures) (at-eat2 .before .before .got .given .1) .wrote in
+    let z = local-name-got (at-start .pre .1 .1) (past-Z t at-behind .ahead) (past-Z t (at-loc-fn .before .before .before .before .before) .next)
+    (at-loc-fn .loc-fn .ensures) (at-eat2 .before .before .got .given .1) (no-s t (at-put2 .before .before .before)) (at-put2 .put2 .ensures)
     (at-name .name .ensures) (c .before .inner .given .1) .wrote in
     omega (arith, y .size, y .short, z .size, z .short)
 
 pub add-given-3 : (t : ℕ) → lts.Need-add-given-3 (local-name-calls t) (local-name-at t) local-name.Post
 unfolding b
 add-given-3 t c =
-    let at-name = c .before .before .before .before .before .before .before .before .before in let at-put2 = before-name t at-name in let at-here2 = before-put2 t at-put2 in
-    let at-loc-fn = before-here2 t at-here2 in let at-else1 = before-loc-fn t at-loc-fn in let at-start = before-else1 t at-else1 in
-    let y = local-got (at-start .pre .1 .1) (sym (at-else1 .before .here .ensures) ∙ not-false _ (at-else1 .if1 .left)) (at-loc-fn .before .moved .ensures) (at-loc-fn .loc-fn .ensures) (at-here2 .before .before .got .given .1) .wrote in
-    let z = local-name-got (at-start .pre .1 .1) (sym (at-else1 .before .here .ensures) ∙ not-false _ (at-else1 .if1 .left)) (at-loc-fn .before .moved .ensures)
-    (at-loc-fn .loc-fn .ensures) (at-here2 .before .before .got .given .1) (sym (at-here2 .here2 .ensures) ∙ at-put2 .before .before .before .if2 .left) (at-put2 .put2 .ensures)
+    let at-name = c .before .before .before .before .before .before .before .before .before in let at-put2 = before-name t at-name in let at-eat2 = before-put2 t at-put2 in
+    let at-loc-fn = before-eat2 t at-eat2 in let at-behind = before-loc-fn t at-loc-fn in let at-start = before-behind t at-behind in
+    let y = local-got (at-start .pre .1 .1) (past-Z t at-behind .ahead) (past-Z t (at-loc-fn .before .before .before .before .before) .next) (at-loc-fn .loc-fn .ensures) (at-eat2 .before .before .got .given .1) .wrote in
+    let z = local-name-got (at-start .pre .1 .1) (past-Z t at-behind .ahead) (past-Z t (at-loc-fn .before .before .before .before .before) .next)
+    (at-loc-fn .loc-fn .ensures) (at-eat2 .before .before .got .given .1) (no-s t (at-put2 .before .before .before)) (at-put2 .put2 .ensures)
     (at-name .name .ensures) (c .before .inner .given .1) .wrote in
     omega (arith, y .size, y .short, z .size, z .short)
 
@@ -218,26 +226,26 @@ given-requires-2 t c κs = search needs
 pub same-length-10 : (t : ℕ) → lts.Need-same-length-10 (local-name-calls t) (local-name-at t) local-name.Post
 same-length-10 t c =
     let at-name = c .before .before .before .before .before .before .before .before .before .before in let at-put2 = before-name t at-name in
-    let at-here2 = before-put2 t at-put2 in let at-loc-fn = before-here2 t at-here2 in
+    let at-eat2 = before-put2 t at-put2 in let at-loc-fn = before-eat2 t at-eat2 in
     omega (arith, at-name .name .kept, at-put2 .put2 .kept, at-loc-fn .loc-fn .kept)
 
 pub same-length-11 : (t : ℕ) → lts.Need-same-length-11 (local-name-calls t) (local-name-at t) local-name.Post
 same-length-11 t c =
     let at-name = c .before .before .before .before .before .before .before .before .before .before in let at-put2 = before-name t at-name in
-    let at-here2 = before-put2 t at-put2 in let at-loc-fn = before-here2 t at-here2 in
+    let at-eat2 = before-put2 t at-put2 in let at-loc-fn = before-eat2 t at-eat2 in
     omega (arith, at-name .name .kept, at-loc-fn .loc-fn .kept)
 
 pub same-length-12 : (t : ℕ) → lts.Need-same-length-12 (local-name-calls t) (local-name-at t) local-name.Post
 same-length-12 t c =
     let at-name = c .before .before .before .before .before .before .before .before .before .before in let at-put2 = before-name t at-name in
-    let at-here2 = before-put2 t at-put2 in let at-loc-fn = before-here2 t at-here2 in
+    let at-eat2 = before-put2 t at-put2 in let at-loc-fn = before-eat2 t at-eat2 in
     omega (arith, at-name .name .kept, at-loc-fn .loc-fn .kept)
 
 pub returns-5 : (t : ℕ) → lts.Need-returns-5 (local-name-calls t) (local-name-at t) local-name.Post
 unfolding b
 returns-5 t c =
     let at-name = c .before .before .before .before .before .before .before .before .before .before in let at-put2 = before-name t at-name in
-    let at-here2 = before-put2 t at-put2 in let at-loc-fn = before-here2 t at-here2 in let at-else1 = before-loc-fn t at-loc-fn in
-    λ σ h. local-given h (sym (at-else1 .before .here .ensures) ∙ not-false _ (at-else1 .if1 .left)) (at-loc-fn .before .moved .ensures) (at-loc-fn .loc-fn .ensures)
-    (at-here2 .before .before .got .given .1) (sym (at-here2 .here2 .ensures) ∙ at-put2 .before .before .before .if2 .left) (at-put2 .put2 .ensures) (at-name .name .ensures)
+    let at-eat2 = before-put2 t at-put2 in let at-loc-fn = before-eat2 t at-eat2 in let at-behind = before-loc-fn t at-loc-fn in
+    λ σ h. local-given h (past-Z t at-behind .ahead) (past-Z t (at-loc-fn .before .before .before .before .before) .next) (at-loc-fn .loc-fn .ensures)
+    (at-eat2 .before .before .got .given .1) (no-s t (at-put2 .before .before .before)) (at-put2 .put2 .ensures) (at-name .name .ensures)
     (c .before .before .inner .given .1) (c .given2 .ensures)

@@ -9,6 +9,10 @@ use Rattle.parser.specs.laws.Adds.{ready-moved}
 use Rattle.reader.specs.laws.Opens.{at-of, call-moved}
 use Rattle.reader.specs.laws.Arrays.{byte-at, byte-is, byte-inside, no-byte, no-name-code}
 use mathlib.Core.List.{[]}
+use Rattle.grammar.specs.laws.States.{Past, took, took-none}
+use mathlib.Core.Path.{_≡_, refl, ap}
+use lib.ListN.{drop}
+use Rattle.grammar.specs.States.{peeked}
 use borrow.Author.Needs.{needs}
 use native.Mathlib.Omega.{arith}
 use Rattle.reader.proofs.cycle.name_inner.Reads as name-inner
@@ -21,8 +25,14 @@ module _ (t : ℕ) where
   abbrev before-c : lts.After-c (name-inner-calls t) (name-inner-at t) name-inner.Post → lts.Start (name-inner-calls t) (name-inner-at t) name-inner.Post
   before-c c = c .before .before .before .before .before .before .before
 
-pub peek-requires : (t : ℕ) → lts.Need-peek-requires (name-inner-calls t) (name-inner-at t) name-inner.Post
-peek-requires t c κs = search needs
+  past-c : (c : lts.After-c (name-inner-calls t) (name-inner-at t) name-inner.Post) → Past (c .before .before .before .before .before .before .before .args .s .now) (c .before .before .before .before .before .before .before .args .p) (c .c .given .0 .0) (c .c .given .0 .1 .0)
+  past-c c = took _ _ (c .before .before .take .ensures) (c .c .given .1)
+
+  no-c : (c : lts.After-enum-told (name-inner-calls t) (name-inner-at t) name-inner.Post) → drop ((c .before .before .before .before .before .before .before .args .p) .at) (c .before .before .before .before .before .before .before .args .s .now) ≡ []
+  no-c c = took-none (c .before .before .before .before .before .before .before .args .s .now) (c .before .before .before .before .before .before .before .args .p) (c .before .before .take .ensures) (c .enum-told .given .1)
+
+pub take-requires : (t : ℕ) → lts.Need-take-requires (name-inner-calls t) (name-inner-at t) name-inner.Post
+take-requires t c κs = search needs
 
 pub enum-known-c : (t : ℕ) → lts.Need-enum-known-c (name-inner-calls t) (name-inner-at t) name-inner.Post
 enum-known-c t c = search needs
@@ -31,7 +41,7 @@ pub enum-told : (t : ℕ) → lts.Need-enum-told (name-inner-calls t) (name-inne
 enum-told t c = search needs
 
 pub returns : (t : ℕ) → lts.Need-returns (name-inner-calls t) (name-inner-at t) name-inner.Post
-returns t c = λ σ h. by (from-text (name-inner reading) σ (no-byte h (c .before .before .peek .ensures) (c .enum-told .given .1)) (name-end [] σ)) refuses
+returns t c = λ σ h. by (from-text (name-inner reading) σ (no-byte h refl (ap peeked (no-c t c))) (name-end [] σ)) refuses
 
 pub nested-name-requires : (t : ℕ) → lts.Need-nested-name-requires (name-inner-calls t) (name-inner-at t) name-inner.Post
 nested-name-requires t c κs =
@@ -43,17 +53,11 @@ at-s-requires t c κs =
     let at-c = c .before .before .before .before .before in let at-start = before-c t at-c in
     (omega (arith, at-start .pre .0), at-start .pre .1)
 
-pub add-moved : (t : ℕ) → lts.Need-add-moved (name-inner-calls t) (name-inner-at t) name-inner.Post
-add-moved t c = search needs
-
-pub moved-requires : (t : ℕ) → lts.Need-moved-requires (name-inner-calls t) (name-inner-at t) name-inner.Post
-moved-requires t c κs = search needs
-
 pub name-requires : (t : ℕ) → lts.Need-name-requires (name-inner-calls t) (name-inner-at t) name-inner.Post
 name-requires t c κs =
-    let at-c = c .before .before .before .before .before .before in let at-start = before-c t at-c in
-    let l = byte-inside (at-start .pre .1 .1) (at-c .before .before .peek .ensures) (at-c .c .given .1) in
-    (omega (arith, at-of (c .moved .ensures), at-start .pre .0, l), ready-moved _ (c .moved .ensures) (at-start .pre .1 .1) (omega (arith, l)))
+    let at-c = c .before .before .before .before .before in let at-start = before-c t at-c in
+    let l = byte-inside (at-start .pre .1 .1) refl (ap peeked (past-c t at-c .there)) in
+    (omega (arith, at-of (past-c t (c .before .before .before .before .before) .next), at-start .pre .0, l), ready-moved _ (past-c t (c .before .before .before .before .before) .next) (at-start .pre .1 .1) (omega (arith, l)))
 
 pub local-name-requires : (t : ℕ) → lts.Need-local-name-requires (name-inner-calls t) (name-inner-at t) name-inner.Post
 local-name-requires t c κs =
@@ -78,7 +82,7 @@ pub returns-2 : (t : ℕ) → lts.Need-returns-2 (name-inner-calls t) (name-inne
 returns-2 t c =
     let at-c = c .before .before .before .before .before .before .before .before .before .before .before .before in
     λ σ h. by (same-from (name-inner reading) (reading ⟨nested-name⟩) σ
-    (byte-is h (at-c .before .before .peek .ensures) 78 (at-c .c .given .1) (c .before .before .before .before .before .before .before .before .before .before .match2 .keys1))
+    (byte-is h refl 78 (ap peeked (past-c t at-c .there)) (c .before .before .before .before .before .before .before .before .before .before .match2 .keys1))
     (name-N _ σ)) (c .before .before .before .before .before .before .nested-name .ensures σ h)
 
 pub same-length-4 : (t : ℕ) → lts.Need-same-length-4 (name-inner-calls t) (name-inner-at t) name-inner.Post
@@ -94,7 +98,7 @@ pub returns-3 : (t : ℕ) → lts.Need-returns-3 (name-inner-calls t) (name-inne
 returns-3 t c =
     let at-c = c .before .before .before .before .before .before .before .before .before .before .before .before in
     λ σ h. by (same-from (name-inner reading) (s-name reading) σ
-    (byte-is h (at-c .before .before .peek .ensures) 83 (at-c .c .given .1) (c .before .before .before .before .before .before .before .before .before .before .match2 .keys2))
+    (byte-is h refl 83 (ap peeked (past-c t at-c .there)) (c .before .before .before .before .before .before .before .before .before .before .match2 .keys2))
     (name-S _ σ)) (c .before .before .before .before .before .before .at-s .ensures σ h)
 
 pub same-length-7 : (t : ℕ) → lts.Need-same-length-7 (name-inner-calls t) (name-inner-at t) name-inner.Post
@@ -108,11 +112,11 @@ same-length-9 t c = search needs
 
 pub returns-4 : (t : ℕ) → lts.Need-returns-4 (name-inner-calls t) (name-inner-at t) name-inner.Post
 returns-4 t c =
-    let at-c = c .before .before .before .before .before .before .before .before .before .before .before .before .before in
+    let at-c = c .before .before .before .before .before .before .before .before .before .before .before .before in
     λ σ h.
-    let l = byte-inside h (at-c .before .before .peek .ensures) (at-c .c .given .1) in
-    by (from-text (name-inner reading) σ (byte-is h (at-c .before .before .peek .ensures) 76 (at-c .c .given .1) (c .before .before .before .before .before .before .before .before .before .before .before .match2 .keys3)) (name-L _ σ))
-    (less (omega arith) (sooner (omega arith) (call-moved (λ d. keep (d + 1)) (c .before .before .before .before .before .before .before .moved .ensures) (c .before .before .before .before .before .before .name .ensures) h (omega (arith, l)))))
+    let l = byte-inside h refl (ap peeked (past-c t at-c .there)) in
+    by (from-text (name-inner reading) σ (byte-is h refl 76 (ap peeked (past-c t at-c .there)) (c .before .before .before .before .before .before .before .before .before .before .match2 .keys3)) (name-L _ σ))
+    (less (omega arith) (sooner (omega arith) (call-moved (λ d. keep (d + 1)) (past-c t (c .before .before .before .before .before .before .before .before .before .before .before .before) .next) (c .before .before .before .before .before .before .name .ensures) h (omega (arith, l)))))
 
 pub same-length-10 : (t : ℕ) → lts.Need-same-length-10 (name-inner-calls t) (name-inner-at t) name-inner.Post
 same-length-10 t c = search needs
@@ -127,7 +131,7 @@ pub returns-5 : (t : ℕ) → lts.Need-returns-5 (name-inner-calls t) (name-inne
 returns-5 t c =
     let at-c = c .before .before .before .before .before .before .before .before .before .before .before .before in
     λ σ h. by (same-from (name-inner reading) (local-name reading) σ
-    (byte-is h (at-c .before .before .peek .ensures) 90 (at-c .c .given .1) (c .before .before .before .before .before .before .before .before .before .before .match2 .keys4))
+    (byte-is h refl 90 (ap peeked (past-c t at-c .there)) (c .before .before .before .before .before .before .before .before .before .before .match2 .keys4))
     (name-Z _ σ)) (c .before .before .before .before .before .before .local-name .ensures σ h)
 
 pub same-length-13 : (t : ℕ) → lts.Need-same-length-13 (name-inner-calls t) (name-inner-at t) name-inner.Post
@@ -142,7 +146,7 @@ same-length-15 t c = search needs
 pub returns-6 : (t : ℕ) → lts.Need-returns-6 (name-inner-calls t) (name-inner-at t) name-inner.Post
 returns-6 t c =
     let at-c = c .before .before .before .before .before .before .before .before .before .before .before .before in
-    λ σ h. by (same-from (name-inner reading) (unscoped-name reading) σ (byte-at h (at-c .before .before .peek .ensures) (at-c .c .given .1))
+    λ σ h. by (same-from (name-inner reading) (unscoped-name reading) σ (byte-at h refl (ap peeked (past-c t at-c .there)))
     (name-other _ σ _ (no-name-code _ (c .before .before .before .before .before .before .before .before .before .before .match2 .rest .0 .0 .0 .1)
     (c .before .before .before .before .before .before .before .before .before .before .match2 .rest .0 .0 .1)
     (c .before .before .before .before .before .before .before .before .before .before .match2 .rest .0 .1)
