@@ -1,4 +1,4 @@
--- `parser::state::Parser::eat` tells the state behind a byte, if that byte is the next one. Assumes nothing.
+-- `grammar::state::Parser::eat` tells the state behind a byte, if that byte is the next one. Assumes nothing.
 use mathlib.Core.List.{[], _∷_}
 use mathlib.Core.Path.{sym, ap, _∙_}
 use Prim.Native.Nat.{ℕ}

@@ -1,4 +1,4 @@
--- `parser::state::Parser::enter` gives the state one level down, or 8. Assumes nothing.
+-- `grammar::state::Parser::enter` gives the state one level down, or 8. Assumes nothing.
 use native.Mathlib.Omega.{arith}
 use borrow.Author.Needs.{needs}
 use borrow.Author.Tests.{le-ltb, lt-ltb}

@@ -2,6 +2,7 @@
 -- Places: `Opened` (`<` was put), `Listed` (the list was read: `last`, n), `Left` (behind E: next).
 use mathlib.Core.Path.{_≡_, refl, sym, ap, _∙_}
 use Prim.Native.Nat.{ℕ, _+_, _<_, min}
+use Rattle.grammar.specs.Limits.{most-length}
 use Rattle.grammar.specs.declared.state.Parser.{Parser}
 use Rattle.parser.specs.Holds.{Memory, mem, keep, Holds, Stands, refuses}
 use Rattle.parser.specs.laws.Holds.{by, holds-puts}
