@@ -1,13 +1,12 @@
 -- Laws of lines: those of a text in parts, those that are cut, and those of a whole input. Assumes nothing.
 use mathlib.Core.Bool.{Bool, true, false, not}
 use mathlib.Core.List.{List, [], _∷_, _++_, append-assoc}
-use mathlib.Core.Path.{_≡_, refl, sym, ap, ap₂, _∙_, subst}
-use Prim.Native.Nat.{ℕ, zero, suc, _+_, _-_, _≤_, _<_}
+use mathlib.Core.Path.{_≡_, refl, sym, ap, _∙_, subst}
+use Prim.Native.Nat.{ℕ, zero, suc, _+_, _-_, _≤_}
 use native.Mathlib.Omega.{arith}
-use borrow.Author.Tests.{ltb-true, ltb-false, eqb-true}
+use borrow.Author.Tests.{ltb-false, eqb-true}
 use lib.Dec.{eqb, leb, ltb}
-use lib.ListN.{length, take, drop, length-append}
-use lib.Seq.{take-length, take-at}
+use lib.ListN.{length, take}
 use Rattle.grammar.specs.Text.{Text, if_then_else_}
 use Rattle.listing.specs.Listing.{line-feed, listing-line, in-front, lines, bytes-taken, listing, fitting}
 use Rattle.listing.specs.Cut.{cut-lines, column}

@@ -1,5 +1,4 @@
 -- `buffer::add_chunk` meets its contract. Assumes nothing.
-use mathlib.Core.Path.{_∙_}
 use native.Mathlib.Omega.{arith}
 use borrow.Author.Needs.{needs}
 use Rattle.console.specs.laws.Buffer.{adds-end, adds-chunk}

@@ -1,18 +1,14 @@
 -- `output::put_header` meets its contract: the byte string is the header. Assumes nothing.
-use mathlib.Core.Path.{refl, ap, _∙_}
-use Prim.Native.Nat.{ℕ}
-use native.Mathlib.Omega.{arith}
+use mathlib.Core.Path.{refl}
 use borrow.Author.Needs.{needs}
-use lib.ListN.{length, take}
-use lib.Seq.{take-paste}
-use Rattle.grammar.specs.Text.{Text, b}
+use Rattle.grammar.specs.Text.{b}
 use Rattle.console.specs.Output.{header}
 use Rattle.console.proofs.output.put_header.Statement.{statement}
 use Rattle.console.proofs.output.put_header.Tie as tie
 
 returns : tie.Need-returns
 unfolding header b
-returns c = (ap (take 16) (c .before .before .copy .ensures) ∙ refl, omega arith)
+returns c = (c .before .before .copy .ensures, refl)
 
 pub put-header-spec : {M : Type 1} → statement M
 put-header-spec = tie.close (tie.spec (λ c. search needs) (λ c κs. search needs) (λ c. search needs) returns)
