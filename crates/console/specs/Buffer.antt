@@ -1,4 +1,4 @@
--- The input in chunks: what the buffer holds of it, and what was handed out. Assumes nothing.
+-- The input in chunks: what the buffer holds of it, and what was handed over. Assumes nothing.
 use mathlib.Core.Bool.{Bool, true, false}
 use mathlib.Core.List.{[], _∷_, _++_}
 use mathlib.Core.Path.{_≡_}
@@ -58,7 +58,7 @@ pub record Adds (chunk lines lines' : Text) (b r : Buffer) : Type 0 where
 unfoldable pub completed : Bool → Text → Text
 completed ended all = if ended then all ++ closing (column 0 all) else all
 
--- with `all` the input as far as it was read, and `handed` what was handed out: the header and the listing of the lines `done`, each cut to the bytes
+-- with `all` the input as far as it was read, and `handed` what was handed over: the header and the listing of the lines `done`, each cut to the bytes
 -- that are kept. The buffer has the others, and the line without line feed
 pub record Fed (kind : Kind) (all handed l : Text) (b : Buffer) : Type 0 where
   pub done : Text

@@ -1,8 +1,9 @@
 -- What a turn leaves, whatever was read and handed over before it. Assumes nothing.
-use mathlib.Core.Bool.{Bool, true}
+use mathlib.Core.Bool.{Bool, true, _&&_}
 use mathlib.Core.List.{_++_}
 use mathlib.Core.Path.{_≡_}
 use Prim.Native.Nat.{_<_, _≤_}
+use lib.Dec.{eqb}
 use lib.ListN.{length, take}
 use Rattle.grammar.specs.Text.{Text}
 use Rattle.listing.specs.declared.listing.Kind.{Kind}
@@ -16,9 +17,11 @@ abbrev pub GoesOn : Kind → Text → Text → Text → Text → Buffer → Turn
 GoesOn kind chunk out l l' b r =
     (all handed : Text) → Fed kind all handed l b → Fed kind (all ++ take (r .got) chunk) (handed ++ take (r .put) out) l' (r .buffer)
 
+-- the input has ended where a read that did not fail gave no byte
 pub record ReadsOn (chunk l l' : Text) (b : Buffer) (r : Turn) : Type 0 where
   pub fed : (kind : Kind) (out : Text) → GoesOn kind chunk out l l' b r
   pub inside : r .got ≤ length chunk
+  pub ended : r .buffer .ended ≡ (r .«goes_on» && eqb (r .got) 0)
 
 -- what is handed over is the listing of one line at least
 pub record WritesOn (kind : Kind) (l out : Text) (b : Buffer) (r : Turn) : Type 0 where

@@ -4,9 +4,10 @@ use crate::buffer::Turn;
 use grammar::text;
 use listing::listing::Kind;
 use listing::listing::list_lines;
+ghost use mathlib.Core.List.{_++_};
 ghost use mathlib.Core.Path.{_≡_};
 ghost use Prim.Native.Nat.{_≤_, _<_};
-ghost use lib.ListN.{length, take};
+ghost use lib.ListN.{length, drop};
 ghost use Rattle.answer.specs.Told.{slices};
 ghost use Rattle.listing.specs.Listing.{most-line-bytes};
 ghost use Rattle.listing.specs.Kinds.{LongFor};
@@ -17,14 +18,14 @@ ghost use Rattle.console.specs.Turns.{WritesOn};
 // Puts the header into `out`. Returned is its length.
 fn put_header(out: &mut [u8]) -> usize
     requires { ⌜ 16 ≤ length (now out) ⌝ }
-    ensures { λ r. ⌜ (take r (now (out .exit)) ≡ header) × (r ≤ length (now (out .entry))) ⌝ }
+    ensures { λ r. ⌜ (now (out .exit) ≡ header ++ drop 16 (now (out .entry))) × (r ≡ 16) ⌝ }
 {
     let words: &[u8] = b"code,bytes,name\n";
     text::copy(out, 0, words);
     16
 }
 
-// False where the write fails.
+// Writes the first n bytes of `out`. False where the write fails.
 fn write_front(out: &[u8], n: usize) -> bool
     requires { ⌜ n ≤ length (now out) ⌝ }
 {
@@ -35,15 +36,16 @@ fn write_front(out: &[u8], n: usize) -> bool
     false
 }
 
-// Writes the header. False where the write fails.
+// Writes the header, from the front of `out`. False where the write fails.
 pub fn write_header(out: &mut [u8]) -> bool
     requires { ⌜ 16 ≤ length (now out) ⌝ }
+    ensures { λ _. ⌜ now (out .exit) ≡ header ++ drop 16 (now (out .entry)) ⌝ }
 {
     let n = put_header(out);
     write_front(out, n)
 }
 
-// Writes the listing of the first lines in the buffer, as many as fit into `out`.
+// Writes the listing of the first lines in the buffer, as many as fit into `out`, from the front of it.
 pub fn write_some(
     kind: Kind,
     lines: &[u8],

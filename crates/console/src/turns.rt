@@ -46,8 +46,8 @@ fn turn(
     read_some(chunk, lines, buffer)
 }
 
-// Writes the header, and turn by turn the listing of the input. True where all of it is listed. The turns are counted down,
-// from a number that no run uses up, since a proved loop has to end.
+// Writes the header, and turn by turn the listing of the input. True where the listing of all of it was handed over. The
+// turns are counted down, from a number that no run uses up, since a proved loop has to end.
 pub fn list_input(
     kind: Kind,
     chunk: &mut [u8],

@@ -1,4 +1,4 @@
--- Laws of Buffer.antt: the input may be read in any chunks, and its lines handed out in any parts. Assumes nothing.
+-- Laws of Buffer.antt: the input may be read in any chunks, and its lines handed over in any parts. Assumes nothing.
 use mathlib.Core.Bool.{Bool, true, false, _&&_}
 use mathlib.Core.List.{List, [], _∷_, _++_, append-assoc, append-nil}
 use mathlib.Core.Path.{_≡_, refl, sym, ap, ap₂, _∙_, subst}
@@ -25,7 +25,8 @@ use Rattle.console.specs.Output.{header, output}
 use Rattle.console.specs.Buffer.{part, Placed, nothing, closing, Completes, added, Adds, completed, Fed}
 use Rattle.console.specs.Kept.{Keeps}
 use Rattle.console.specs.Turns.{Ends}
-use Rattle.console.specs.laws.Lines.{taken-append, listing-append, fitting-front, lines-append, lines-take, column-append, cut-taken, column-closing, cut-closing, lines-completed, column-completed}
+use Rattle.console.specs.laws.Lines.{taken-append, listing-append, fitting-front, lines-append, lines-take, column-append}
+use Rattle.console.specs.laws.Lines.{cut-taken, column-closing, cut-closing, lines-completed, column-completed}
 use Rattle.console.specs.declared.buffer.Buffer.{Buffer}
 use Rattle.console.specs.declared.lines.Kept.{Kept}
 
@@ -156,7 +157,8 @@ module _ (kind : Kind) (input out : Text) (work : Slices) {out' : Text} {work' :
       let e = fitting-front kind (length out) (lines input) in
       ap (λ (j : ℕ). lines (take j input)) (listed-taken ∙ ap bytes-taken (sym e)) ∙ lines-take input (length (lines-listed kind input out)) ∙ e
 
-module _ (kind : Kind) (l out : Text) (from to : ℕ) (work : Slices) {out' : Text} {work' : Slices} {r : Listed} (m : Lists kind (part l from to) out out' work work' r) (h : from ≤ to) (k : to ≤ length l) where
+module _ (kind : Kind) (l out : Text) (from to : ℕ) (work : Slices) {out' : Text} {work' : Slices} {r : Listed}
+    (m : Lists kind (part l from to) out out' work work' r) (h : from ≤ to) (k : to ≤ length l) where
   pub listed-inside : (from + r .taken ≤ to) × (r .written ≤ length out)
   listed-inside =
       let (a, c) = lists-inside kind (part l from to) out out' work work' r m in
@@ -268,7 +270,7 @@ module _ {kind : Kind} {all handed l : Text} {b : Buffer} (f : Fed kind all hand
       ap bytes-taken e ∙ n
 
   module _ (out : Text) (work : Slices) {out' : Text} {work' : Slices} {r : Listed} (m : Lists kind waiting out out' work work' r) (s : work-sized kind work ≡ true) where
-    -- some of its lines more are handed out
+    -- some of its lines more are handed over
     pub fed-listed : Fed kind all (handed ++ take (r .written) out') l (record { from = b .from + r .taken; start = b .start; end = b .end; ended = b .ended })
     fed-listed =
         let p = f .placed in
@@ -297,7 +299,9 @@ module _ {kind : Kind} {all handed l : Text} {b : Buffer} (f : Fed kind all hand
               ∙ ap (λ (t : Text). header ++ t) (sym (ap (listing kind) e ∙ listing-append kind (lines (f .done)) ss));
           is =
               f .is
-              ∙ ap (λ (t : Text). f .done ++ t) (part-split l (b .from) (b .from + k) (b .end) (omega arith) (omega (arith, within, p .first, p .second)) ∙ ap (λ (t : Text). t ++ part l (b .from + k) (b .end)) c)
+              ∙ ap (λ (t : Text). f .done ++ t)
+              (part-split l (b .from) (b .from + k) (b .end) (omega arith) (omega (arith, within, p .first, p .second))
+              ∙ ap (λ (t : Text). t ++ part l (b .from + k) (b .end)) c)
               ∙ sym (append-assoc (f .done) front (part l (b .from + k) (b .end)));
           last = f .last;
           placed = record { first = omega (arith, within, p .first); second = p .second; inside = p .inside; cut = p .cut };

@@ -1,14 +1,20 @@
 -- `input::read_some` meets its contract. Assumes nothing.
 use mathlib.Core.List.{append-nil}
-use mathlib.Core.Path.{refl, sym}
+use mathlib.Core.Path.{refl, sym, ap, _∙_}
+use Prim.Native.Nat.{ℕ}
 use native.Mathlib.Omega.{arith}
 use borrow.Author.Needs.{needs}
+use lib.Dec.{eqb}
 use Rattle.console.specs.laws.Buffer.{fed-as, fed-chunk}
 use Rattle.console.proofs.input.read_some.Statement.{statement}
 use Rattle.console.proofs.input.read_some.Tie as tie
 
 returns : tie.Need-returns
-returns c = record { fed = λ kind out all handed f. fed-as f (sym (append-nil all)) (sym (append-nil handed)); inside = omega arith }
+returns c = record {
+  fed = λ kind out all handed f. fed-as f (sym (append-nil all)) (sym (append-nil handed));
+  inside = omega arith;
+  ended = c .before .before .before .before .before .before .before .before .before .pre .1 .0;
+}
 
 returns-2 : tie.Need-returns-2
 returns-2 c =
@@ -18,6 +24,7 @@ returns-2 c =
     record {
       fed = λ kind out all handed f. fed-as (fed-chunk f (s .pre .1 .0) (s .pre .1 .1) (a .ensures)) refl (sym (append-nil handed));
       inside = n .ensures .0 .0;
+      ended = a .ensures .ended ∙ ap (λ (j : ℕ). eqb j 0) (sym (n .ensures .0 .1));
     }
 
 pub read-some-spec : {M : Type 1} → statement M

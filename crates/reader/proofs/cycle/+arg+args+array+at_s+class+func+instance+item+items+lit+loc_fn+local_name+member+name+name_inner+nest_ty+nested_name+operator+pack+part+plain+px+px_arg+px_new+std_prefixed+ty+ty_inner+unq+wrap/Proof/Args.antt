@@ -2,7 +2,6 @@
 -- Places: `Opened` (`<` was put), `Listed` (the list was read: `last`, n), `Left` (behind E: next).
 use mathlib.Core.Path.{_≡_, refl, sym, ap, _∙_}
 use Prim.Native.Nat.{ℕ, _+_, _<_, min}
-use Rattle.grammar.specs.Limits.{most-length}
 use Rattle.grammar.specs.declared.state.Parser.{Parser}
 use Rattle.parser.specs.Holds.{Memory, mem, keep, Holds, Stands, refuses}
 use Rattle.parser.specs.laws.Holds.{by, holds-puts}
@@ -12,7 +11,7 @@ use Rattle.parser.specs.laws.Wraps.{stands-puts}
 use mathlib.Core.List.{[], _∷_}
 use lib.ListN.{length, take, drop, length-append}
 use Rattle.grammar.specs.Text.{Text, b, join}
-use Rattle.grammar.specs.Limits.{most-open}
+use Rattle.grammar.specs.Limits.{most-open, most-length}
 use Rattle.grammar.specs.Reader.{State}
 use Rattle.grammar.specs.laws.Agree.{moved}
 use Rattle.grammar.specs.States.{deeper}
