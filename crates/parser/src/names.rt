@@ -20,8 +20,6 @@ use grammar::numbers;
 use grammar::numbers::Number;
 use grammar::state::Eaten;
 use grammar::state::Parser;
-use grammar::state::Parser;
-use grammar::state::Read;
 use grammar::state::Read;
 use grammar::state::Taken;
 use grammar::text::before;

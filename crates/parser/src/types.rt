@@ -19,8 +19,6 @@ use grammar::codes;
 use grammar::codes::Picked;
 use grammar::codes::Word;
 use grammar::state::Parser;
-use grammar::state::Parser;
-use grammar::state::Read;
 use grammar::state::Read;
 use grammar::state::Taken;
 use store::stack;
