@@ -16,7 +16,7 @@ use Rattle.store.specs.laws.Tails.{newest-lent}
 use Rattle.grammar.specs.declared.state.Parser.{Parser}
 use Rattle.grammar.specs.declared.state.Read.{Read}
 use Rattle.grammar.specs.declared.state.Read.the-variants.{Text as read, Refused as unread}
-use Rattle.parser.specs.Holds.{Memory, mem}
+use Rattle.parser.specs.Holds.{Memory, mem, keep}
 use Rattle.answer.specs.declared.Answer.{Answer as Code}
 use Rattle.encoding.specs.Encodings.{Prints, Encodes, encodes, refuses}
 use Rattle.answer.specs.Told.{Tells}
