@@ -3,15 +3,15 @@ use mathlib.Core.Bool.{Bool, _&&_}
 use mathlib.Core.List.{List, [], _++_}
 use mathlib.Core.Path.{_≡_}
 use Prim.Native.Nat.{ℕ, _+_, _≤_}
-use lib.ListN.{length, drop}
+use mathlib.Core.Option.{Option, none, some}
+use lib.ListN.{length, take, drop}
 use Rattle.grammar.specs.Text.{Text, b, choose, same, each, join}
 use Rattle.grammar.specs.Limits.{most-text-bytes, least-text, least-store, least-ends}
 use Rattle.grammar.specs.Tables.{labels}
 use Rattle.grammar.specs.Reader.{State, Result, ok, refused, Reader, onto, give, find}
-use Rattle.grammar.specs.Words.{word-of, Picked-inside}
+use Rattle.grammar.specs.Words.{longest-word, bytes-told}
 use Rattle.grammar.specs.declared.codes.Word.{Word}
-use Rattle.grammar.specs.declared.codes.Picked.{Picked}
-use Rattle.grammar.specs.declared.codes.Picked.the-variants.{At}
+use Rattle.grammar.specs.declared.codes.Word.the-variants.{Bytes, Nothing}
 use Rattle.grammar.specs.Grammar.{reading, ⟨type⟩, qualifier, only-void, bare-function-type}
 use Rattle.store.specs.Stack.{Stack, Tail}
 use Rattle.store.specs.Table.{Entries}
@@ -55,11 +55,16 @@ GoesOn f s m m' p n from to r =
 
 -- ---------------------------------------------------------------- encodings
 
--- the label that stands first in the symbol is the one that the code picks
-pub record Labels (s : Text) (r : Picked) : Type 0 where
-  pub is : (f : Text → Text → Result Text) (x : Result Text) → choose (find labels s) (λ q. f (b (q .0)) (q .1)) x ≡ choose (word-of r) (λ t. f t (drop 2 s)) x
-  pub inside : Picked-inside r
-  pub long : (w : Word) → r ≡ At w → 2 ≤ length s
+-- the word that was told and stands at the front of an array
+unfoldable pub word-in : Text → Word → Option Text
+word-in word (Bytes n) = some (take n word)
+word-in word Nothing = none
+
+-- the label that stands first in the symbol is the one that the code tells, and writes to an array
+pub record Labels (s word : Text) (r : Word) : Type 0 where
+  pub is : (f : Text → Text → Result Text) (x : Result Text) → choose (find labels s) (λ q. f (b (q .0)) (q .1)) x ≡ choose (word-in word r) (λ t. f t (drop 2 s)) x
+  pub fits : bytes-told r ≤ longest-word
+  pub long : (n : ℕ) → r ≡ Bytes n → 2 ≤ length s
 
 -- the state is empty but for the stack of texts
 pub record Fresh (m : Memory) (p : Parser) : Type 0 where

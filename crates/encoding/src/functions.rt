@@ -1,6 +1,6 @@
 // <encoding>: a function or data, with parameters, return type and qualifiers.
 use grammar::codes;
-use grammar::codes::Picked;
+use grammar::codes::Word;
 use grammar::state::Parser;
 use grammar::state::Peeked;
 use grammar::state::Read;
@@ -93,7 +93,7 @@ fn function(
     from: usize,
     to: usize,
 ) -> Read
-    requires { ⌜ (Ready (now s) (mem (now text) (now store) (now ends)) p) × ((n ≤ 32769) × ((from ≤ to) × (to ≤ length (now s)))) ⌝ }
+    requires { ⌜ (Ready (now s) (mem (now text) (now store) (now ends)) p) × ((n ≤ most-text-bytes + 1 + most-text-bytes) × ((from ≤ to) × (to ≤ length (now s)))) ⌝ }
     ensures { λ r. ⌜ GoesOn with-parameters (now (s .entry))
         (mem (now (text .entry)) (now (store .entry)) (now (ends .entry))) (mem (now (text .exit)) (now (store .exit)) (now (ends .exit))) p n from to r ⌝ }
 {
@@ -141,9 +141,10 @@ fn qualified(s: &[u8], text: &mut [u8], p: Parser, n: usize, from: usize, to: us
     let mut size = n;
     let mut at = from;
     while at < to {
-        if let Picked::At(w) = codes::qualifier(s[at]) {
-            next = memory::put_word(text, next, w);
-            size = memory::sum(size, w.to - w.from);
+        let mut word = [0u8; codes::LONGEST];
+        if let Word::Bytes(m) = codes::qualifier(&mut word, s[at]) {
+            next = memory::put_word(text, next, &word, m);
+            size = memory::sum(size, m);
         }
         at += 1;
     }

@@ -1,7 +1,7 @@
 // <encoding>: special names, and GTt and GV with what is behind them read anew.
 use crate::functions;
 use grammar::codes;
-use grammar::codes::Picked;
+use grammar::codes::Word;
 use grammar::state::Parser;
 use grammar::state::Read;
 use grammar::text as bytes;
@@ -52,28 +52,29 @@ fn encoding(s: &[u8], text: &mut [u8], store: &mut [u8], ends: &mut [u16], p: Pa
     if bytes::starts_with(s, 0, b"GV") {
         return guard_variable(s, text, store, ends, p);
     }
-    let Picked::At(w) = label(s) else {
+    let mut word = [0u8; codes::LONGEST];
+    let Word::Bytes(m) = label(&mut word, s) else {
         return functions::function_or_data(s, text, store, ends, p);
     };
-    let labelled = memory::put_word(text, p.moved(2), w);
+    let labelled = memory::put_word(text, p.moved(2), &word, m);
     let got = cycle::ty(s, text, store, ends, labelled);
     let Read::Text(next, n) = got else {
         return got;
     };
-    memory::given(next, n + (w.to - w.from))
+    memory::given(next, n + m)
 }
 
 // What TV, TT, TI and TS print.
-fn label(s: &[u8]) -> Picked
-    ensures { λ r. ⌜ Labels (now (s .entry)) r ⌝ }
+fn label(word: &mut [u8; codes::LONGEST], s: &[u8]) -> Word
+    ensures { λ r. ⌜ Labels (now (s .entry)) (now (word .exit)) r ⌝ }
 {
     if s.len() < 2 {
-        return Picked::Nothing;
+        return Word::Nothing;
     }
     if s[0] != b'T' {
-        return Picked::Nothing;
+        return Word::Nothing;
     }
-    codes::label(s[1])
+    codes::label(word, s[1])
 }
 
 // GV <object name>

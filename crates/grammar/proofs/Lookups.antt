@@ -1,42 +1,37 @@
 -- Laws of a match on a byte of a code, against a table: one for the arms, and one for `_`. Assumes nothing.
-use mathlib.Core.Path.{_≡_, refl, sym, ap, ap₂, _∙_}
+use mathlib.Core.Path.{_≡_, refl, sym, ap, _∙_}
 use mathlib.Core.Bool.{Bool, true, false, not, _&&_, _||_}
 use mathlib.Core.List.{[], _∷_, _++_}
 use mathlib.Core.Option.{Option, none, some}
-use Prim.Native.Nat.{ℕ, _+_, _-_, _≤_}
+use Prim.Native.Nat.{ℕ}
 use native.Mathlib.Omega.{arith}
 use Prim.Native.String.{String}
 use borrow.Author.Tests.{ne-eqb}
-use lib.ListN.{length, take, drop, getD, length-take, length-drop}
-use lib.Seq.{drop-drop}
-use lib.Dec.{T, eqb, leb, leb→le, eqb→eq}
+use lib.ListN.{getD}
+use lib.Dec.{T, eqb, eqb→eq}
 use Rattle.grammar.specs.Text.{Text, b, if_then_else_, choose, same, holds}
 use Rattle.grammar.specs.Tables.{_⇒_, Table, letters, d-letters, operators, labels, abbreviations, qualifiers, wrappers}
 use Rattle.grammar.specs.Reader.{word-for}
-use Rattle.grammar.specs.Words.{halves, behind-type, at-slot, without, laid, words, spelled, word-of, words-end, grouped, Inside, Picks}
+use Rattle.grammar.specs.Words.{halves, behind-type, at-slot, without, told, bytes-told, with-word, Writes, Spells}
 use Rattle.grammar.specs.declared.codes.Word.{Word}
-use Rattle.grammar.specs.declared.codes.Picked.{Picked}
-use Rattle.grammar.specs.declared.codes.Picked.the-variants.{At, Nothing}
+use Rattle.grammar.specs.declared.codes.Word.the-variants.{Nothing}
 use Rattle.grammar.specs.laws.Text.{both, same→eq}
-use Rattle.grammar.proofs.Texts.{part-in-front}
 
--- an arm: the table has the word w for the code, and w lies inside the words. Whoever unfolds this test can compute it.
-unfoldable pub right : Table → Text → Word → Bool
-unfolding if_then_else_ choose b same word-for letters d-letters operators labels abbreviations qualifiers wrappers halves behind-type at-slot without laid words spelled grouped
-right rows code w = choose (word-for rows code) (same (spelled w)) false && (leb (w .from) (w .to) && (leb (w .to) words-end && grouped w))
+-- an arm: the table has the word w for the code. Whoever unfolds this test can compute it.
+unfoldable pub right : Table → Text → Text → Bool
+unfolding if_then_else_ choose b same word-for letters d-letters operators labels abbreviations qualifiers wrappers halves behind-type at-slot without
+right rows code w = choose (word-for rows code) (same w) false
 
 chosen : (s : Text) (o : Option Text) → T (choose o (same s) false) → some s ≡ o
 unfolding choose
 chosen s (some t) h = ap some (same→eq s t h)
 chosen s none h = absurd h
 
-pub found : {rows : Table} {code : Text} {w : Word} → T (right rows code w) → Picks rows code (At w)
-unfolding word-of right
-found {rows} {code} {w} h =
-    let (p, q) = both (choose (word-for rows code) (same (spelled w)) false) (leb (w .from) (w .to) && (leb (w .to) words-end && grouped w)) h in
-    let (l, m) = both (leb (w .from) (w .to)) (leb (w .to) words-end && grouped w) q in
-    let (n, g) = both (leb (w .to) words-end) (grouped w) m in
-    record { is = chosen (spelled w) (word-for rows code) p; inside = (leb→le _ _ l, (leb→le _ _ n, g)) }
+pub found : {rows : Table} {code w word word' : Text} {r : Word} → T (right rows code w) → Writes w word word' r → Spells rows code word word' r
+unfolding right told with-word bytes-told
+found {rows} {code} {w} t h =
+    let e : word-for rows code ≡ some w = sym (chosen w (word-for rows code) t) in
+    record { is = rw e (h .is); written = rw e (h .written); fits = rw (h .is) (h .fits) }
 
 -- what is known in `_`: the byte is none of the arms' bytes
 abbrev also-none : Type 0 → ℕ → Text → Type 0
@@ -90,9 +85,9 @@ module _ (post ks : Text) (c : ℕ) (h : None-of c ks) where
       rw (differs pre (b k) p) (none-for pre rows q)
 
 -- `_`: the code is `pre`, then the byte, then `post`, and no row has it
-pub missing : {rows : Table} (pre post ks : Text) (c : ℕ) → None-of c ks → T (all-barred pre ks rows) → Picks rows (pre ++ (c ∷ post)) Nothing
-unfolding word-of
-missing {rows} pre post ks c h t = record { is = sym (none-for post ks c h pre rows t); inside = tt }
+pub missing : {rows : Table} {word : Text} (pre post ks : Text) (c : ℕ) → None-of c ks → T (all-barred pre ks rows) → Spells rows (pre ++ (c ∷ post)) word word Nothing
+unfolding told with-word bytes-told
+missing {rows} pre post ks c h t = let e = none-for post ks c h pre rows t in record { is = rw e; written = rw e; fits = omega arith }
 
 -- `_` that calls the function for the rows that are left
 module _ (ks : Text) (a : ℕ) (t : Text) (h : None-of a ks) where
@@ -112,33 +107,7 @@ module _ (ks : Text) (a : ℕ) (t : Text) (h : None-of a ks) where
   same-word [] = refl
   same-word ((k ⇒ w) ∷ rows) = one-row (holds (getD (b k) 0 0) ks) k w (without ks rows) rows (other-first (b k)) (same-word rows)
 
-pub skipped : {rows : Table} (ks : Text) {a : ℕ} {t : Text} {r : Picked} → Picks (without ks rows) (a ∷ t) r → None-of a ks → Picks rows (a ∷ t) r
-skipped {rows} ks {a} {t} p h = record { is = p .is ∙ same-word ks a t h rows; inside = p .inside }
-
--- the length of a word
-words-length : length words ≡ words-end
-unfolding right
-words-length = refl
-
-pub length-spelled : (w : Word) → Inside w → length (spelled w) ≡ w .to - w .from
-unfolding spelled
-length-spelled w h = simp (length-take, length-drop, words-length) (omega arith)
-
--- ---------------------------------------------------------------- words from a part of the text
-
-pub in-group : {A : Type 0} (w : Word) → T (grouped w) → (w .to ≤ 261 → A) → (261 ≤ w .from → w .to ≤ 744 → A) → (744 ≤ w .from → w .to ≤ 850 → A) → (850 ≤ w .from → A) → A
-unfolding grouped
-in-group w h f g k l =
-    let two = leb 261 (w .from) && leb (w .to) 744 in
-    let three = leb 744 (w .from) && leb (w .to) 850 in
-    either (leb (w .to) 261) (two || (three || leb 850 (w .from))) (λ t. f (leb→le _ _ t))
-    (λ t. either two (three || leb 850 (w .from)) (λ u. let (x, y) = both (leb 261 (w .from)) (leb (w .to) 744) u in g (leb→le _ _ x) (leb→le _ _ y))
-    (λ u. either three (leb 850 (w .from)) (λ v. let (x, y) = both (leb 744 (w .from)) (leb (w .to) 850) v in k (leb→le _ _ x) (leb→le _ _ y)) (λ v. l (leb→le _ _ v)) u) t) h
-
-pub some-part : (w : Word) (start : ℕ) (u : Text) → u ≡ take (length u) (drop start words) → start ≤ w .from → w .from ≤ w .to → w .to ≤ start + length u
-    → take (w .to - start - (w .from - start)) (drop (w .from - start) u) ≡ spelled w
-unfolding spelled
-some-part w start u e i j k =
-    part-in-front u (drop start words) (w .from - start) (w .to - start - (w .from - start)) e (omega arith)
-    ∙ ap (take (w .to - start - (w .from - start))) (drop-drop (w .from - start) start words)
-    ∙ ap₂ (λ (m n : ℕ). take m (drop n words)) {x = w .to - start - (w .from - start)} {y = w .to - w .from} {u = start + (w .from - start)} {v = w .from} (omega arith) (omega arith)
+pub skipped : {rows : Table} {word word' : Text} {r : Word} (ks : Text) {a : ℕ} {t : Text} → Spells (without ks rows) (a ∷ t) word word' r → None-of a ks → Spells rows (a ∷ t) word word' r
+skipped {rows} {word} ks {a} {t} p h =
+    let e = same-word ks a t h rows in
+    record { is = p .is ∙ ap told e; written = p .written ∙ ap (λ (o : Option Text). with-word o word) e; fits = p .fits }

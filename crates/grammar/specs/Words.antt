@@ -1,18 +1,15 @@
--- The words of the tables in one text, and words as places in it.
-use mathlib.Core.Bool.{Bool, _&&_, _||_}
+-- The words of the tables, as code writes them.
 use mathlib.Core.Path.{_≡_}
 use mathlib.Core.List.{List, [], _∷_, _++_}
 use mathlib.Core.Option.{Option, none, some}
-use Prim.Native.Nat.{ℕ, _-_, _≤_}
+use Prim.Native.Nat.{ℕ, _≤_}
 use Prim.Native.String.{String}
-use lib.Dec.{T, leb}
-use lib.ListN.{take, drop, getD}
+use lib.ListN.{length, drop, getD}
 use Rattle.grammar.specs.Text.{Text, b, if_then_else_, holds}
-use Rattle.grammar.specs.Tables.{Row, _⇒_, Table, letters, d-letters, operators, labels, abbreviations, qualifiers, wrappers}
+use Rattle.grammar.specs.Tables.{Row, _⇒_, Table, wrappers}
 use Rattle.grammar.specs.Reader.{word-for}
 use Rattle.grammar.specs.declared.codes.Word.{Word}
-use Rattle.grammar.specs.declared.codes.Picked.{Picked}
-use Rattle.grammar.specs.declared.codes.Picked.the-variants.{At, Nothing}
+use Rattle.grammar.specs.declared.codes.Word.the-variants.{Bytes, Nothing}
 
 -- what the wrappers put behind a type, and what at a slot
 unfoldable pub halves : (String × String → String) → List (Row (String × String)) → Table
@@ -30,37 +27,32 @@ unfoldable pub without : Text → Table → Table
 without cs [] = []
 without cs ((k ⇒ w) ∷ rows) = if holds (getD (b k) 0 0) cs then without cs rows else (k ⇒ w) ∷ without cs rows
 
--- the words of a table, one after the other
-unfoldable pub laid : Table → Text
-laid [] = []
-laid ((k ⇒ w) ∷ rows) = b w ++ laid rows
+-- the length of the longest word
+abbrev pub longest-word : ℕ
+longest-word = 70
 
-unfoldable pub words : Text
-words = laid letters ++ laid d-letters ++ laid operators ++ laid labels ++ laid qualifiers ++ laid behind-type ++ laid abbreviations
+-- the answer for a word, or for none
+unfoldable pub told : Option Text → Word
+told (some w) = Bytes (length w)
+told none = Nothing
 
--- their length
-abbrev pub words-end : ℕ
-words-end = 1102
+unfoldable pub bytes-told : Word → ℕ
+bytes-told (Bytes n) = n
+bytes-told Nothing = 0
 
-unfoldable pub spelled : Word → Text
-spelled w = take (w .to - w .from) (drop (w .from) words)
+-- the array with a word at its front, or as it was
+unfoldable pub with-word : Option Text → Text → Text
+with-word (some w) word = w ++ drop (length w) word
+with-word none word = word
 
-unfoldable pub word-of : Picked → Option Text
-word-of (At w) = some (spelled w)
-word-of Nothing = none
+-- a word was told, and written
+pub record Writes (w word word' : Text) (r : Word) : Type 0 where
+  pub is : r ≡ Bytes (length w)
+  pub written : word' ≡ w ++ drop (length w) word
+  pub fits : length w ≤ longest-word
 
--- a word of types, of operators, of labels, qualifiers and wrappers, or of the abbreviations
-unfoldable pub grouped : Word → Bool
-grouped w = leb (w .to) 261 || (leb 261 (w .from) && leb (w .to) 744 || (leb 744 (w .from) && leb (w .to) 850 || leb 850 (w .from)))
-
-abbrev pub Inside : Word → Type 0
-Inside w = (w .from ≤ w .to) × ((w .to ≤ words-end) × T (grouped w))
-
-abbrev pub Picked-inside : Picked → Type 0
-Picked-inside (At w) = Inside w
-Picked-inside Nothing = Unit {0}
-
--- the word for a code of a table, or none
-pub record Picks (rows : Table) (code : Text) (r : Picked) : Type 0 where
-  pub is : word-of r ≡ word-for rows code
-  pub inside : Picked-inside r
+-- the word for a code of a table was told and written, or that there is none
+pub record Spells (rows : Table) (code word word' : Text) (r : Word) : Type 0 where
+  pub is : r ≡ told (word-for rows code)
+  pub written : word' ≡ with-word (word-for rows code) word
+  pub fits : bytes-told r ≤ longest-word

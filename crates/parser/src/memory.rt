@@ -8,14 +8,13 @@ ghost use Rattle.grammar.specs.Text.{Text, b, choose, same};
 ghost use Rattle.grammar.specs.Limits.{most-text-bytes, most-entry-bytes, most-length, kept-bytes};
 ghost use Rattle.grammar.specs.Reader.{State, Reader, push-sub, push-arg, recorded, give, refuse};
 ghost use Rattle.grammar.specs.Grammar.{last};
-ghost use Rattle.grammar.specs.Words.{Inside, spelled};
+ghost use Rattle.grammar.specs.Words.{longest-word};
 ghost use Rattle.store.specs.Stack.{Stack, lent};
 ghost use Rattle.store.specs.Table.{Entries, Sized};
 ghost use Rattle.parser.specs.Holds.{Memory, mem, part, Holds, Ready, Reads, Stands, Refines, Puts, Cuts, Pushes, given-of};
 ghost use Rattle.parser.specs.Halves.{Room, Grows, with-args};
 ghost use Rattle.grammar.specs.States.{subs-to, args-to};
 use grammar::codes;
-use grammar::codes::Word;
 use grammar::state::Parser;
 use grammar::state::Read;
 use grammar::state::Table;
@@ -51,15 +50,13 @@ pub fn put_part(s: &[u8], text: &mut [u8], p: Parser, from: usize, to: usize) ->
     p.raised(stack::put_part(text, top, s, from, to))
 }
 
-pub fn put_word(text: &mut [u8], p: Parser, w: Word) -> Parser
-    requires { ⌜ (Stack (now text) (p .top)) × Inside w ⌝ }
-    ensures { λ r. ⌜ Puts (now (text .entry)) (now (text .exit)) p r (spelled w) ⌝ }
+// The first n bytes of an array, which are a word.
+pub fn put_word(text: &mut [u8], p: Parser, word: &[u8; codes::LONGEST], n: usize) -> Parser
+    requires { ⌜ (Stack (now text) (p .top)) × (n ≤ longest-word) ⌝ }
+    ensures { λ r. ⌜ (length (take n (now (word .entry))) ≡ n) × Puts (now (text .entry)) (now (text .exit)) p r (take n (now (word .entry))) ⌝ }
 {
     let top = p.top;
-    let n = w.to - w.from;
-    let at = stack::room(text, top, n);
-    codes::write_word(text, at, w);
-    p.raised(at + n)
+    p.raised(stack::put_part(text, top, word, 0, n))
 }
 
 // The n bytes that stand d bytes below the top, once more.

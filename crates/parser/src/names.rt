@@ -2,11 +2,11 @@
 ghost use mathlib.Core.Path.{_≡_};
 ghost use mathlib.Core.List.{List, _∷_};
 ghost use Prim.Native.Nat.{ℕ, _+_, _≤_};
-ghost use lib.ListN.{length, getElem?};
+ghost use lib.ListN.{length, take, getElem?};
 ghost use Rattle.grammar.specs.Text.{Text, choose, decimal};
 ghost use Rattle.grammar.specs.Limits.{most-text-bytes, kept-bytes};
 ghost use Rattle.grammar.specs.Reader.{give};
-ghost use Rattle.grammar.specs.Words.{Inside, spelled};
+ghost use Rattle.grammar.specs.Words.{longest-word};
 ghost use Rattle.grammar.specs.Grammar.{⟨source-name⟩, ⟨template-param⟩, ⟨substitution⟩, unnamed-type-name, reading};
 ghost use Rattle.store.specs.Stack.{Stack};
 ghost use Rattle.parser.specs.Holds.{mem, Ready, Reads};
@@ -15,7 +15,7 @@ ghost use Rattle.parser.specs.Source.{identified, closers, behind-number
 ghost use Rattle.parser.specs.References.{entry-at};
 use crate::memory;
 use grammar::codes;
-use grammar::codes::Picked;
+use grammar::codes::Word;
 use grammar::numbers;
 use grammar::numbers::Number;
 use grammar::state::Eaten;
@@ -103,11 +103,11 @@ pub fn substitution(s: &[u8], text: &mut [u8], store: &[u8], ends: &[u16], p: Pa
     let Taken::Byte(c, next) = behind.take(s) else {
         return Read::Refused(4);
     };
-    let picked = codes::abbreviation(c);
-    let Picked::At(w) = picked else {
+    let mut name = [0u8; codes::LONGEST];
+    let Word::Bytes(n) = codes::abbreviation(&mut name, c) else {
         return old_entry(s, text, store, ends, behind);
     };
-    word(text, next, w)
+    word(text, next, &name, n)
 }
 
 // S_ | S <seq-id> _, behind S
@@ -133,14 +133,13 @@ fn old_entry(s: &[u8], text: &mut [u8], store: &[u8], ends: &[u16], p: Parser) -
     memory::recall(text, store, ends, next, k)
 }
 
-// A word of a table.
-pub fn word(text: &mut [u8], p: Parser, w: codes::Word) -> Read
-    requires { ⌜ (Stack (now text) (p .top)) × Inside w ⌝ }
-    ensures { λ r. ⌜ ((s store ends : List ℕ) → Reads (give (spelled w)) kept-bytes (p .at) s
+// A word of a table: the first n bytes of the array.
+pub fn word(text: &mut [u8], p: Parser, word: &[u8; codes::LONGEST], n: usize) -> Read
+    requires { ⌜ (Stack (now text) (p .top)) × (n ≤ longest-word) ⌝ }
+    ensures { λ r. ⌜ ((s store ends : List ℕ) → Reads (give (take n (now (word .entry)))) kept-bytes (p .at) s
         (mem (now (text .entry)) store ends) (mem (now (text .exit)) store ends) p r) ⌝ }
 {
-    let n = w.to - w.from;
-    Read::Text(memory::put_word(text, p, w), n)
+    Read::Text(memory::put_word(text, p, word, n), n)
 }
 
 // <template-param> ::= T_ | T <number> _

@@ -9,14 +9,13 @@ ghost use Rattle.grammar.specs.Limits.{most-text-bytes, most-length, kept-bytes
 ghost use Rattle.grammar.specs.Tables.{d-letters, wrappers};
 ghost use Rattle.grammar.specs.Reader.{State, by-code, find, word-for, give, recorded, refuse};
 ghost use Rattle.grammar.specs.Grammar.{slot, at-slots};
-ghost use Rattle.grammar.specs.Words.{Inside, spelled, at-slot};
+ghost use Rattle.grammar.specs.Words.{longest-word, at-slot};
 ghost use Rattle.store.specs.Stack.{Stack, slots-in, newest};
 ghost use Rattle.parser.specs.Holds.{mem, window, Holds, Ready, Stands, Refines, Puts};
 ghost use Rattle.parser.specs.Wraps.{Wrapper};
 use crate::memory;
 use crate::names;
 use grammar::codes;
-use grammar::codes::Picked;
 use grammar::codes::Word;
 use grammar::state::Parser;
 use grammar::state::Read;
@@ -35,11 +34,11 @@ pub fn builtin_d(s: &[u8], text: &mut [u8], p: Parser) -> Read
     let Taken::Byte(c, next) = p.moved(at + 1).take(s) else {
         return Read::Refused(4);
     };
-    let picked = codes::builtin_d(c);
-    let Picked::At(w) = picked else {
+    let mut word = [0u8; codes::LONGEST];
+    let Word::Bytes(n) = codes::builtin_d(&mut word, c) else {
         return Read::Refused(4);
     };
-    names::word(text, next, w)
+    names::word(text, next, &word, n)
 }
 
 // The length of a text of n bytes with so many more at each of its slots, as far as it matters.
@@ -69,30 +68,24 @@ pub fn wrap(text: &mut [u8], store: &mut [u8], ends: &mut [u16], p: Parser, n: u
     let from = top - n;
     let slots = stack::slots(text, from, top);
     if slots == 0 {
-        let picked = codes::wrapper(c);
-        let Picked::At(w) = picked else {
+        let mut word = [0u8; codes::LONGEST];
+        let Word::Bytes(more) = codes::wrapper(&mut word, c) else {
             return Read::Refused(4);
         };
-        let more = w.to - w.from;
-        let size = n + more;
-        let next = memory::put_word(text, p, w);
-        return memory::recorded(text, store, ends, next, size);
+        let next = memory::put_word(text, p, &word, more);
+        return memory::recorded(text, store, ends, next, n + more);
     }
     wrap_slots(text, store, ends, p, n, slots, c)
 }
 
 // Puts the newest n bytes on the top once more, with the word in front of each slot.
-fn weave_word(text: &mut [u8], p: Parser, n: usize, w: Word) -> Parser
-    requires { ⌜ (Stack (now text) (p .top)) × ((Inside w) × ((w .to - w .from ≤ 9) × ((n ≤ p .top)
-        × (n + slots-in (newest (now text) (p .top) n) * (w .to - w .from) ≤ most-text-bytes)))) ⌝ }
-    ensures { λ r. ⌜ Puts (now (text .entry)) (now (text .exit)) p r (at-slots (spelled w) (newest (now (text .entry)) (p .top) n)) ⌝ }
+fn weave_word(text: &mut [u8], p: Parser, n: usize, word: &[u8]) -> Parser
+    requires { ⌜ (Stack (now text) (p .top)) × ((length (now word) ≤ longest-word) × ((n ≤ p .top)
+        × (n + slots-in (newest (now text) (p .top) n) * length (now word) ≤ most-text-bytes))) ⌝ }
+    ensures { λ r. ⌜ Puts (now (text .entry)) (now (text .exit)) p r (at-slots (now (word .entry)) (newest (now (text .entry)) (p .top) n)) ⌝ }
 {
     let top = p.top;
-    let each = w.to - w.from;
-    let mut word = [0u8; 9];
-    codes::write_word(&mut word, 0, w);
-    let up = stack::weave(text, top, n, 0, &word[..each]);
-    p.raised(up)
+    p.raised(stack::weave(text, top, n, 0, word))
 }
 
 // A wrapper put at each of the slots of the newest n bytes: an entry.
@@ -112,16 +105,15 @@ pub fn wrap_slots(
         → Stands k d s base from (mem (now (text .entry)) (now (store .entry)) (now (ends .entry))) p n t σ
         → Refines k d s base from (mem (now (text .exit)) (now (store .exit)) (now (ends .exit))) r (recorded (at-slots w t) σ)) ⌝ }
 {
-    let picked = codes::slot_wrapper(c);
-    let Picked::At(w) = picked else {
+    let mut word = [0u8; codes::LONGEST];
+    let Word::Bytes(each) = codes::slot_wrapper(&mut word, c) else {
         return Read::Refused(4);
     };
-    let each = w.to - w.from;
     let size = woven(n, slots, each);
     if Parser::TEXT < size {
         return memory::too_long(p, size);
     }
-    let put = weave_word(text, p, n, w);
+    let put = weave_word(text, p, n, &word[..each]);
     let next = memory::cut(text, put, n, size);
     memory::recorded(text, store, ends, next, size)
 }

@@ -18,7 +18,7 @@ use crate::lists::Parts;
 use crate::lists::Prefix;
 use crate::lists::Texts;
 use grammar::codes;
-use grammar::codes::Picked;
+use grammar::codes::Word;
 use grammar::state::Eaten;
 use grammar::state::Parser;
 use grammar::state::Peeked;
@@ -430,8 +430,9 @@ fn operator(s: &[u8], text: &mut [u8], store: &mut [u8], ends: &mut [u16], p: Pa
     let a = s[at];
     let c = s[at + 1];
     let behind = p.moved(at + 2);
-    if let Picked::At(w) = codes::operator_name(a, c) {
-        return names::word(text, behind, w);
+    let mut word = [0u8; codes::LONGEST];
+    if let Word::Bytes(n) = codes::operator_name(&mut word, a, c) {
+        return names::word(text, behind, &word, n);
     }
     if a != b'c' {
         return Read::Refused(4);
@@ -564,8 +565,9 @@ pub fn ty_inner(s: &[u8], text: &mut [u8], store: &mut [u8], ends: &mut [u16], p
     let Taken::Byte(c, behind) = p.take(s) else {
         return Read::Refused(4);
     };
-    if let Picked::At(w) = codes::builtin(c) {
-        return names::word(text, behind, w);
+    let mut word = [0u8; codes::LONGEST];
+    if let Word::Bytes(n) = codes::builtin(&mut word, c) {
+        return names::word(text, behind, &word, n);
     }
     match c {
         b'P' | b'R' | b'O' | b'C' | b'K' | b'V' | b'r' => wrap(s, text, store, ends, behind, c),

@@ -13,10 +13,9 @@ use Rattle.grammar.specs.Tables.{qualifiers}
 use Rattle.grammar.specs.Reader.{give}
 use Rattle.grammar.specs.Grammar.{ended, only-void, qualifier}
 use Rattle.grammar.specs.laws.Text.{starts-nothing}
-use Rattle.grammar.specs.Words.{Picks, spelled}
+use Rattle.grammar.specs.Words.{Spells}
 use Rattle.grammar.specs.declared.codes.Word.{Word}
-use Rattle.grammar.specs.declared.codes.Picked.{Picked}
-use Rattle.grammar.specs.declared.codes.Picked.the-variants.{At, Nothing}
+use Rattle.grammar.specs.declared.codes.Word.the-variants.{Bytes, Nothing}
 use Rattle.store.specs.Stack.{Stack, newest}
 use Rattle.grammar.specs.declared.state.Parser.{Parser}
 use Rattle.grammar.specs.declared.state.Peeked.the-variants as peeked-as
@@ -29,7 +28,7 @@ use Rattle.grammar.specs.laws.Text.{same-not}
 use Rattle.grammar.specs.Limits.{most-length}
 use Rattle.parser.specs.Adds.{Adds}
 use Rattle.parser.specs.laws.Adds.{adds-none, adds-more, stands-more}
-use Rattle.parser.specs.laws.Wraps.{newest-text, picked-at, picked-none}
+use Rattle.parser.specs.laws.Wraps.{newest-text, spelled-at, spelled-none}
 use Rattle.encoding.specs.Encodings.{qualified-by, Qualifies, LoneVoid}
 
 -- ---------------------------------------------------------------- where a name ends
@@ -119,24 +118,24 @@ qualifying-start {text} {p} s {n} {from} {to} c l h =
     record { low = omega arith; high = h; size-is = omega (arith, ap length e); adds = rw e (adds-none c) }
 
 module _ {s text₀ text : Text} {p next : Parser} {n from to size at : ℕ} (i : Qualifying s text₀ text p next n from to size at) where
-  module _ (l : at < to) (h : to ≤ length s) {r : Picked} (g : Picks qualifiers (getD s at 0 ∷ []) r) where
-    pub qualifying-word : {w : Word} {text' : Text} {next' : Parser} {size' : ℕ} → r ≡ At w → length (spelled w) ≡ w .to - w .from
-        → Puts text text' next next' (spelled w) → size' ≡ min (size + (w .to - w .from)) most-length → Qualifying s text₀ text' p next' n from to size' (at + 1)
+  module _ (l : at < to) (h : to ≤ length s) {word word' : Text} {r : Word} (g : Spells qualifiers (getD s at 0 ∷ []) word word' r) where
+    pub qualifying-word : {m : ℕ} {text' : Text} {next' : Parser} {size' : ℕ} → r ≡ Bytes m → length (take m word') ≡ m
+        → Puts text text' next next' (take m word') → size' ≡ min (size + m) most-length → Qualifying s text₀ text' p next' n from to size' (at + 1)
     unfolding qualifier choose
-    qualifying-word {w} e z u j =
-        let f : qualifier (getD s at 0) ≡ spelled w = ap (λ (o : Option Text). choose o (λ x. x) []) (picked-at g e .0) in
+    qualifying-word {m} e z u j =
+        let f : qualifier (getD s at 0) ≡ take m word' = ap (λ (o : Option Text). choose o (λ x. x) []) (spelled-at g e .0 .0) in
         let x = qualified-more s from at (i .low) (omega arith) ∙ ap (λ (t : Text). qualified-by s from at ++ t) f in
         record {
           low = omega (arith, i .low);
           high = omega arith;
-          size-is = omega (arith, i .size-is, ap length x, length-append (qualified-by s from at) (spelled w));
+          size-is = omega (arith, i .size-is, ap length x, length-append (qualified-by s from at) (take m word'));
           adds = rw x (adds-more (i .adds) u);
         }
 
     pub qualifying-nothing : r ≡ Nothing → Qualifying s text₀ text p next n from to size (at + 1)
     unfolding qualifier choose
     qualifying-nothing e =
-        let f : qualifier (getD s at 0) ≡ [] = ap (λ (o : Option Text). choose o (λ x. x) []) (picked-none g e) in
+        let f : qualifier (getD s at 0) ≡ [] = ap (λ (o : Option Text). choose o (λ x. x) []) (spelled-none g e) in
         let x = qualified-more s from at (i .low) (omega arith) ∙ ap (λ (t : Text). qualified-by s from at ++ t) f ∙ append-nil (qualified-by s from at) in
         record { low = omega (arith, i .low); high = omega arith; size-is = omega (arith, i .size-is, ap length x); adds = rw x (i .adds) }
 

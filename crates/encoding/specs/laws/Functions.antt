@@ -106,7 +106,7 @@ module _ {s text text₁ text₂ store ends store₂ ends₂ : Text} {p o : Pars
     pub items-refused : {m' : Memory} {j : ℕ} {v : Read} → r ≡ items-as.Refused j → v ≡ refused-of r → Opened m' v
     items-refused i g = by (parameters-is t (qualified-by s from to) σ) (unlisted-on listed-on closing i g (f σ (holds-puts u (h .holds))))
 
-    module _ (l : n ≤ 32769) {last : Parser} {m count : ℕ} (i : r ≡ items-as.Listed last m count) where
+    module _ (l : n ≤ most-text-bytes + 1 + most-text-bytes) {last : Parser} {m count : ℕ} (i : r ≡ items-as.Listed last m count) where
       abbrev found : Counted (keep (o .depth + 1)) (o .depth) s (window (mem text₁ store ends) o) (o .at) (mem text₂ store₂ ends₂) last m count (parameters σ)
       found = list (h .holds) i
 

@@ -8,22 +8,22 @@ use Prim.Native.String.{String}
 use native.Mathlib.Omega.{arith}
 use borrow.Author.Tests.{ne-eqb}
 use lib.Dec.{T, eqb, eqb→eq}
-use lib.ListN.{length, drop, getD}
+use lib.ListN.{length, take, drop, getD}
 use Rattle.grammar.specs.Text.{Text, b, if_then_else_, choose, starts, holds}
 use Rattle.grammar.specs.Tables.{Row, _⇒_, Table, labels}
-use Rattle.grammar.specs.Reader.{State, Result, ok, refused, Reader, onto, go-to, give, start, find, by-code}
+use Rattle.grammar.specs.Reader.{State, Result, ok, refused, Reader, onto, go-to, give, start, find, by-code, word-for}
 use Rattle.grammar.specs.Grammar.{reading, ⟨encoding⟩, ⟨name⟩, ⟨type⟩, encoding, anew, function-or-data, production}
 use Rattle.grammar.specs.laws.Agree.{moved, coded, all-coded}
 use Rattle.grammar.specs.laws.Text.{both}
 use Rattle.grammar.specs.laws.Fuel.{reading-is}
 use Rattle.grammar.specs.laws.Finds.{all-of, by-word}
 use Rattle.grammar.specs.laws.Steps.{heads, within, no-row-of}
-use Rattle.grammar.specs.Words.{Picks, spelled, word-of}
+use Rattle.grammar.specs.Words.{longest-word, bytes-told, Spells}
 use Rattle.grammar.specs.declared.codes.Word.{Word}
-use Rattle.grammar.specs.declared.codes.Picked.{Picked}
-use Rattle.grammar.specs.declared.codes.Picked.the-variants.{At, Nothing}
+use Rattle.grammar.specs.declared.codes.Word.the-variants.{Bytes, Nothing}
 use Rattle.grammar.specs.laws.Places.{rest-some}
-use Rattle.encoding.specs.Encodings.{Labels}
+use Rattle.encoding.specs.Encodings.{word-in, Labels}
+use Rattle.parser.specs.laws.Wraps.{spelled-at, spelled-none}
 
 -- ---------------------------------------------------------------- what stands first
 
@@ -91,20 +91,24 @@ label-read σ = through (find labels (σ .rest))
     through none = refl
     through (some q) = refl
 
-module _ {s : Text} {r : Picked} (l : Labels s r) where
-  picked-is : reading ⟨encoding⟩ (start s) ≡ choose (word-of r) (λ w. labelled w (moved (drop 2 s) (start s))) (unlabelled (start s))
+module _ {s word : Text} {r : Word} (l : Labels s word r) where
+  told-is : reading ⟨encoding⟩ (start s) ≡ choose (word-in word r) (λ w. labelled w (moved (drop 2 s) (start s))) (unlabelled (start s))
   unfolding start
-  picked-is = encoding-is (start s) ∙ label-read (start s) ∙ l .is (λ w u. labelled w (moved u (start s))) (unlabelled (start s))
+  told-is = encoding-is (start s) ∙ label-read (start s) ∙ l .is (λ w u. labelled w (moved u (start s))) (unlabelled (start s))
 
-  pub labelled-is : {w : Word} → r ≡ At w → reading ⟨encoding⟩ (start s) ≡ labelled (spelled w) (moved (drop 2 s) (start s))
-  unfolding word-of choose
-  labelled-is e = picked-is ∙ ap (λ (q : Picked). choose (word-of q) (λ w. labelled w (moved (drop 2 s) (start s))) (unlabelled (start s))) e
+  pub labelled-is : {n : ℕ} → r ≡ Bytes n → reading ⟨encoding⟩ (start s) ≡ labelled (take n word) (moved (drop 2 s) (start s))
+  unfolding word-in choose
+  labelled-is e = told-is ∙ ap (λ (q : Word). choose (word-in word q) (λ w. labelled w (moved (drop 2 s) (start s))) (unlabelled (start s))) e
+
+  pub label-fits : {n : ℕ} → r ≡ Bytes n → n ≤ longest-word
+  unfolding bytes-told
+  label-fits e = subst (λ (x : Word). bytes-told x ≤ longest-word) e (l .fits)
 
   pub unlabelled-is : r ≡ Nothing → starts s (71 ∷ 84 ∷ 116 ∷ []) ≡ false → starts s (71 ∷ 86 ∷ []) ≡ false → reading ⟨encoding⟩ (start s) ≡ function-or-data reading (start s)
-  unfolding word-of choose by-code onto find b start if_then_else_
+  unfolding word-in choose by-code onto find b start if_then_else_
   unlabelled-is e f h =
-      picked-is
-      ∙ ap (λ (q : Picked). choose (word-of q) (λ w. labelled w (moved (drop 2 s) (start s))) (unlabelled (start s))) e
+      told-is
+      ∙ ap (λ (q : Word). choose (word-in word q) (λ w. labelled w (moved (drop 2 s) (start s))) (unlabelled (start s))) e
       ∙ rw (f, h)
 
 -- ---------------------------------------------------------------- labels
@@ -127,30 +131,35 @@ find-short s ((k ⇒ w) ∷ rows) h l =
     let e = eqb→eq (length (b k)) 2 p in
     rw (starts-short s (b k) (omega arith)) (find-short s rows q l)
 
-none-labels : {s : Text} → find labels s ≡ none → Labels s Nothing
-unfolding choose word-of
+none-labels : {s word : Text} → find labels s ≡ none → Labels s word Nothing
+unfolding choose word-in bytes-told
 none-labels {s} e = record {
   is = λ f x. ap (λ (o : Option (String × Text)). choose o (λ q. f (b (q .0)) (q .1)) x) e;
-  inside = tt;
-  long = λ w f. let z : _≡_ {A = ℕ} 0 1 = cc in absurd (omega arith);
+  fits = omega arith;
+  long = λ n f. let z : _≡_ {A = ℕ} 0 1 = cc in absurd (omega arith);
 }
 
-pub labels-short : (s : Text) → length s < 2 → Labels s Nothing
+pub labels-short : (s : Text) {word : Text} → length s < 2 → Labels s word Nothing
 unfolding all-of labels b
 labels-short s l = none-labels (find-short s labels tt l)
 
-pub labels-other : (s : Text) → 0 < length s → (getD s 0 0 ≡ 84 → ⊥) → Labels s Nothing
+pub labels-other : (s : Text) {word : Text} → 0 < length s → (getD s 0 0 ≡ 84 → ⊥) → Labels s word Nothing
 unfolding all-coded coded heads within holds b labels
 labels-other s l h =
     let e = no-row-of (getD s 0 0) (drop 1 s) labels (b "T") tt tt (rw (ne-eqb (getD s 0 0) 84 h)) in
     none-labels (ap (find labels) (rest-some s 0 l) ∙ e)
 
-pub labels-picked : (s : Text) {r : Picked} → 2 ≤ length s → getD s 0 0 ≡ 84 → Picks labels (b "T" ++ (getD s 1 0 ∷ [])) r → Labels s r
+word-told : {rows : Table} {code word word' : Text} (r : Word) → Spells rows code word word' r → word-in word' r ≡ word-for rows code
+unfolding word-in
+word-told (Bytes n) h = sym (spelled-at h refl .0 .0)
+word-told Nothing h = sym (spelled-none h refl)
+
+pub labels-told : (s : Text) {word word' : Text} {r : Word} → 2 ≤ length s → getD s 0 0 ≡ 84 → Spells labels (b "T" ++ (getD s 1 0 ∷ [])) word word' r → Labels s word' r
 unfolding all-of labels b
-labels-picked s {r} l h g =
+labels-told s {r = r} l h g =
     let e : s ≡ 84 ∷ getD s 1 0 ∷ drop 2 s = rest-some s 0 (omega arith) ∙ ap₂ (λ (x : ℕ) (t : Text). x ∷ t) h (rest-some s 1 (omega arith)) in
     record {
-      is = λ f x. ap (λ (t : Text). choose (find labels t) (λ q. f (b (q .0)) (q .1)) x) e ∙ by-word (84 ∷ getD s 1 0 ∷ []) (drop 2 s) f x labels tt ∙ ap (λ (o : Option Text). choose o (λ t. f t (drop 2 s)) x) (sym (g .is));
-      inside = g .inside;
-      long = λ w f. l;
+      is = λ f x. ap (λ (t : Text). choose (find labels t) (λ q. f (b (q .0)) (q .1)) x) e ∙ by-word (84 ∷ getD s 1 0 ∷ []) (drop 2 s) f x labels tt ∙ ap (λ (o : Option Text). choose o (λ t. f t (drop 2 s)) x) (sym (word-told r g));
+      fits = g .fits;
+      long = λ n f. l;
     }

@@ -10,10 +10,9 @@ use Rattle.grammar.specs.Limits.{most-text-bytes, most-length, kept-bytes}
 use Rattle.grammar.specs.Reader.{onto, give, start}
 use Rattle.grammar.specs.Grammar.{reading, ⟨encoding⟩, ⟨name⟩, ⟨type⟩, function-or-data}
 use Rattle.grammar.specs.laws.Agree.{moved}
-use Rattle.grammar.specs.Words.{spelled, Inside}
+use Rattle.grammar.specs.Words.{longest-word}
 use Rattle.grammar.specs.declared.codes.Word.{Word}
-use Rattle.grammar.specs.declared.codes.Picked.{Picked}
-use Rattle.grammar.specs.declared.codes.Picked.the-variants.{At, Nothing}
+use Rattle.grammar.specs.declared.codes.Word.the-variants.{Bytes, Nothing}
 use Rattle.store.specs.Stack.{Stack, Tail}
 use Rattle.store.specs.laws.Tails.{whole, weaken, both, put-tail}
 use Rattle.grammar.specs.declared.state.Parser.{Parser}
@@ -94,38 +93,38 @@ module _ (s : Text) {part text store ends text₁ : Text} {p o : Parser} (l : le
 
 -- ---------------------------------------------------------------- labels
 
-module _ {s text store ends text₁ : Text} {p q o : Parser} {x : Picked} {w : Word} (l : length s ≤ most-text-bytes) (h : Fresh (mem text store ends) p) (k : Labels s x) (e : x ≡ At w)
+module _ {s text store ends text₁ : Text} {p q o : Parser} {word : Text} {x : Word} {w : ℕ} (l : length s ≤ most-text-bytes) (h : Fresh (mem text store ends) p) (k : Labels s word x) (e : x ≡ Bytes w)
     (z : q ≡ moved-to p 2)
-    (u : Puts text text₁ q o (spelled w)) where
+    (u : Puts text text₁ q o (take w word)) where
   pub label-holds : Holds s (mem text₁ store ends) o (moved (drop 2 s) (start s))
   label-holds = holds-puts u (by-state z (holds-moved (fresh-holds l h) 2 (k .long w e)))
 
   module _ {m₂ : Memory} {r : Read} (f : Reads (reading ⟨type⟩) (keep (o .depth + 1)) (o .at + 1) s (mem text₁ store ends) m₂ o r) where
     pub label-refused : {j : ℕ} {base : Text} {m' : Memory} {i : ℕ} → r ≡ Refused i → Encodes j s base m' r (reading ⟨encoding⟩ (start s))
-    label-refused y = encodes-by (labelled-is k e) (encodes-refused (λ t. give (spelled w ++ t)) y (f (moved (drop 2 s) (start s)) label-holds))
+    label-refused y = encodes-by (labelled-is k e) (encodes-refused (λ t. give (take w word ++ t)) y (f (moved (drop 2 s) (start s)) label-holds))
 
     pub label-got : {next : Parser} {n : ℕ} → r ≡ read next n → Got (keep (o .depth + 1)) (o .depth) s (window (mem text₁ store ends) o) (o .at + 1) m₂ next n (reading ⟨type⟩ (moved (drop 2 s) (start s)))
     label-got y = got y (f (moved (drop 2 s) (start s)) label-holds)
 
-    pub label-given : {next : Parser} {n : ℕ} {v : Read} → r ≡ read next n → length (spelled w) ≡ w .to - w .from → Inside w → v ≡ given-of next (n + (w .to - w .from)) → Encodes (keep 0) s (window (mem text store ends) p) m₂ v (reading ⟨encoding⟩ (start s))
+    pub label-given : {next : Parser} {n : ℕ} {v : Read} → r ≡ read next n → length (take w word) ≡ w → w ≤ longest-word → v ≡ given-of next (n + w) → Encodes (keep 0) s (window (mem text store ends) p) m₂ v (reading ⟨encoding⟩ (start s))
     unfolding onto
     label-given {next} {n} {v} y i j c =
         let g = label-got y in
         let a = g .wrote in
-        encodes-by (labelled-is k e ∙ ap (onto (λ t. give (spelled w ++ t))) (g .is))
-        (encodes-given c (omega (arith, a .size, a .short, length-append (spelled w) (g .said), j)) (λ d. record {
+        encodes-by (labelled-is k e ∙ ap (onto (λ t. give (take w word ++ t))) (g .is))
+        (encodes-given c (omega (arith, a .size, a .short, length-append (take w word) (g .said), j)) (λ d. record {
           place = a .holds .place;
           rest = a .holds .rest;
           text = a .holds .text;
-          tail = both (take (p .top) text) (spelled w) (g .said) (weaken (omega arith) (put-tail (spelled w) (h .text) (omega arith) (puts-from z u .put) (whole kept-bytes (take (p .top) text)))) (weaken (omega arith) (a .tail));
-          size = omega (arith, a .size, length-append (spelled w) (g .said));
+          tail = both (take (p .top) text) (take w word) (g .said) (weaken (omega arith) (put-tail (take w word) (h .text) (omega arith) (puts-from z u .put) (whole kept-bytes (take (p .top) text)))) (weaken (omega arith) (a .tail));
+          size = omega (arith, a .size, length-append (take w word) (g .said));
           short = d;
         }))
 
 -- ---------------------------------------------------------------- other names
 
 pub other-read :
-    {s : Text} {m m' : Memory} {p : Parser} {x : Picked} {r : Read} → length s ≤ most-text-bytes → Fresh m p → Labels s x → x ≡ Nothing →
+    {s : Text} {m m' : Memory} {p : Parser} {word : Text} {x : Word} {r : Read} → length s ≤ most-text-bytes → Fresh m p → Labels s word x → x ≡ Nothing →
     starts s (71 ∷ 84 ∷ 116 ∷ []) ≡ false → starts s (71 ∷ 86 ∷ []) ≡ false → Reads (function-or-data reading) (keep (p .depth)) (p .at + 1) s m m' p r →
     Encodes (keep 0) s (window m p) m' r (reading ⟨encoding⟩ (start s))
 other-read {s} l h k e g v f = encodes-by (unlabelled-is k e g v) (encodes-refines (omega arith) (f (start s) (fresh-holds l h)))

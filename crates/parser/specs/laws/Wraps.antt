@@ -15,10 +15,9 @@ use Rattle.grammar.specs.Reader.{State, Reader, word-for}
 use Rattle.grammar.specs.Grammar.{at-slots}
 use Rattle.grammar.specs.laws.Text.{both}
 use Rattle.grammar.specs.Limits.{most-entry-bytes, most-length, kept-bytes}
-use Rattle.grammar.specs.Words.{spelled, word-of, Picks, Picked-inside, Inside}
+use Rattle.grammar.specs.Words.{longest-word, told, bytes-told, with-word, Spells}
 use Rattle.grammar.specs.declared.codes.Word.{Word}
-use Rattle.grammar.specs.declared.codes.Picked.{Picked}
-use Rattle.grammar.specs.declared.codes.Picked.the-variants.{At, Nothing}
+use Rattle.grammar.specs.declared.codes.Word.the-variants.{Bytes, Nothing}
 use Rattle.store.specs.Stack.{Stack, Tail, Put, Cut, slots-in, newest, below-newest}
 use Rattle.store.specs.laws.Lists.{part-of}
 use Rattle.store.specs.laws.Slots.{length-at-slots}
@@ -216,31 +215,28 @@ pub some-not : {A : Type 0} {x : A} → some x ≡ none → ⊥
 unfolding choose
 some-not {A} e = absurd (omega (arith, ap {B = ℕ} (λ (o : Option A). choose o (λ _. 1) 0) e))
 
-module _ {rows : Table} {code : Text} {r : Picked} (h : Picks rows code r) where
-  pub picked-at : {w : Word} → r ≡ At w → (word-for rows code ≡ some (spelled w)) × Inside w
-  unfolding word-of
-  picked-at e = (sym (subst (λ (x : Picked). word-of x ≡ word-for rows code) e (h .is)), subst Picked-inside e (h .inside))
+-- the word that was told is at the array's front
+unfoldable tells : Word → ℕ
+tells (Bytes n) = 1
+tells Nothing = 0
 
-  pub picked-none : r ≡ Nothing → word-for rows code ≡ none
-  unfolding word-of
-  picked-none e = sym (subst (λ (x : Picked). word-of x ≡ word-for rows code) e (h .is))
+in-front : (word : Text) {word' : Text} {n : ℕ} (o : Option Text) → Bytes n ≡ told o → word' ≡ with-word o word → (o ≡ some (take n word')) × (length (take n word') ≡ n)
+unfolding told with-word bytes-told tells
+in-front word {word'} {n} (some w) e f =
+    let z : n ≡ length w = ap bytes-told e in
+    let g : take n word' ≡ w = ap (take n) f ∙ take-at w (drop (length w) word) n (sym z) in
+    (ap some (sym g), ap length g ∙ sym z)
+in-front word none e f = absurd (omega (arith, ap tells e))
 
--- every word of the table has at most so many bytes
-unfoldable pub all-within : ℕ → Table → Bool
-all-within n [] = true
-all-within n ((k ⇒ w) ∷ rows) = leb (length (b w)) n && all-within n rows
+module _ {rows : Table} {code word word' : Text} {r : Word} (h : Spells rows code word word' r) where
+  pub spelled-at : {n : ℕ} → r ≡ Bytes n → ((word-for rows code ≡ some (take n word')) × (length (take n word') ≡ n)) × (n ≤ longest-word)
+  unfolding bytes-told
+  spelled-at e = (in-front word (word-for rows code) (sym e ∙ h .is) (h .written), subst (λ (x : Word). bytes-told x ≤ longest-word) e (h .fits))
 
-holds-true : (q : Bool) → T q → q ≡ true
-holds-true true h = refl
-holds-true false h = absurd h
-
-pub word-within : (n : ℕ) (rows : Table) (code : Text) {t : Text} → T (all-within n rows) → word-for rows code ≡ some t → length t ≤ n
-unfolding all-within word-for if_then_else_
-word-within n [] code h e = absurd (some-not (sym e))
-word-within n ((k ⇒ w) ∷ rows) code {t} h e =
-    let (p, q) = both (leb (length (b w)) n) (all-within n rows) h in
-    go (same code (b k)) (leb-true (length (b w)) n (holds-true _ p)) (word-within n rows code q) e
-  where
-    go : (r : Bool) → length (b w) ≤ n → (word-for rows code ≡ some t → length t ≤ n) → (if r then some (b w) else word-for rows code) ≡ some t → length t ≤ n
-    go true l v f = subst (λ (z : Text). length z ≤ n) (some-is f) l
-    go false l v f = v f
+  pub spelled-none : r ≡ Nothing → word-for rows code ≡ none
+  unfolding told tells
+  spelled-none e = none-told (word-for rows code) (sym e ∙ h .is)
+    where
+      none-told : (o : Option Text) → Nothing ≡ told o → o ≡ none
+      none-told (some w) f = absurd (omega (arith, ap tells f))
+      none-told none f = refl

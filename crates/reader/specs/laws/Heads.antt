@@ -14,17 +14,17 @@ use Rattle.grammar.specs.Tables.{letters, wrappers}
 use Rattle.grammar.specs.Reader.{find}
 use Rattle.grammar.specs.laws.Finds.{all-of}
 use Rattle.grammar.specs.laws.Steps.{no-word, type-heads}
-use Rattle.grammar.specs.Words.{Picks}
-use Rattle.grammar.specs.declared.codes.Picked.{Picked}
-use Rattle.grammar.specs.declared.codes.Picked.the-variants.{Nothing}
-use Rattle.parser.specs.laws.Wraps.{picked-none}
+use Rattle.grammar.specs.Words.{Spells}
+use Rattle.grammar.specs.declared.codes.Word.{Word}
+use Rattle.grammar.specs.declared.codes.Word.the-variants.{Nothing}
+use Rattle.parser.specs.laws.Wraps.{spelled-none}
 use Rattle.reader.specs.Cycle.{Wraps}
 
 -- ---------------------------------------------------------------- letters and wrappers
 
-pub no-letter : (c : ℕ) (r : Text) {x : Picked} → Picks letters (c ∷ []) x → x ≡ Nothing → find letters (c ∷ r) ≡ none
+pub no-letter : (c : ℕ) (r : Text) {word word' : Text} {x : Word} → Spells letters (c ∷ []) word word' x → x ≡ Nothing → find letters (c ∷ r) ≡ none
 unfolding all-of letters b
-no-letter c r h e = no-word letters c r tt (picked-none h e)
+no-letter c r h e = no-word letters c r tt (spelled-none h e)
 
 -- the row of a wrapper's byte
 abbrev pub Row-of : ℕ → Type 0

@@ -7,7 +7,7 @@ use Prim.Native.Nat.{ℕ, _+_, _-_, _≤_, _<_}
 use native.Mathlib.Omega.{arith}
 use borrow.Author.Tests.{ne-eqb, eqb-true}
 use lib.Dec.{T, eqb, eqb→eq}
-use lib.ListN.{length, drop, getD, length-drop}
+use lib.ListN.{length, take, drop, getD, length-drop}
 use Rattle.grammar.specs.Text.{Text, b, if_then_else_, choose, starts, holds, run, past, digit}
 use Rattle.grammar.specs.Tables.{Row, _⇒_, operators}
 use Rattle.grammar.specs.Reader.{State, refused, Reader, onto, give, unfit, go-to, set-templated, find, word-for, by-code}
@@ -19,10 +19,9 @@ use Rattle.grammar.specs.laws.Fuel.{reading-is}
 use Rattle.grammar.specs.laws.Finds.{all-of, by-word}
 use Rattle.grammar.specs.laws.Steps.{by-code-none}
 use Rattle.grammar.specs.laws.NameSteps.{unqualified-L, unqualified-U, unqualified-end, unqualified-digit, unqualified-operator}
-use Rattle.grammar.specs.Words.{Picks, spelled}
+use Rattle.grammar.specs.Words.{Spells}
 use Rattle.grammar.specs.declared.codes.Word.{Word}
-use Rattle.grammar.specs.declared.codes.Picked.{Picked}
-use Rattle.grammar.specs.declared.codes.Picked.the-variants.{At, Nothing}
+use Rattle.grammar.specs.declared.codes.Word.the-variants.{Bytes, Nothing}
 use Rattle.grammar.specs.declared.state.Parser.{Parser}
 use Rattle.grammar.specs.declared.state.Read.{Read}
 use Rattle.grammar.specs.declared.state.Read.the-variants.{Text as read, Refused}
@@ -37,7 +36,7 @@ use Rattle.grammar.specs.laws.Runs.{case-here, case-not, past-is, past-stops}
 use Rattle.grammar.specs.laws.Places.{rest-some, rest-none}
 use Rattle.parser.specs.laws.Halves.{wrote-one}
 use Rattle.parser.specs.laws.Leaves.{rest-two}
-use Rattle.parser.specs.laws.Wraps.{picked-at, picked-none}
+use Rattle.parser.specs.laws.Wraps.{spelled-at, spelled-none}
 use Rattle.reader.specs.laws.Opens.{call-moved}
 use Rattle.reader.specs.laws.Standing.{stands-templated, given-as, fewer, word-holds, word-joined}
 use Rattle.reader.specs.laws.Items.{peek-end, byte-there, byte-within}
@@ -150,12 +149,12 @@ module _ (s : Text) (at : ℕ) (σ : State) (e : σ .rest ≡ drop at s) where
 
 -- ---------------------------------------------------------------- answers
 
-module _ {s text store ends : Text} {p q : Parser} {σ : State} (h : Holds s (mem text store ends) p σ) (l : p .at + 1 < length s) (m : q ≡ moved-to p (p .at + 2)) {x : Picked}
-    (k : Picks operators (getD s (p .at) 0 ∷ getD s (p .at + 1) 0 ∷ []) x) where
-  pub oper-word : {text' : Text} {r : Read} {w : Word} → x ≡ At w → Reads (give (spelled w)) kept-bytes (q .at) s (mem text store ends) (mem text' store ends) q r
+module _ {s text store ends : Text} {p q : Parser} {σ : State} (h : Holds s (mem text store ends) p σ) (l : p .at + 1 < length s) (m : q ≡ moved-to p (p .at + 2)) {word word' : Text} {x : Word}
+    (k : Spells operators (getD s (p .at) 0 ∷ getD s (p .at + 1) 0 ∷ []) word word' x) where
+  pub oper-word : {text' : Text} {r : Read} {n : ℕ} → x ≡ Bytes n → Reads (give (take n word')) kept-bytes (q .at) s (mem text store ends) (mem text' store ends) q r
       → Refines (keep (p .depth)) (p .depth) s (window (mem text store ends) p) (p .at + 1) (mem text' store ends) r (reading ⟨operator-name⟩ σ)
   oper-word e g =
-      less (omega (arith, h .deep)) (by (operator-word s (p .at) σ (h .rest) l _ (picked-at k e .0)) (reads-moved m g h (omega arith) (omega arith)))
+      less (omega (arith, h .deep)) (by (operator-word s (p .at) σ (h .rest) l _ (spelled-at k e .0 .0)) (reads-moved m g h (omega arith) (omega arith)))
 
   module _ {text₁ : Text} {q₁ : Parser} (u : Puts text text₁ q q₁ (b "operator ")) where
     pub oper-holds : Holds s (mem text₁ store ends) q₁ (moved (drop (p .at + 2) s) σ)
@@ -164,14 +163,14 @@ module _ {s text store ends : Text} {p q : Parser} {σ : State} (h : Holds s (me
     module _ (e : x ≡ Nothing) (a : getD s (p .at) 0 ≡ 99) (c : getD s (p .at + 1) 0 ≡ 118) {m' : Memory} {r : Read}
         (f : Reads (reading ⟨type⟩) (keep (q₁ .depth + 1)) (q₁ .at + 1) s (mem text₁ store ends) m' q₁ r) where
       pub oper-refused : {j : ℕ} → r ≡ Refused j → Refines (keep (p .depth)) (p .depth) s (window (mem text store ends) p) (p .at + 1) m' r (reading ⟨operator-name⟩ σ)
-      oper-refused g = by (operator-cv s (p .at) σ (h .rest) l (picked-none k e) a c) (refused-on typed-on g (f _ oper-holds))
+      oper-refused g = by (operator-cv s (p .at) σ (h .rest) l (spelled-none k e) a c) (refused-on typed-on g (f _ oper-holds))
 
       pub oper-typed : {next q₂ : Parser} {n : ℕ} {v : Read} → r ≡ read next n → q₂ ≡ templated-to next false → v ≡ given-of q₂ (n + 9)
           → Refines (keep (p .depth)) (p .depth) s (window (mem text store ends) p) (p .at + 1) m' v (reading ⟨operator-name⟩ σ)
       unfolding onto set-templated b
       oper-typed g i j =
           let y = got g (f _ oper-holds) in
-          by (operator-cv s (p .at) σ (h .rest) l (picked-none k e) a c ∙ ap (onto typed-on) (y .is))
+          by (operator-cv s (p .at) σ (h .rest) l (spelled-none k e) a c ∙ ap (onto typed-on) (y .is))
           (given-as j (stands-templated false (word-joined m u h (omega arith) (omega arith) (omega arith) refl (fewer (omega arith) (y .wrote))) i))
 
 -- ---------------------------------------------------------------- bytes that were peeked at

@@ -3,8 +3,7 @@ use mathlib.Core.Logic.{_⊎_, ⊎-elim}
 use Prim.Native.Nat.{_-_}
 use native.Mathlib.Omega.{arith}
 use borrow.Author.Needs.{needs}
-use Rattle.grammar.proofs.Lookups.{length-spelled}
-use Rattle.parser.specs.laws.Wraps.{picked-at}
+use Rattle.parser.specs.laws.Wraps.{spelled-at}
 use Rattle.encoding.specs.laws.Ends.{Qualifying, qualifying-start, qualifying-word, qualifying-nothing, qualifying-done}
 use Rattle.encoding.proofs.functions.qualified.Statement.{statement}
 use Rattle.encoding.proofs.functions.qualified.Tie as tie
@@ -20,25 +19,18 @@ loop-holds c = qualifying-start (c .before .before .args .s .now) (c .before .be
 
 shared-slice-read-qualifier : tie.Need-shared-slice-read-qualifier Inv-loop μ-loop
 shared-slice-read-qualifier c =
-    let at-start = c .before .before .before .before .before in
+    let at-start = c .before .before .before .before .before .before in
     omega (arith, at-start .pre .1 .1 .1)
 
 put-word-requires : tie.Need-put-word-requires Inv-loop μ-loop
-put-word-requires c κs = (c .before .before .before .before .before .before .before .loop .inv .adds .stack, picked-at (c .before .before .before .before .qualifier .ensures) (c .before .before .w .given .1) .1)
-
-sub-sum : tie.Need-sub-sum Inv-loop μ-loop
-sub-sum c = omega (arith, picked-at (c .before .before .before .before .before .before .before .before .qualifier .ensures) (c .before .before .before .before .before .before .w .given .1) .1)
+put-word-requires c κs = (c .before .before .before .before .before .before .before .before .before .loop .inv .adds .stack, spelled-at (c .before .before .before .before .before .qualifier .ensures) (c .before .before .before .m .given .1) .1)
 
 sum-requires : tie.Need-sum-requires Inv-loop μ-loop
-sum-requires c κs = (
-  omega (arith, c .before .before .before .before .before .before .before .before .before .before .before .loop .inv .size-is),
-  omega
-      (arith, picked-at (c .before .before .before .before .before .before .before .before .qualifier .ensures) (c .before .before .before .before .before .before .w .given .1) .1),
-)
+sum-requires c κs = (omega (arith, c .before .before .before .before .before .before .before .before .before .before .before .before .loop .inv .size-is), omega (arith, spelled-at (c .before .before .before .before .before .before .before .before .qualifier .ensures) (c .before .before .before .before .before .before .m .given .1) .1))
 
 add-at : tie.Need-add-at Inv-loop μ-loop
 add-at c =
-    let at-start = c .before .before .before .before .before .before .before in
+    let at-start = c .before .before .before .before .before .before .before .before in
     omega (arith, at-start .pre .1 .1 .1)
 
 loop-less : tie.Need-loop-less Inv-loop μ-loop
@@ -46,13 +38,13 @@ loop-less c = omega arith
 
 loop-again : tie.Need-loop-again Inv-loop μ-loop
 loop-again c =
-    let at-start = c .before .before .before .before .before .before .before in
-    let i = c .before .before .before .before .loop .inv in
-    let l = c .before .before .before .loop-test .taken in
+    let at-start = c .before .before .before .before .before .before .before .before in
+    let i = c .before .before .before .before .before .loop .inv in
+    let l = c .before .before .before .before .loop-test .taken in
     let h = at-start .pre .1 .1 .1 in
     let g = c .before .qualifier .ensures in
     ⊎-elim
-    (λ w. rw (w .9, w .10, w .11) (qualifying-word i l h g (w .1 .given .1) (length-spelled _ (picked-at g (w .1 .given .1) .1)) (w .4 .ensures) (w .8 .ensures)))
+    (λ w. rw (w .9, w .10, w .11) (qualifying-word i l h g (w .1 .given .1) (w .5 .ensures .0) (w .5 .ensures .1) (w .8 .ensures)))
     (λ w. rw (w .2, w .3, w .4) (qualifying-nothing i l h g (w .1 .given .1)))
     (c .match .came)
 
@@ -75,7 +67,6 @@ qualified-spec =
     (λ c κs. search needs)
     (λ c. search needs)
     put-word-requires
-    sub-sum
     sum-requires
     (λ c. search needs)
     add-at

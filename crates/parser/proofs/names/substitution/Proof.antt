@@ -1,10 +1,10 @@
 -- `parser::names::substitution` reads S and an abbreviation's letter, or the number of an entry. Assumes nothing.
-use mathlib.Core.Path.{sym, ap, subst, _∙_, _≡_}
+use mathlib.Core.Path.{sym, ap, _∙_, _≡_}
 use native.Mathlib.Omega.{arith}
-use Rattle.grammar.specs.Words.{word-of, Picked-inside}
 use Rattle.parser.specs.Holds.{refuses}
 use Rattle.parser.specs.laws.Holds.{by}
 use Rattle.parser.specs.laws.Adds.{stack-by, reads-moved, ready-moved}
+use Rattle.parser.specs.laws.Wraps.{spelled-at, spelled-none}
 use Rattle.parser.specs.laws.References.{sub-none, sub-end, sub-word, sub-entry}
 use Rattle.grammar.specs.laws.States.{Past, past-from, end-from, ate, ate-none, took, took-none}
 use Rattle.grammar.specs.States.{moved-to}
@@ -18,8 +18,8 @@ use Rattle.parser.proofs.names.substitution.Statement.{statement}
 use Rattle.parser.proofs.names.substitution.Tie as tie
 
 -- Stages: places that later facts cite. Each function goes from one to the one before it.
-abbrev before-abbreviation : tie.After-abbreviation → tie.Start
-before-abbreviation c = c .before .before .before .before .before .before .before .before .before .before .before .before .before
+abbrev before-c : tie.After-c → tie.Start
+before-c c = c .before .before .before .before .before .before .before .before .before .before .before
 
 -- S was read
 past-S : (c : tie.After-behind) → Past (c .before .before .before .before .before .before .before .args .s .now) (c .before .before .before .before .before .before .before .args .p) 83 (c .behind .given .0 .0)
@@ -47,34 +47,31 @@ returns-2 c = λ σ h. by (sub-end _ _ σ (h .rest) (past-S (c .before .before .
 
 old-entry-requires : tie.Need-old-entry-requires
 old-entry-requires c κs =
-    let at-abbreviation = c .before .before .before in let at-start = before-abbreviation at-abbreviation in
-    ready-moved _ (past-S (c .before .before .before .before .before .before .before .before .before) .next) (at-start .pre .1) (omega (arith, past-c (at-abbreviation .before .before) .inside))
+    let at-c = c .before .before .before .before .before .before in
+    ready-moved _ (past-S (at-c .before .before .before .before) .next) (before-c at-c .pre .1) (omega (arith, past-c at-c .inside))
 
 returns-3 : tie.Need-returns-3
-unfolding word-of
 returns-3 c =
-    let at-abbreviation = c .before .before .before .before .before .before in
+    let at-c = c .before .before .before .before .before .before .before .before .before in
     λ σ h.
     by
-    (sub-entry _ _ σ (h .rest) (past-S (at-abbreviation .before .before .before .before .before .before) .ahead)
-    (past-c (at-abbreviation .before .before) .inside) (ap word-of (sym (c .before .before .before .before .enum-told3 .given .1)) ∙ at-abbreviation .abbreviation .ensures .is ∙ as-read (at-abbreviation .before .before)))
-    (reads-moved (past-S (c .before .before .before .before .before .before .before .before .before .before .before .before) .next) (c .before .before .old-entry .ensures) h (omega (arith, past-c (at-abbreviation .before .before) .inside)) (omega arith))
+    (sub-entry _ _ σ (h .rest) (past-S (at-c .before .before .before .before) .ahead) (past-c at-c .inside)
+    (sym (spelled-none (c .before .before .before .before .before .before .abbreviation .ensures) (c .before .before .before .before .enum-told3 .given .1)) ∙ as-read at-c))
+    (reads-moved (past-S (at-c .before .before .before .before) .next) (c .before .before .old-entry .ensures) h (omega (arith, past-c at-c .inside)) (omega arith))
 
 word-requires : tie.Need-word-requires
 word-requires c κs =
-    let at-abbreviation = c .before .before .before .before in let at-start = before-abbreviation at-abbreviation in
-    (stack-by (past-c (c .before .before .before .before .before .before) .next) (at-start .pre .1 .text), subst Picked-inside (c .before .before .picked .given .1) (at-abbreviation .abbreviation .ensures .inside))
+    let at-c = c .before .before .before .before .before .before .before .before in
+    (stack-by (past-c at-c .next) (before-c at-c .pre .1 .text), spelled-at (c .before .before .before .before .before .abbreviation .ensures) (c .before .before .before .n .given .1) .1)
 
 returns-4 : tie.Need-returns-4
-unfolding word-of
 returns-4 c =
-    let at-abbreviation = c .before .before .before .before .before .before .before in
+    let at-c = c .before .before .before .before .before .before .before .before .before .before .before in
     λ σ h.
     by
-    (sub-word _ _ σ (h .rest) (past-S (at-abbreviation .before .before .before .before .before .before) .ahead)
-    (past-c (at-abbreviation .before .before) .inside) _
-    (ap word-of (sym (c .before .before .before .before .before .picked .given .1)) ∙ at-abbreviation .abbreviation .ensures .is ∙ as-read (at-abbreviation .before .before)))
-    (reads-moved (past-c (c .before .before .before .before .before .before .before .before .before) .next) (c .before .before .word .ensures _ _ _) h (omega (arith, past-c (at-abbreviation .before .before) .inside)) (omega arith))
+    (sub-word _ _ σ (h .rest) (past-S (at-c .before .before .before .before) .ahead) (past-c at-c .inside) _
+    (sym (spelled-at (c .before .before .before .before .before .before .before .before .abbreviation .ensures) (c .before .before .before .before .before .before .n .given .1) .0 .0) ∙ as-read at-c))
+    (reads-moved (past-c at-c .next) (c .before .before .word .ensures _ _ _) h (omega (arith, past-c at-c .inside)) (omega arith))
 
 pub substitution-spec : {M : Type 1} → statement M
 substitution-spec =

@@ -17,7 +17,7 @@ use Rattle.grammar.specs.laws.Finds.{by-word, all-of}
 use Rattle.parser.specs.Holds.{refuses}
 use Rattle.grammar.specs.laws.Places.{rest-none}
 use Rattle.parser.specs.laws.Holds.{by, sooner, holds-moved}
-use Rattle.parser.specs.laws.Wraps.{picked-at, picked-none, reads-at}
+use Rattle.parser.specs.laws.Wraps.{spelled-at, spelled-none, reads-at}
 use Rattle.parser.proofs.types.builtin_d.Statement.{statement}
 use Rattle.parser.proofs.types.builtin_d.Tie as tie
 
@@ -62,19 +62,20 @@ returns c store ends rest σ e h =
 returns-2 : tie.Need-returns-2
 unfolding b
 returns-2 c store ends rest σ e h =
-    let a = c .before .before .before .before .before .before .before .before .before .before .args in
-    by (unknown σ (e ∙ ap (λ (z : Text). 68 ∷ z) (behind-d (a .s .now) (a .p .at) (sym (h .rest) ∙ e) ∙ past (c .before .before .before .before) .there)) (picked-none (c .before .before .builtin-d .ensures) (c .enum-told2 .given .1))) refuses
+    let a = c .before .before .before .before .before .before .before .before .before .before .before .args in
+    by (unknown σ (e ∙ ap (λ (z : Text). 68 ∷ z) (behind-d (a .s .now) (a .p .at) (sym (h .rest) ∙ e) ∙ past (c .before .before .before .before .before) .there)) (spelled-none (c .before .before .builtin-d .ensures) (c .enum-told2 .given .1))) refuses
 
 word-requires : tie.Need-word-requires
-word-requires c κs = (rw (past (c .before .before .before .before .before .before) .next) (c .before .before .before .before .before .before .before .before .before .before .before .before .pre .1 .1 .1 .text), picked-at (c .before .before .before .before .builtin-d .ensures) (c .before .before .picked .given .1) .1)
+word-requires c κs = (rw (past (c .before .before .before .before .before .before .before .before) .next) (c .before .before .before .before .before .before .before .before .before .before .before .before .before .before .pre .1 .1 .1 .text), spelled-at (c .before .before .before .before .before .builtin-d .ensures) (c .before .before .before .n .given .1) .1)
 
 returns-3 : tie.Need-returns-3
 unfolding b
 returns-3 c store ends rest σ e h =
-    let a = c .before .before .before .before .before .before .before .before .before .before .before .before .before .before .before .args in
-    let w = picked-at (c .before .before .before .before .before .before .before .builtin-d .ensures) (c .before .before .before .before .before .picked .given .1) in
-    by (known σ (e ∙ ap (λ (z : Text). 68 ∷ z) (behind-d (a .s .now) (a .p .at) (sym (h .rest) ∙ e) ∙ past (c .before .before .before .before .before .before .before .before .before) .there)) (w .0))
-    (sooner (omega arith) (reads-at (past (c .before .before .before .before .before .before .before .before .before) .next) (c .before .before .word .ensures (a .s .now) store ends) _ (holds-moved h (a .p .at + 1 + 1) (omega (arith, past (c .before .before .before .before .before .before .before .before .before) .inside)))))
+    let a = c .before .before .before .before .before .before .before .before .before .before .before .before .before .before .before .before .before .args in
+    let at-c = c .before .before .before .before .before .before .before .before .before .before .before in
+    let w = spelled-at (c .before .before .before .before .before .before .before .before .builtin-d .ensures) (c .before .before .before .before .before .before .n .given .1) in
+    by (known σ (e ∙ ap (λ (z : Text). 68 ∷ z) (behind-d (a .s .now) (a .p .at) (sym (h .rest) ∙ e) ∙ past at-c .there)) (w .0 .0))
+    (sooner (omega arith) (reads-at (past at-c .next) (c .before .before .word3 .ensures (a .s .now) store ends) _ (holds-moved h (a .p .at + 1 + 1) (omega (arith, past at-c .inside)))))
 
 pub builtin-d-spec : {M : Type 1} → statement M
 builtin-d-spec =

@@ -5,20 +5,19 @@ use mathlib.Core.Option.{Option, none, some}
 use Prim.Native.Nat.{ℕ, _-_}
 use native.Mathlib.Omega.{arith}
 use borrow.Author.Needs.{needs}
-use lib.ListN.{length, length-append}
+use lib.ListN.{length, take, length-append}
 use Rattle.grammar.specs.Text.{Text, b, choose}
 use Rattle.grammar.specs.Tables.{wrappers}
 use Rattle.grammar.specs.Reader.{find, word-for, recorded}
 use Rattle.grammar.specs.Grammar.{at-slots}
-use Rattle.grammar.specs.Words.{spelled, behind-type, at-slot}
+use Rattle.grammar.specs.Words.{behind-type, at-slot}
 use Rattle.grammar.specs.laws.Finds.{by-pair, all-of}
-use Rattle.grammar.proofs.Lookups.{length-spelled}
 use Rattle.store.specs.Stack.{slots-in}
 use Rattle.store.specs.laws.Lists.{drop-take}
 use Rattle.parser.specs.laws.Holds.{by, holds-puts}
 use Rattle.parser.specs.laws.Halves.{newest-part}
 use Rattle.parser.specs.Wraps.{Wrapper}
-use Rattle.parser.specs.laws.Wraps.{picked-at, picked-none, some-is, some-not, puts-top, stands-puts, behind, inside}
+use Rattle.parser.specs.laws.Wraps.{spelled-at, spelled-none, some-is, some-not, puts-top, stands-puts, behind, inside}
 use Rattle.parser.proofs.types.wrap.Statement.{statement}
 use Rattle.parser.proofs.types.wrap.Tie as tie
 
@@ -42,56 +41,41 @@ words-of x u e =
 
 -- Stages: places that later facts cite. Each function goes from one to the one before it.
 abbrev before-wrapper : tie.After-wrapper → tie.Start
-before-wrapper c = c .before .before .before .before .before .before .before
+before-wrapper c = c .before .before .before .before .before .before .before .before
 
 returns : tie.Need-returns
-returns c k d s base from t σ u e h = absurd (some-not (sym (words-of _ u e .0) ∙ picked-none (c .before .before .wrapper .ensures) (c .enum-told .given .1)))
-
-sub-more : tie.Need-sub-more
-sub-more c = picked-at (c .before .before .before .before .wrapper .ensures) (c .before .before .picked .given .1) .1 .0
-
-add-size : tie.Need-add-size
-add-size c =
-    let at-wrapper = c .before .before .before .before in let at-start = before-wrapper at-wrapper in
-    omega (arith, picked-at (c .before .before .before .before .wrapper .ensures) (c .before .before .picked .given .1) .1 .1, at-start .pre .1 .1)
+returns c k d s base from t σ u e h = absurd (some-not (sym (words-of _ u e .0) ∙ spelled-none (c .before .before .wrapper .ensures) (c .enum-told .given .1)))
 
 put-word-requires : tie.Need-put-word-requires
 put-word-requires c κs =
-    let at-wrapper = c .before .before .before .before .before in let at-start = before-wrapper at-wrapper in
-    (at-start .pre .0 .1 .1 .text, picked-at (at-wrapper .wrapper .ensures) (c .before .before .before .picked .given .1) .1)
+    let at-wrapper = c .before .before .before .before .before in
+    (before-wrapper at-wrapper .pre .0 .1 .1 .text, spelled-at (at-wrapper .wrapper .ensures) (c .before .before .before .more .given .1) .1)
+
+add-recorded : tie.Need-add-recorded
+add-recorded c =
+    let at-wrapper = c .before .before .before .before .before .before .before .before .before .before .before in
+    omega (arith, spelled-at (at-wrapper .wrapper .ensures) (c .before .before .before .before .before .before .before .before .before .more .given .1) .1, before-wrapper at-wrapper .pre .1 .1)
 
 recorded-requires : tie.Need-recorded-requires
 recorded-requires c κs =
-    let at-wrapper = c .before .before .before .before .before .before .before .before .before .before .before in let at-start = before-wrapper at-wrapper in
-    let a = at-start in
+    let a = before-wrapper (c .before .before .before .before .before .before .before .before .before .before .before) in
     let h = a .pre .0 .1 .1 in
-    let x = picked-at (at-wrapper .wrapper .ensures) (c .before .before .before .before .before .before .before .before .before .picked .given .1) in (
-      (a .pre .0 .0, (a .pre .0 .1 .0, holds-puts (c .before .before .before .before .before .put-word .ensures) h)),
-      omega (arith, puts-top (a .args .n) (h .text) (c .before .before .before .before .before .put-word .ensures) (a .pre .1 .0) (omega (arith, a .pre .1 .1)), length-spelled _ (x .1)),
+    let u = c .before .before .before .before .before .put-word .ensures in (
+      (a .pre .0 .0, (a .pre .0 .1 .0, holds-puts (u .1) h)),
+      omega (arith, puts-top (a .args .n) (h .text) (u .1) (a .pre .1 .0) (omega (arith, a .pre .1 .1)), u .0),
     )
 
 returns-2 : tie.Need-returns-2
 returns-2 c k d s base from t σ u e h =
-    let at-wrapper = c .before .before .before .before .before .before .before .before .before .before .before .before .before .before .before .before in
-    let at-start = before-wrapper at-wrapper in
-    let a = at-start in
+    let at-wrapper = c .before .before .before .before .before .before .before .before .before .before .before .before .before .before .before .before in let a = before-wrapper at-wrapper in
     let l : length t ≡ a .args .n = omega (arith, h .size, a .pre .1 .1) in
-    let x = picked-at (at-wrapper .wrapper .ensures) (c .before .before .before .before .before .before .before .before .before .before .before .before .before .before .picked .given .1) in
-    let f = some-is (sym (words-of _ u e .0) ∙ x .0) in
+    let x = spelled-at (at-wrapper .wrapper .ensures) (c .before .before .before .before .before .before .before .before .before .before .before .before .before .before .more .given .1) in
+    let f = some-is (sym (words-of _ u e .0) ∙ x .0 .0) in
     let g = newest-part h (omega (arith, l, a .pre .1 .1)) .1 in
-    let z = length-spelled _ (x .1) in
-    by (ap (λ (y : Text). recorded y σ) (behind t (at-slots (b (u .1)) t) (t ++ b (u .0)) (ap slots-in (sym g) ∙ sym (at-wrapper .before .before .slots .ensures .0) ∙ at-wrapper .before .if1 .taken) ∙ ap (λ (y : Text). t ++ y) f))
+    let v = c .before .before .before .before .before .before .before .before .before .before .put-word .ensures in
+    by (ap (λ (y : Text). recorded y σ) (behind t (at-slots (b (u .1)) t) (t ++ b (u .0)) (ap slots-in (sym g) ∙ sym (at-wrapper .before .before .before .slots .ensures .0) ∙ at-wrapper .before .before .if1 .taken) ∙ ap (λ (y : Text). t ++ y) f))
     (c .before .before .before .before .recorded .ensures k d s base from _ σ
-    (stands-puts h (c .before .before .before .before .before .before .before .before .before .before .put-word .ensures)
-    (omega (
-      arith,
-      length-append t
-          (spelled (c .before .before .before .before .before .before .before .before .before .before .before .before .before .before .picked .given .0 .0)),
-      z,
-      l,
-      x .1 .1,
-      a .pre .1 .1,
-    ))))
+    (stands-puts h (v .1) (omega (arith, length-append t (take (c .before .before .before .before .before .before .before .before .before .before .before .before .before .before .more .given .0 .0) (at-wrapper .wrapper .last .0)), v .0, l, x .1, a .pre .1 .1))))
 
 wrap-slots-requires : tie.Need-wrap-slots-requires
 wrap-slots-requires c κs =
@@ -121,9 +105,8 @@ wrap-spec =
     (λ c. search needs)
     (λ c. search needs)
     returns
-    sub-more
-    add-size
     put-word-requires
+    add-recorded
     recorded-requires
     (λ c. search needs)
     (λ c. search needs)
