@@ -107,7 +107,9 @@ module _ (ks : Text) (a : ℕ) (t : Text) (h : None-of a ks) where
   same-word [] = refl
   same-word ((k ⇒ w) ∷ rows) = one-row (holds (getD (b k) 0 0) ks) k w (without ks rows) rows (other-first (b k)) (same-word rows)
 
+-- a code that has the same word in another table
+pub alike : {rows rows' : Table} {code code' word word' : Text} {r : Word} → word-for rows code ≡ word-for rows' code' → Spells rows code word word' r → Spells rows' code' word word' r
+alike {word = word} e p = record { is = p .is ∙ ap told e; written = p .written ∙ ap (λ (o : Option Text). with-word o word) e; fits = p .fits }
+
 pub skipped : {rows : Table} {word word' : Text} {r : Word} (ks : Text) {a : ℕ} {t : Text} → Spells (without ks rows) (a ∷ t) word word' r → None-of a ks → Spells rows (a ∷ t) word word' r
-skipped {rows} {word} ks {a} {t} p h =
-    let e = same-word ks a t h rows in
-    record { is = p .is ∙ ap told e; written = p .written ∙ ap (λ (o : Option Text). with-word o word) e; fits = p .fits }
+skipped {rows} ks {a} {t} p h = alike (same-word ks a t h rows) p

@@ -250,18 +250,13 @@ pub fn wrapper(word: &mut [u8; LONGEST], c: u8) -> Word
     }
 }
 
-// What a wrapper puts at a slot of a type.
+// What a wrapper puts at a slot of a type: what it puts behind one, but for C and r.
 pub fn slot_wrapper(word: &mut [u8; LONGEST], c: u8) -> Word
     ensures { λ r. ⌜ Spells at-slot (c ∷ []) (now (word .entry)) (now (word .exit)) r ⌝ }
 {
     match c {
-        b'P' => put(word, b"*"),
-        b'R' => put(word, b"&"),
-        b'O' => put(word, b"&&"),
-        b'K' => put(word, b" const"),
-        b'V' => put(word, b" volatile"),
         b'C' => put(word, b""),
         b'r' => put(word, b""),
-        _ => Word::Nothing,
+        _ => wrapper(word, c),
     }
 }

@@ -11,12 +11,8 @@ unfolding right all-barred
 abbreviation-spec =
     tie.close
     (tie.spec
-    (λ c. search needs) (λ c κs. search needs)
-    (λ c. search needs) (λ c κs. search needs)
-    (λ c. search needs) (λ c κs. search needs)
-    (λ c. search needs) (λ c κs. search needs)
-    (λ c. search needs) (λ c κs. search needs)
-    (λ c. search needs) (λ c κs. search needs)
+    (λ c. search needs) (λ c κs. search needs) (λ c. search needs) (λ c κs. search needs) (λ c. search needs) (λ c κs. search needs)
+    (λ c. search needs) (λ c κs. search needs) (λ c. search needs) (λ c κs. search needs) (λ c. search needs) (λ c κs. search needs)
     (λ c. search needs) (λ c κs. search needs)
     (λ c. rw (c .before .before .before .match .keys1) (found tt (c .put .ensures)))
     (λ c. rw (c .before .before .before .match .keys2) (found tt (c .put2 .ensures)))
