@@ -1,4 +1,4 @@
--- Laws of texts that take the place of others on the stack, of slots, and of words picked. Assumes nothing.
+-- What a wrapper puts behind a type and at a slot.
 use Prim.Native.String.{String}
 
 -- what a wrapper puts behind a type, and at a slot

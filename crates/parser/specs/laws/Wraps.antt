@@ -1,4 +1,4 @@
--- Laws of Wraps.antt. Assumes nothing.
+-- Laws of texts that take the place of others on the stack, of slots, and of words told. Assumes nothing.
 use mathlib.Core.Bool.{Bool, true, false, _&&_, _||_}
 use mathlib.Core.Path.{_≡_, refl, sym, ap, ap₂, _∙_, subst}
 use mathlib.Core.List.{[], _∷_, _++_, append-assoc, append-nil}
@@ -205,7 +205,7 @@ module _ (t x y : Text) where
 pub woven-size : (w t : Text) {n slots each : ℕ} → length t ≡ n → slots-in t ≡ slots → length w ≡ each → length (at-slots w t) ≡ n + slots * each
 woven-size w t {n} e f g = length-at-slots w t ∙ ap (λ (i : ℕ). i + slots-in t * length w) e ∙ ap₂ (λ (i j : ℕ). n + i * j) f g
 
--- ---------------------------------------------------------------- words picked
+-- ---------------------------------------------------------------- words told
 
 pub some-is : {x y : Text} → some x ≡ some y → x ≡ y
 unfolding choose
