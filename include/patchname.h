@@ -96,7 +96,7 @@ uint8_t patchname_normalize(
  *                         line feed. With another number than 0 the length is 0 and there is no name. No other line stands in front.
  * name, name_length       one more work slice, of PATCHNAME_NAME_BYTES at least, for one name or normal symbol at a time.
  * text, store, ends       work slices, as for `patchname_demangle`.
- * taken                   where it goes how many bytes of `input` were taken: the lines at its front whose listing fits into `out`.
+ * taken                   where the number of bytes taken goes: those of the lines at the front of `input` whose listing fits into `out`.
  * written                 where the length of the listing goes. The values of both before the call don't matter.
  *
  * Returned is PATCHNAME_WORK_TOO_SHORT where a work slice is below its least length; PATCHNAME_OUTPUT_TOO_SHORT where `input` has a complete line

@@ -1,4 +1,4 @@
-// The reader's state and answers, and the readings that call no other reading back.
+// The readings that call no other reading back.
 pub mod leaf;
 pub mod literal;
 pub mod memory;

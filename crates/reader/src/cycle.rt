@@ -639,7 +639,7 @@ pub fn items(
     }
 }
 
-// One text of a list, which begins with c.
+// One text of a list.
 fn item(
     s: &[u8],
     text: &mut [u8],
