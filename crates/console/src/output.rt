@@ -25,21 +25,31 @@ fn put_header(out: &mut [u8]) -> usize
     16
 }
 
-// Writes the first n bytes of `out`. False where the write fails.
-fn write_front(out: &[u8], n: usize) -> bool
-    requires { ⌜ n ≤ length (now out) ⌝ }
-{
-    if io::write_all(1, &out[..n]) {
-        return true;
-    }
-    io::write_all(2, b"patch names: standard output can't be written\n");
-    false
+// So many bytes were handed over to be written, and whether the write went well.
+pub struct Handed {
+    pub put: usize,
+    pub went: bool,
 }
 
-// Writes the header, from the front of `out`. False where the write fails.
-pub fn write_header(out: &mut [u8]) -> bool
+// Writes the first n bytes of `out`.
+fn write_front(out: &[u8], n: usize) -> Handed
+    requires { ⌜ n ≤ length (now out) ⌝ }
+    ensures { λ r. ⌜ r .put ≡ n ⌝ }
+{
+    if io::write_all(1, &out[..n]) {
+        return Handed { put: n, went: true };
+    }
+    io::write_all(2, b"patch names: standard output can't be written\n");
+    Handed {
+        put: n,
+        went: false,
+    }
+}
+
+// Writes the header, from the front of `out`.
+pub fn write_header(out: &mut [u8]) -> Handed
     requires { ⌜ 16 ≤ length (now out) ⌝ }
-    ensures { λ _. ⌜ now (out .exit) ≡ header ++ drop 16 (now (out .entry)) ⌝ }
+    ensures { λ r. ⌜ (now (out .exit) ≡ header ++ drop 16 (now (out .entry))) × (r .put ≡ 16) ⌝ }
 {
     let n = put_header(out);
     write_front(out, n)
@@ -69,10 +79,11 @@ pub fn write_some(
         end: buffer.end,
         ended: buffer.ended,
     };
+    let handed = write_front(out, listed.written);
     Turn {
         buffer: next,
         got: 0,
-        put: listed.written,
-        goes_on: write_front(out, listed.written),
+        put: handed.put,
+        goes_on: handed.went,
     }
 }

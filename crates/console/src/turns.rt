@@ -14,7 +14,7 @@ ghost use Rattle.listing.specs.Listing.{most-line-bytes};
 ghost use Rattle.listing.specs.Kinds.{LongFor};
 ghost use Rattle.listing.specs.Cut.{most-kept};
 ghost use Rattle.console.specs.Buffer.{Placed};
-ghost use Rattle.console.specs.Turns.{GoesOn, Ends};
+ghost use Rattle.console.specs.Turns.{TurnsOn, Ends};
 
 // Writes lines of the buffer; where it has none, reads, up to the end of the input.
 fn turn(
@@ -30,7 +30,7 @@ fn turn(
 ) -> Turn
     requires { ⌜ Placed (length (now lines)) buffer × ((most-kept + 1 + length (now chunk) ≤ length (now lines)) × (most-line-bytes ≤ length (now out))) ⌝ }
     requires { ⌜ LongFor kind (slices (now name) (now text) (now store) (now ends)) ⌝ }
-    ensures { λ r. ⌜ GoesOn kind (now (chunk .exit)) (now (out .exit)) (now (lines .entry)) (now (lines .exit)) buffer r ⌝ }
+    ensures { λ r. ⌜ TurnsOn kind (now (chunk .exit)) (now (out .exit)) (now (lines .entry)) (now (lines .exit)) buffer r ⌝ }
 {
     if buffer.from < buffer.start {
         return write_some(kind, lines, buffer, out, name, text, store, ends);
@@ -63,7 +63,8 @@ pub fn list_input(
     ensures { λ r. ⌜ Ends kind (now (lines .exit)) r ⌝ }
 {
     let mut buffer = empty();
-    let mut goes_on = write_header(out);
+    let handed = write_header(out);
+    let mut goes_on = handed.went;
     let mut turns = u64::MAX;
     while turns > 0 && goes_on {
         let next = turn(kind, chunk, lines, buffer, out, name, text, store, ends);

@@ -8,6 +8,7 @@ use Rattle.catalogue.specs.Tree.{Kind, Ty, lit, kind-code}
 use Rattle.catalogue.specs.Class.{lit-ok}
 use Rattle.catalogue.specs.Recogniser.{Rd, rd, stop, with-code, all-kinds}
 use Rattle.normal_walk.specs.Walk.{name, reference, value as value-at, literal as literal-at}
+use Rattle.normal_steps.specs.Limits.{most-note}
 use Rattle.normal_steps.specs.Parts.{part}
 use Rattle.normal_steps.specs.declared.words.Named.{Named}
 use Rattle.normal_steps.specs.declared.words.Named.the-variants.{At, Bad as no-name}
@@ -31,9 +32,9 @@ NameIs s at no-name = name (drop at s) ≡ stop
 
 -- ---------------------------------------------------------------- references
 
--- all indexes that are larger answer with this one
+-- all indexes that are larger answer with this one, which no table reaches
 abbrev pub most-index : ℕ
-most-index = 65536
+most-index = most-note
 
 pub record RefAt (s : Text) (at i end : ℕ) : Type 0 where
   pub index : ℕ

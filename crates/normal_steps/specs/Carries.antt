@@ -70,9 +70,9 @@ notes-to ws notes = record { out = ws .out; notes = notes }
 
 -- ---------------------------------------------------------------- the state
 
--- so large is no number of a tree
+-- so large is no number of a tree: they begin at 256, and there are no more of them than bytes of the symbol
 abbrev pub most-number : ℕ
-most-number = 8192
+most-number = 2 * most-symbol-bytes
 
 unfoldable pub small : ℕ → Bool
 small d = ltb d most-number

@@ -1,10 +1,10 @@
 -- `output::write_some` meets its contract. Assumes nothing.
-use mathlib.Core.List.{append-nil}
-use mathlib.Core.Path.{refl, sym}
-use Prim.Native.Nat.{_+_, _≤_}
+use mathlib.Core.List.{_++_, append-nil}
+use mathlib.Core.Path.{sym, ap}
+use Prim.Native.Nat.{ℕ, _+_, _≤_}
 use native.Mathlib.Omega.{arith}
 use borrow.Author.Needs.{needs}
-use lib.ListN.{length}
+use lib.ListN.{length, take}
 use Rattle.answer.specs.Told.{Slices, slices}
 use Rattle.console.specs.laws.Buffer.{listed-inside, long-sized, fed-as, fed-listed, listed-more}
 use Rattle.console.proofs.output.write_some.Statement.{statement}
@@ -23,8 +23,8 @@ inside c =
     let p = s .pre .0 .0 in
     listed-inside (s .args .kind) (s .args .lines .now) (s .args .out .now) (s .args .buffer .from) (s .args .buffer .start) (work c) (c .list-lines .ensures) (p .first) (omega (arith, p .second, p .inside))
 
-add-t14 : tie.Need-add-t14
-add-t14 c = record { fits = omega (arith, (inside (c .before .before .before .before .before .before .before .before .before .before .before)) .0) }
+add-t15 : tie.Need-add-t15
+add-t15 c = record { fits = omega (arith, (inside (c .before .before .before .before .before .before .before .before .before .before .before)) .0) }
 
 write-front-requires : tie.Need-write-front-requires
 write-front-requires c κs = omega (arith, (inside (c .before .before .before .before .before .before .before .before .before .before .before .before)) .1, c .before .before .before .before .before .before .before .before .before .before .before .before .list-lines .kept .1 .1 .0)
@@ -36,8 +36,8 @@ returns c =
     let l = at .list-lines in
     let sized = long-sized (s .pre .1) in
     record {
-      fed = λ chunk all handed f. fed-as (fed-listed f (s .args .out .now) (work at) (l .ensures) sized) (sym (append-nil all)) refl;
-      inside = omega (arith, (inside at) .1, l .kept .1 .1 .0);
+      fed = λ chunk all handed f. fed-as (fed-listed f (s .args .out .now) (work at) (l .ensures) sized) (sym (append-nil all)) (ap (λ (j : ℕ). handed ++ take j (l .last .1 .1 .0)) (sym (c .write-front .ensures)));
+      inside = omega (arith, (inside at) .1, l .kept .1 .1 .0, c .write-front .ensures);
       more = λ all handed f. omega (arith, listed-more f (s .args .out .now) (work at) (l .ensures) sized (s .pre .0 .1 .1) (s .pre .0 .1 .0));
     }
 
@@ -49,7 +49,7 @@ write-some-spec =
     (λ c. search needs)
     (λ c. search needs)
     (λ c κs. search needs)
-    add-t14
+    add-t15
     write-front-requires
     (λ c. search needs)
     (λ c. search needs)

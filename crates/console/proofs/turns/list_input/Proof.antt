@@ -41,7 +41,7 @@ loop-again c =
     let r = c .before .before .before .before .before .before .before .before .before .before .before .before .before .before .before .turn in
     let k = r .kept .1 in
     let h = k .1 .1 .1 in
-    ((_, (_, r .ensures (f .0) (f .1 .0) (f .1 .1))), (k .0 ∙ i, (k .1 .0 ∙ j, (h .0 ∙ o, (h .1 .0 ∙ n, (h .1 .1 .0 ∙ t, (h .1 .1 .1 .0 ∙ s, h .1 .1 .1 .1 .0 ∙ e)))))))
+    ((_, (_, r .ensures .fed (f .0) (f .1 .0) (f .1 .1))), (k .0 ∙ i, (k .1 .0 ∙ j, (h .0 ∙ o, (h .1 .0 ∙ n, (h .1 .1 .0 ∙ t, (h .1 .1 .1 .0 ∙ s, h .1 .1 .1 .1 .0 ∙ e)))))))
 
 returns : tie.Need-returns Inv-loop μ-loop
 returns c = ends (c .before .before .loop .inv .0 .1 .1) (c .all-listed .ensures)
