@@ -490,10 +490,10 @@ fn array(s: &[u8], text: &mut [u8], store: &mut [u8], ends: &mut [u16], p: Parse
 {
     let from = p.at;
     let to = bytes::before(s, from, b'_');
-    if s.len() <= to {
+    let Eaten::Next(behind) = p.moved(to).eat(s, b'_') else {
         return Read::Refused(4);
-    }
-    let got = ty(s, text, store, ends, p.moved(to + 1));
+    };
+    let got = ty(s, text, store, ends, behind);
     let Read::Text(next, n) = got else {
         return got;
     };
@@ -784,8 +784,8 @@ fn lit(s: &[u8], text: &mut [u8], store: &mut [u8], ends: &mut [u16], p: Parser)
     };
     let from = next.at;
     let to = bytes::before(s, from, b'E');
-    if s.len() <= to {
+    let Eaten::Next(last) = next.moved(to).eat(s, b'E') else {
         return Read::Refused(4);
-    }
-    literal::literal(s, text, next.moved(to + 1), n, from, to)
+    };
+    literal::literal(s, text, last, n, from, to)
 }

@@ -1,13 +1,13 @@
 -- Laws of array types, and of the byte ahead. Assumes nothing.
 use mathlib.Core.Bool.{Bool, true, false, not}
 use mathlib.Core.List.{[], _∷_, _++_}
-use mathlib.Core.Path.{_≡_, refl, sym, ap, ap₂, _∙_, subst}
+use mathlib.Core.Path.{_≡_, refl, sym, ap, _∙_, subst}
 use Prim.Native.Nat.{ℕ, _+_, _-_, _≤_, _<_}
 use native.Mathlib.Omega.{arith}
-use borrow.Author.Tests.{ne-eqb, not-false}
+use borrow.Author.Tests.{ne-eqb}
 use lib.Dec.{eqb}
 use lib.ListN.{length, take, drop, length-append}
-use Rattle.grammar.specs.Text.{Text, b, holds, run, if_then_else_}
+use Rattle.grammar.specs.Text.{Text, b, holds, starts, run, if_then_else_}
 use Rattle.grammar.specs.Limits.{most-text-bytes}
 use Rattle.grammar.specs.Reader.{State, refused, Reader, onto, every, need, give}
 use Rattle.grammar.specs.Grammar.{reading, ⟨type⟩}
@@ -22,7 +22,7 @@ use Rattle.parser.specs.Holds.{Memory, mem, part, Holds, Stands, Refines, Puts,
 use Rattle.parser.specs.laws.Holds.{given-refines}
 use Rattle.parser.specs.laws.Literals.{stands-size, length-part}
 use Rattle.parser.specs.laws.Wraps.{stands-puts}
-use Rattle.grammar.specs.laws.Runs.{every-at, need-here, need-not, starts-one, starts-none, run-stops}
+use Rattle.grammar.specs.laws.Runs.{every-at, need-here, need-not}
 use Rattle.reader.specs.laws.Items.{peek-end, byte-there, byte-within}
 
 -- ---------------------------------------------------------------- array types
@@ -55,29 +55,26 @@ unfolding g.array-type
 array-is σ = refl
 
 module _ (s : Text) (at : ℕ) (σ : State) (e : σ .rest ≡ drop at s) {to : ℕ} (r : to ≡ at + length (run bound (drop at s))) where
-  ran : g.array-type reading σ ≡ bounded (run bound (drop at s)) (moved (drop (at + length (run bound (drop at s))) s) σ)
+  ran : g.array-type reading σ ≡ bounded (run bound (drop at s)) (moved (drop to s) σ)
   unfolding onto
-  ran = array-is σ ∙ ap (onto bounded) (every-at bound s at σ e)
+  ran =
+      array-is σ
+      ∙ ap (onto bounded) (every-at bound s at σ e)
+      ∙ ap (λ (j : ℕ). bounded (run bound (drop at s)) (moved (drop j s) σ)) (sym r)
 
-  pub array-4 : length s ≤ to → g.array-type reading σ ≡ refused 4
+  pub array-4 : starts (drop to s) (95 ∷ []) ≡ false → g.array-type reading σ ≡ refused 4
   unfolding onto b
-  array-4 l =
-      ran
-      ∙ ap (onto (typed (run bound (drop at s))))
-      (need-not "_" s (at + length (run bound (drop at s))) (moved (drop (at + length (run bound (drop at s))) s) σ) refl (starts-none s (at + length (run bound (drop at s))) 95 (omega arith)))
+  array-4 l = ran ∙ ap (onto (typed (run bound (drop at s)))) (need-not "_" s to (moved (drop to s) σ) refl l)
 
   is-part : run bound (drop at s) ≡ part s at to
   is-part = sym (run-front bound (drop at s)) ∙ ap (λ (j : ℕ). take j (drop at s)) {x = length (run bound (drop at s))} {y = to - at} (omega arith)
 
-  pub array-in : to < length s → g.array-type reading σ ≡ onto (sized (part s at to)) (reading ⟨type⟩ (moved (drop (to + 1) s) σ))
+  pub array-in : starts (drop to s) (95 ∷ []) ≡ true → g.array-type reading σ ≡ onto (sized (part s at to)) (reading ⟨type⟩ (moved (drop (to + 1) s) σ))
   unfolding onto b
   array-in l =
-      let i : at + length (run bound (drop at s)) < length s = omega arith in
       ran
-      ∙ ap (onto (typed (run bound (drop at s))))
-      (need-here "_" s (at + length (run bound (drop at s))) (moved (drop (at + length (run bound (drop at s))) s) σ) refl
-      (starts-one s (at + length (run bound (drop at s))) 95 i ∙ not-false _ (run-stops bound s at i)))
-      ∙ ap₂ (λ (n : Text) (j : ℕ). onto (sized n) (reading ⟨type⟩ (moved (drop (j + 1) s) σ))) is-part (sym r)
+      ∙ ap (onto (typed (run bound (drop at s)))) (need-here "_" s to (moved (drop to s) σ) refl l)
+      ∙ ap (λ (n : Text). onto (sized n) (reading ⟨type⟩ (moved (drop (to + 1) s) σ))) is-part
 
 pub part-size : {s : Text} {m : Memory} {p : Parser} {σ : State} → Holds s m p σ → (to : ℕ) → to ≤ length s → length (part s (p .at) to) ≡ to - p .at
 part-size {s} {p = p} h to l = length-part s (p .at) to l

@@ -2,11 +2,10 @@
 use mathlib.Core.Bool.{Bool, true, false, not}
 use mathlib.Core.List.{[], _∷_, _++_, append-assoc}
 use mathlib.Core.Path.{_≡_, refl, sym, ap, _∙_, subst}
-use Prim.Native.Nat.{ℕ, _+_, _-_, _≤_, _<_}
+use Prim.Native.Nat.{ℕ, _+_, _-_, _≤_}
 use native.Mathlib.Omega.{arith}
-use borrow.Author.Tests.{not-false}
 use lib.Dec.{eqb}
-use lib.ListN.{length, take, drop, getD, length-append}
+use lib.ListN.{length, take, drop, length-append}
 use Rattle.grammar.specs.Text.{Text, b, starts, run}
 use Rattle.grammar.specs.Limits.{most-text-bytes}
 use Rattle.grammar.specs.Tables.{_⇒_}
@@ -26,7 +25,7 @@ use Rattle.parser.specs.laws.Wraps.{stands-puts}
 use Rattle.parser.specs.laws.Halves.{newest-part}
 use Rattle.parser.specs.Literals.{Gives}
 use Rattle.grammar.specs.laws.Places.{starts-inside}
-use Rattle.grammar.specs.laws.Runs.{case-here, case-not, need-here, need-not, eat-here, eat-not, every-at, run-stops, starts-one, starts-none}
+use Rattle.grammar.specs.laws.Runs.{case-here, case-not, need-here, need-not, eat-here, eat-not, every-at}
 use Rattle.reader.specs.laws.Opens.{call-moved}
 use Rattle.reader.specs.laws.Arrays.{run-front}
 use Rattle.reader.specs.laws.Standing.{wrote-moved, given-as, stands-sized, wrote-behind}
@@ -143,40 +142,40 @@ module _ {s : Text} {m : Memory} {p q : Parser} {σ : State} (h : Holds s m p σ
               ∙ ap (onto valued-on) (lit-type-got .is)
               ∙ ap (onto (λ x w. onto (λ _. give (literal (lit-type-got .said) x)) (need "E" w))) value-is
 
-          pub lit-open : {m'' : Memory} → length s ≤ to → Primary s m m'' p (Refused 4) σ
+          pub lit-open : {m'' : Memory} → starts (drop to s) (69 ∷ []) ≡ false → Primary s m m'' p (Refused 4) σ
           unfolding onto b
-          lit-open x = by (valued-is ∙ ap (onto (λ _. give (literal (lit-type-got .said) (run not-E (drop (next .at) s))))) (need-not "E" s to (moved (drop to s) (lit-type-got .state)) refl (starts-none s to 69 x))) refuses
+          lit-open x =
+              by (valued-is ∙ ap (onto (λ _. give (literal (lit-type-got .said) (run not-E (drop (next .at) s))))) (need-not "E" s to (moved (drop to s) (lit-type-got .state)) refl x))
+              refuses
 
           value-part : run not-E (drop (next .at) s) ≡ part s (next .at) to
           value-part =
               sym (run-front not-E (drop (next .at) s))
               ∙ ap (λ (j : ℕ). take j (drop (next .at) s)) {x = length (run not-E (drop (next .at) s))} {y = to - next .at} (omega (arith, o .0))
 
-          E-ahead : to < length s → starts (drop to s) (69 ∷ []) ≡ true
-          E-ahead x = starts-one s to 69 x ∙ not-false _ (subst (λ (j : ℕ). not-E (getD s j 0) ≡ false) (sym (o .0)) (run-stops not-E s (next .at) (omega (arith, o .0))))
-
-          pub lit-ready : to < length s → {next' : Parser} → next' ≡ moved-to next (to + 1)
+          pub lit-ready : {next' : Parser} → next' ≡ moved-to next (to + 1)
               → (Stack (m' .text) (next' .top)) × ((n ≤ next' .top) × ((n ≤ most-text-bytes) × ((next .at ≤ to) × ((to ≤ length s) × (length s ≤ most-text-bytes)))))
-          lit-ready x {next'} z =
+          lit-ready {next'} z =
               let w = lit-type-got .wrote in
               let a = newest-part (stands w (omega arith) (omega (arith, h .deep))) (omega (arith, w .short)) .0 in
               subst (λ (v : Parser). (Stack (m' .text) (v .top)) × ((n ≤ v .top) × ((n ≤ most-text-bytes) × ((next .at ≤ to) × ((to ≤ length s) × (length s ≤ most-text-bytes)))))) (sym z)
-              (w .holds .text, (a, (omega (arith, w .size, w .short), (omega (arith, o .0), (omega arith, h .source)))))
+              (w .holds .text, (a, (omega (arith, w .size, w .short), (omega (arith, o .0), (o .1, h .source)))))
 
 pub lit-given :
     {s : Text} {m : Memory} {p q : Parser} {σ : State} (h : Holds s m p σ) (l : starts (drop (p .at) s) (76 ∷ []) ≡ true)
     (g : starts (drop (p .at + 1) s) (95 ∷ []) ≡ false) (i : q ≡ moved-to p (p .at + 1)) {text store ends text' : Text} {r : Read}
     (f : Reads (reading ⟨type⟩) (keep (q .depth + 1)) (q .at + 1) s m (mem text store ends) q r) {next : Parser} {n : ℕ} (e : r ≡ read next n)
-    {to : ℕ} (o : (to ≡ next .at + length (run (λ x. not (eqb x 69)) (drop (next .at) s))) × (to ≤ length s)) → to < length s → {next' : Parser} → next' ≡ moved-to next (to + 1) →
+    {to : ℕ} (o : (to ≡ next .at + length (run (λ x. not (eqb x 69)) (drop (next .at) s))) × (to ≤ length s)) → starts (drop to s) (69 ∷ []) ≡ true →
+    {next' : Parser} → next' ≡ moved-to next (to + 1) →
     {v : Read} → Gives s text text' next' n v most-text-bytes (λ t. literal t (part s (next .at) to)) → Primary s m (mem text' store ends) p v σ
 unfolding onto b
 lit-given {s} {m} {p} {q} {σ} h l g i {text} {store} {ends} {text'} {r} f {next} {n} e {to} o x {next'} z {v} k =
     let y = lit-type-got h l g i f e in
     let st : Stands (keep (p .depth) + 18) (p .depth) s (window m p) (p .at + 1) (mem text store ends) (moved-to next (to + 1)) n (y .said) (moved (drop (to + 1) s) (y .state)) =
-    stands (wrote-moved (to + 1) (y .wrote) (omega arith) (omega (arith, y .wrote .more, o .0)) (omega arith)) (omega arith) (omega (arith, h .deep)) in
+    stands (wrote-moved (to + 1) (y .wrote) (omega arith) (omega (arith, y .wrote .more, o .0)) (omega (arith, starts-inside s to 69 x))) (omega arith) (omega (arith, h .deep)) in
     by
     (valued-is h l g i f e o
-    ∙ ap (onto (λ _. give (literal (y .said) (run not-E (drop (next .at) s))))) (need-here "E" s to (moved (drop to s) (y .state)) refl (E-ahead h l g i f e o x))
+    ∙ ap (onto (λ _. give (literal (y .said) (run not-E (drop (next .at) s))))) (need-here "E" s to (moved (drop to s) (y .state)) refl x)
     ∙ ap (λ (u : Text). give (literal (y .said) u) (moved (drop (to + 1) s) (y .state))) (value-part h l g i f e o))
     (subst (λ (w : Parser). Gives s text text' w n v most-text-bytes (λ t. literal t (part s (next .at) to))) z k store ends (keep (p .depth)) (p .depth) (window m p) (p .at + 1) (y .said) _ st (y .wrote .short) (omega arith))
 

@@ -410,7 +410,7 @@ abbrev pub args-calls : ℕ → args-lts.Claims
 args-calls t = (eat-reads.Asked, eat-reads.Learnt, enter-reads.Asked, enter-reads.Learnt, put-reads.Asked, put-reads.Learnt, items-below t, items.Post, refused-reads.Asked, refused-reads.Learnt, leave-reads.Asked, leave-reads.Learnt, sum-reads.Asked, sum-reads.Learnt, given-reads.Asked, given-reads.Learnt)
 
 abbrev pub array-calls : ℕ → array-lts.Claims
-array-calls t = (before-reads.Asked, before-reads.Learnt, moved-reads.Asked, moved-reads.Learnt, ty-below t, ty.Post, put-reads.Asked, put-reads.Learnt, put-part-reads.Asked, put-part-reads.Learnt, given-reads.Asked, given-reads.Learnt)
+array-calls t = (before-reads.Asked, before-reads.Learnt, moved-reads.Asked, moved-reads.Learnt, eat-reads.Asked, eat-reads.Learnt, ty-below t, ty.Post, put-reads.Asked, put-reads.Learnt, put-part-reads.Asked, put-part-reads.Learnt, given-reads.Asked, given-reads.Learnt)
 
 abbrev pub at-s-calls : ℕ → at-s-lts.Claims
 at-s-calls t = (std-ahead-reads.Asked, std-ahead-reads.Learnt, std-prefixed-below t, std-prefixed.Post, substitution-reads.Asked, substitution-reads.Learnt, here-reads.Asked, here-reads.Learnt, instance-below t, instance.Post)

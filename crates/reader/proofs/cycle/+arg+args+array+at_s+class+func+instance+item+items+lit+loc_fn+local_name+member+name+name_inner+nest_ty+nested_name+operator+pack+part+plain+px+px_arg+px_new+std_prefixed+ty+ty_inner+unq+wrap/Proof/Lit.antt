@@ -11,7 +11,7 @@ use mathlib.Core.Bool.{true, false}
 use mathlib.Core.List.{[], _∷_}
 use lib.ListN.{drop}
 use Rattle.grammar.specs.Text.{starts}
-use Rattle.grammar.specs.laws.States.{Past, ate, ate-none}
+use Rattle.grammar.specs.laws.States.{Past, past-from, none-from, ate, ate-none}
 use Rattle.grammar.specs.States.{moved-to}
 use borrow.Author.Needs.{needs}
 use native.Mathlib.Omega.{arith}
@@ -36,6 +36,18 @@ module _ (t : ℕ) where
 
   abbrev before-ty : lts.After-ty (lit-calls t) (lit-at t) lit.Post → lts.After-enum-told4 (lit-calls t) (lit-at t) lit.Post
   before-ty c = c .before .before .before .before
+
+  abbrev before-value : lts.After-before2 (lit-calls t) (lit-at t) lit.Post → lts.After-ty (lit-calls t) (lit-at t) lit.Post
+  before-value c = c .before .before .before .before .before .before .before .before .before .before
+
+  abbrev before-last : lts.After-last2 (lit-calls t) (lit-at t) lit.Post → lts.After-before2 (lit-calls t) (lit-at t) lit.Post
+  before-last c = c .before .before .before .before
+
+  abbrev before-open : lts.After-enum-told6 (lit-calls t) (lit-at t) lit.Post → lts.After-before2 (lit-calls t) (lit-at t) lit.Post
+  before-open c = c .before .before .before .before
+
+  abbrev value-start : lts.After-before2 (lit-calls t) (lit-at t) lit.Post → lts.Start (lit-calls t) (lit-at t) lit.Post
+  value-start c = before-behind (before-type (before-ty (before-value c)))
 
   past-L : (c : lts.After-behind (lit-calls t) (lit-at t) lit.Post) → Past (c .before .before .before .before .before .before .before .args .s .now) (c .before .before .before .before .before .before .before .args .p) 76 (c .behind .given .0 .0)
   past-L c = ate _ _ 76 (c .before .before .eat .ensures) (c .behind .given .1)
@@ -64,6 +76,18 @@ module _ (t : ℕ) where
   no-E : (c : lts.After-enum-told3 (lit-calls t) (lit-at t) lit.Post) → starts (drop (c .before .before .before .before .got .given .0 .0 .at)
       (c .before .before .before .before .before .before .before .before .before .before .before .before .before .before .before .before .before .before .before .before .before .before .before .before .before .before .before .before .args .s .now)) (69 ∷ []) ≡ false
   no-E c = ate-none (c .before .before .before .before .before .before .before .before .before .before .before .before .before .before .before .before .before .before .before .before .before .before .before .before .before .before .before .before .args .s .now) (c .before .before .before .before .got .given .0 .0) 69 (c .before .before .eat3 .ensures) (c .enum-told3 .given .1)
+
+  -- E behind a value
+  past-value : (c : lts.After-last2 (lit-calls t) (lit-at t) lit.Post) → Past (value-start (before-last c) .args .s .now) (moved-to (before-last c .before .before .got2 .given .0 .0) (before-last c .before2 .result)) 69 (c .last2 .given .0 .0)
+  past-value c = past-from (c .before .before .before .moved .ensures) (ate _ _ 69 (c .before .before .eat4 .ensures) (c .last2 .given .1))
+
+  value-next : (c : lts.After-last2 (lit-calls t) (lit-at t) lit.Post) → c .last2 .given .0 .0 ≡ moved-to (before-last c .before .before .got2 .given .0 .0) (before-last c .before2 .result + 1)
+  value-next c = past-value c .next
+
+  no-value-E : (c : lts.After-enum-told6 (lit-calls t) (lit-at t) lit.Post) → starts (drop (before-open c .before2 .result) (value-start (before-open c) .args .s .now)) (69 ∷ []) ≡ false
+  no-value-E c =
+      let s = value-start (before-open c) .args .s .now in
+      none-from s 69 (c .before .before .before .moved .ensures) (ate-none s (c .before .before .before .moved .result) 69 (c .before .before .eat4 .ensures) (c .enum-told6 .given .1))
 
 pub eat-requires : (t : ℕ) → lts.Need-eat-requires (lit-calls t) (lit-at t) lit.Post
 eat-requires t c κs = search needs
@@ -200,6 +224,18 @@ before-requires t c κs =
     let at-start = before-behind t at-behind in
     lit-type-got (at-start .pre .1 .1) (past-L t at-behind .ahead) (no-mangled t at-type) (past-L t (at-ty .before .before .before .before .before .before .before .before) .next) (at-ty .ty .ensures) (c .before .got2 .given .1) .wrote .holds .place
 
+pub moved-requires : (t : ℕ) → lts.Need-moved-requires (lit-calls t) (lit-at t) lit.Post
+moved-requires t c κs = search needs
+
+pub eat-requires-4 : (t : ℕ) → lts.Need-eat-requires-4 (lit-calls t) (lit-at t) lit.Post
+eat-requires-4 t c κs = search needs
+
+pub enum-known-last-2 : (t : ℕ) → lts.Need-enum-known-last-2 (lit-calls t) (lit-at t) lit.Post
+enum-known-last-2 t c = search needs
+
+pub enum-told-6 : (t : ℕ) → lts.Need-enum-told-6 (lit-calls t) (lit-at t) lit.Post
+enum-told-6 t c = search needs
+
 pub same-length-13 : (t : ℕ) → lts.Need-same-length-13 (lit-calls t) (lit-at t) lit.Post
 same-length-13 t c = search needs
 
@@ -211,42 +247,31 @@ same-length-15 t c = search needs
 
 pub returns-6 : (t : ℕ) → lts.Need-returns-6 (lit-calls t) (lit-at t) lit.Post
 returns-6 t c =
-    let at-ty = c .before .before .before .before .before .before .before .before .before .before .before in let at-type = before-ty t at-ty in
-    let at-behind = before-type t at-type in
+    let at-value = before-open t c in let at-ty = before-value t at-value in let at-type = before-ty t at-ty in let at-behind = before-type t at-type in
     λ σ h. lit-open h (past-L t at-behind .ahead) (no-mangled t at-type)
-    (past-L t (at-ty .before .before .before .before .before .before .before .before) .next) (at-ty .ty .ensures) (c .before .before .before .got2 .given .1) (c .before .before2 .ensures) (c .if1 .taken)
-
-pub add-moved : (t : ℕ) → lts.Need-add-moved (lit-calls t) (lit-at t) lit.Post
-add-moved t c =
-    let at-ty = c .before .before .before .before .before .before .before .before .before .before .before .before in let at-type = before-ty t at-ty in
-    let at-behind = before-type t at-type in let at-start = before-behind t at-behind in
-    omega (arith, c .before .if1 .left, at-start .pre .1 .1 .source)
-
-pub moved-requires : (t : ℕ) → lts.Need-moved-requires (lit-calls t) (lit-at t) lit.Post
-moved-requires t c κs = search needs
+    (past-L t (at-ty .before .before .before .before .before .before .before .before) .next) (at-ty .ty .ensures) (at-value .before .before .got2 .given .1) (at-value .before2 .ensures) (no-value-E t c)
 
 pub literal-requires : (t : ℕ) → lts.Need-literal-requires (lit-calls t) (lit-at t) lit.Post
 literal-requires t c κs =
-    let at-ty = c .before .before .before .before .before .before .before .before .before .before .before .before .before in let at-type = before-ty t at-ty in
+    let at-last = c .before .before in let at-value = before-last t at-last in let at-ty = before-value t at-value in let at-type = before-ty t at-ty in
     let at-behind = before-type t at-type in let at-start = before-behind t at-behind in
     lit-ready (at-start .pre .1 .1) (past-L t at-behind .ahead)
-    (no-mangled t at-type) (past-L t (at-ty .before .before .before .before .before .before .before .before) .next) (at-ty .ty .ensures) (c .before .before .before .before .before .got2 .given .1)
-    (c .before .before .before .before2 .ensures) (c .before .before .if1 .left) (c .moved .ensures)
+    (no-mangled t at-type) (past-L t (at-ty .before .before .before .before .before .before .before .before) .next) (at-ty .ty .ensures) (at-value .before .before .got2 .given .1)
+    (at-value .before2 .ensures) (value-next t at-last)
 
 pub same-length-16 : (t : ℕ) → lts.Need-same-length-16 (lit-calls t) (lit-at t) lit.Post
-same-length-16 t c = search needs
+same-length-16 t c = omega (arith, c .before .before .literal .kept, before-value t (before-last t (c .before .before .before .before .before)) .ty .kept)
 
 pub same-length-17 : (t : ℕ) → lts.Need-same-length-17 (lit-calls t) (lit-at t) lit.Post
-same-length-17 t c = search needs
+same-length-17 t c = omega (arith, c .before .before .literal .kept, before-value t (before-last t (c .before .before .before .before .before)) .ty .kept)
 
 pub same-length-18 : (t : ℕ) → lts.Need-same-length-18 (lit-calls t) (lit-at t) lit.Post
-same-length-18 t c = search needs
+same-length-18 t c = omega (arith, c .before .before .literal .kept, before-value t (before-last t (c .before .before .before .before .before)) .ty .kept)
 
 pub returns-7 : (t : ℕ) → lts.Need-returns-7 (lit-calls t) (lit-at t) lit.Post
 returns-7 t c =
-    let at-ty = c .before .before .before .before .before .before .before .before .before .before .before .before .before .before .before .before in
+    let at-last = c .before .before .before .before .before in let at-value = before-last t at-last in let at-ty = before-value t at-value in
     let at-type = before-ty t at-ty in let at-behind = before-type t at-type in
     λ σ h. lit-given h (past-L t at-behind .ahead) (no-mangled t at-type)
-    (past-L t (at-ty .before .before .before .before .before .before .before .before) .next) (at-ty .ty .ensures) (c .before .before .before .before .before .before .before .before .got2 .given .1)
-    (c .before .before .before .before .before .before .before2 .ensures) (c .before .before .before .before .before .if1 .left) (c .before .before .before .moved .ensures)
-    (c .before .before .literal .ensures)
+    (past-L t (at-ty .before .before .before .before .before .before .before .before) .next) (at-ty .ty .ensures) (at-value .before .before .got2 .given .1)
+    (at-value .before2 .ensures) (past-value t at-last .ahead) (value-next t at-last) (c .before .before .literal .ensures)
