@@ -12,7 +12,7 @@ use Prim.Native.String.{String}
 use lib.ListN.{length, take, drop, getElem?}
 use lib.Dec.{eqb, leb, ltb}
 use Rattle.grammar.specs.Text.{Text, b, if_then_else_, choose, same, starts, holds, ends, run, join, each, after-last, digit, number, decimal}
-use Rattle.grammar.specs.Tables.{_⇒_, letters, d-letters, operators, labels, abbreviations, qualifiers, wrappers, suffixes}
+use Rattle.grammar.specs.Tables.{Row, _⇒_, letters, d-letters, operators, labels, abbreviations, qualifiers, wrappers, suffixes}
 use Rattle.grammar.specs.Reader.{refused, Reader, onto, _>>=_, _>>_, return, refuse, unfit, start, the, ahead, go-to, set-args, set-cv, set-templated}
 use Rattle.grammar.specs.Reader.{push-sub, push-arg, give, recorded, entered, word-for, by-code, cases, at-code, eat, need, see, any, every, while}
 use Rattle.grammar.specs.Reader.{up-to-E, one-more}
@@ -142,6 +142,19 @@ substitution = do
     l ← the λ s. s .subs
     choose (getElem? l (index 36 d)) give (refuse 7)
 
+-- [n] <decimal digit>+ _: an <offset number> of a thunk, with the _ behind it
+unfoldable pub offset : Reader (Unit {0})
+offset = do
+  eat "n"
+  d ← every (digit 10)
+  if same d [] then unfit else need "_"
+
+-- what is printed before the text of another reader
+abbrev pub labelled : String → Reader Text → Reader Text
+labelled w m = do
+  t ← m
+  give (b w ++ t)
+
 -- ---------------------------------------------------------------- the productions made of others
 
 module _ (read : Production → Reader Text) where
@@ -174,14 +187,26 @@ module _ (read : Production → Reader Text) where
   unfoldable pub anew : Production → Reader Text
   anew k s = onto (λ t _. (do go-to []; return t) s) (read k (start (s .rest)))
 
-  -- <special-name> ::= TV <type> | TT <type> | TI <type> | TS <type> | GV <object name> | GTt <encoding>
+  -- <special-name> ::= T <call-offset> <base encoding>
+  -- <call-offset> ::= h <offset number> _ | v <offset number> _ <virtual offset number> _
+  -- "then a name follows with its parameters, if any, as document 01 reads them without a label"
+  unfoldable pub thunks : List (Row (Reader Text))
+  thunks =
+      "Th" ⇒ (do offset; labelled "non-virtual thunk to " function-or-data)
+      ∷ "Tv" ⇒ (do offset; offset; labelled "virtual thunk to " function-or-data)
+      ∷ []
+
+  -- <special-name> ::= TV <type> | TT <type> | TI <type> | TS <type> | GV <object name> | GTt <encoding> | further rows
   -- <encoding> ::= <special-name> | the above. Other special names are 4 (D-39).
-  unfoldable pub encoding : Reader Text
-  encoding = by-code labels (λ w. do t ← read ⟨type⟩; give (b w ++ t)) (cases
-      ("GTt" ⇒ (do t ← anew ⟨encoding⟩; give (b "transaction clone for " ++ t))
-      ∷ "GV" ⇒ (do t ← anew ⟨name⟩; give (b "guard variable for " ++ t))
-      ∷ [])
+  unfoldable pub encoding-with : List (Row (Reader Text)) → Reader Text
+  encoding-with rows = by-code labels (λ w. labelled w (read ⟨type⟩)) (cases
+      ("GTt" ⇒ labelled "transaction clone for " (anew ⟨encoding⟩)
+      ∷ "GV" ⇒ labelled "guard variable for " (anew ⟨name⟩)
+      ∷ rows)
       function-or-data)
+
+  unfoldable pub encoding : Reader Text
+  encoding = encoding-with thunks
 
   -- ---------------------------------------------------------------- names
 

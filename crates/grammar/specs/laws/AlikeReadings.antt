@@ -15,7 +15,7 @@ use Rattle.grammar.specs.Tables.{_⇒_, letters, d-letters, operators, l
 use Rattle.grammar.specs.Reader.{State, Result, ok, refused, Reader, onto, refuse, start, go-to, give, one-more, cases}
 use Rattle.grammar.specs.Grammar.{Production, ⟨encoding⟩, ⟨name⟩, ⟨nested-name⟩, ⟨unqualified-name⟩, ⟨source-name⟩, ⟨operator-name⟩, ⟨type⟩}
 use Rattle.grammar.specs.Grammar.{⟨template-param⟩, ⟨template-args⟩, ⟨template-arg⟩, ⟨expr-primary⟩, ⟨substitution⟩, Parts, skipped, open-after}
-use Rattle.grammar.specs.Grammar.{ended, digit-ahead, std-ahead, structor-ahead, only-void, unnamed-type-name, template-param, substitution, reading}
+use Rattle.grammar.specs.Grammar.{ended, digit-ahead, std-ahead, structor-ahead, only-void, unnamed-type-name, template-param, substitution, offset, reading}
 use Rattle.grammar.specs.Grammar as g
 use Rattle.grammar.specs.laws.Text.{both}
 use Rattle.grammar.specs.laws.Agree.{unread, moved, end, row, coded, all-coded}
@@ -58,6 +58,13 @@ module _ {u v : Text} where
       bind (field (λ s. s .subs) λ s t. refl) λ l.
       chosen _ give-alike (refuses-alike 7))
 
+  offset-alike : Alike u v offset offset
+  unfolding offset undotted holds b
+  offset-alike =
+      bind (eat-alike "n" tt) λ _.
+      bind (every-alike _) λ d.
+      branch _ (refuses-alike 4) (need-alike "_" tt)
+
 -- ---------------------------------------------------------------- the productions made of others
 
 module _ {u v : Text} (read : Production → Reader Text) (on : (k : Production) → Alike u v (read k) (reading k)) where
@@ -93,12 +100,14 @@ module _ {u v : Text} (read : Production → Reader Text) (on : (k : Production)
       gone s (refused k) r = refuses
 
   encoding-alike : Alike u v (g.encoding read) (g.encoding reading)
-  unfolding g.encoding undotted holds coded all-coded all-undotted labels b
+  unfolding g.encoding g.encoding-with g.thunks undotted holds coded all-coded all-undotted labels b
   encoding-alike =
       by-table-alike _ tt tt (λ w. bind (on ⟨type⟩) λ t. give-alike _)
       (by-code-alike tt
       (row tt (bind (anew-alike ⟨encoding⟩) λ t. give-alike _)
-      (row tt (bind (anew-alike ⟨name⟩) λ t. give-alike _) end))
+      (row tt (bind (anew-alike ⟨name⟩) λ t. give-alike _)
+      (row tt (bind offset-alike λ _. bind function-or-data-alike λ t. give-alike _)
+      (row tt (bind offset-alike λ _. bind offset-alike λ _. bind function-or-data-alike λ t. give-alike _) end))))
       function-or-data-alike)
 
   -- names

@@ -154,9 +154,12 @@ unfolding
     g.unnamed-type-name
     g.template-param
     g.substitution
+    g.offset
     g.bare-function-type
     g.function-or-data
     g.anew
+    g.thunks
+    g.encoding-with
     g.encoding
     g.name-args
     g.name-instance

@@ -15,7 +15,7 @@ use Rattle.grammar.specs.Tables.{letters, d-letters, operators, labels, 
 use Rattle.grammar.specs.Reader.{State, Result, ok, refused, Reader, onto, give, go-to, set-args, push-arg, one-more, start}
 use Rattle.grammar.specs.Grammar.{Production, ⟨encoding⟩, ⟨name⟩, ⟨nested-name⟩, ⟨unqualified-name⟩, ⟨source-name⟩, ⟨operator-name⟩, ⟨type⟩}
 use Rattle.grammar.specs.Grammar.{⟨template-param⟩, ⟨template-args⟩, ⟨template-arg⟩, ⟨expr-primary⟩, ⟨substitution⟩, Parts, skipped, open-after}
-use Rattle.grammar.specs.Grammar.{unnamed-type-name, template-param, substitution, reading}
+use Rattle.grammar.specs.Grammar.{unnamed-type-name, template-param, substitution, offset, reading}
 use Rattle.grammar.specs.Grammar as g
 use Rattle.grammar.specs.Names.{Answer, named, refusal, demangle, mangled-name, front, finished}
 use Rattle.grammar.specs.laws.Agree.{unread, Agree, reads, refuses, agree-eq, bind, weaken, tested, branch, chosen, coded, end, row, all-coded}
@@ -75,6 +75,13 @@ module _ {n : ℕ} where
       bind (need-keeps "_" tt v l) λ _ w m.
       chosen _ _ _ _ _ w (λ x. give-keeps x w m) refuses)
 
+  offset-keeps : Keeps n offset offset
+  unfolding offset onto coded b
+  offset-keeps s h =
+      bind (eat-keeps "n" s h) λ _ u k.
+      bind (every-keeps _ u k) λ d v l.
+      branch _ _ _ _ _ v refuses (need-keeps "_" tt v l)
+
 -- ---------------------------------------------------------------- the productions made of others
 
 -- two ways to read that agree before fewer than n bytes
@@ -115,13 +122,18 @@ module _ (read read' : Production → Reader Text) (n : ℕ) (below : (k : Produ
       bind (go-to-agree [] s (omega (arith, l))) λ _ v m. reads m
 
   encoding-takes : Here ⟨name⟩ → Takes n (g.encoding read) (g.encoding read')
-  unfolding g.encoding all-coded labels coded b
+  unfolding g.encoding g.encoding-with g.thunks all-coded labels coded b
   encoding-takes name s h =
       by-table-agree _ _ _ _ _ tt (λ w v l. bind (on ⟨type⟩ v (omega (arith, l, h))) λ t. give-keeps _)
       (by-code-agree _ _ _ _ _ _
       (row tt (λ v l. bind (anew-keeps ⟨encoding⟩ v (omega (arith, l, h))) λ t. give-keeps _)
-      (row tt (λ v l. bind (anew-keeps ⟨name⟩ v (omega (arith, l, h))) λ t. give-keeps _) end))
+      (row tt (λ v l. bind (anew-keeps ⟨name⟩ v (omega (arith, l, h))) λ t. give-keeps _)
+      (row tt (λ v l. bind (offset-keeps v (omega (arith, l, h))) λ _ w m. bind (base w m) λ t. give-keeps _)
+      (row tt (λ v l. bind (offset-keeps v (omega (arith, l, h))) λ _ w m. bind (offset-keeps w m) λ _ x i. bind (base x i) λ t. give-keeps _) end))))
       (function-or-data-takes name s h))
+    where
+      base : Keeps n (g.function-or-data read) (g.function-or-data read')
+      base w m = function-or-data-takes name w (omega arith)
 
   -- names
 
