@@ -13,4 +13,5 @@ pub mod Decimals
 pub mod Alike
 pub mod AlikeReadings
 pub mod Dots
+pub mod Thunks
 pub mod States

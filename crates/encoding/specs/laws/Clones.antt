@@ -26,7 +26,7 @@ use Rattle.parser.specs.Adds.{Adds}
 use Rattle.parser.specs.laws.Adds.{adds-none, adds-more}
 use Rattle.encoding.specs.Encodings.{Fresh, Encodes, refuses, Least}
 use Rattle.encoding.specs.laws.Answers.{encodes-by, refusal, Answered, answered}
-use Rattle.encoding.specs.laws.Labels.{starts-is, after, clone, clone-read}
+use Rattle.encoding.specs.laws.Labels.{after, clone, clone-read}
 use Rattle.encoding.specs.laws.Specials.{prefixed}
 
 -- ---------------------------------------------------------------- slices with nothing in them

@@ -25,20 +25,6 @@ use Rattle.grammar.specs.laws.Places.{rest-some}
 use Rattle.encoding.specs.Encodings.{word-in, Labels}
 use Rattle.parser.specs.laws.Wraps.{spelled-at, spelled-none}
 
--- ---------------------------------------------------------------- what stands first
-
-pub starts-is : (t w : Text) → starts t w ≡ true → t ≡ w ++ drop (length w) t
-unfolding starts
-starts-is t [] e = refl
-starts-is [] (y ∷ w) e = absurd (true≢false (sym e))
-starts-is (x ∷ t) (y ∷ w) e =
-    let (p, q) = both (eqb x y) (starts t w) (subst T (sym e) tt) in
-    ap₂ (λ (z : ℕ) (u : Text). z ∷ u) (eqb→eq x y p) (starts-is t w (holds-true (starts t w) q))
-  where
-    holds-true : (r : Bool) → T r → r ≡ true
-    holds-true true h = refl
-    holds-true false h = absurd h
-
 -- ---------------------------------------------------------------- the definition
 
 -- a text read anew behind a special name's letters, and what is qualified-by before it

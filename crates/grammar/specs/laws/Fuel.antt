@@ -461,6 +461,11 @@ agrees : (f : ℕ) (k : Production) (s : State) → 4 * unread s + rank k ≤ f 
 unfolding reading
 agrees f k s h = let p = rank-bounds k in enough f (4 * suc (unread s)) k s h (omega arith)
 
+-- what is enough for a name
+pub name-fuelled : (f : ℕ) (s : State) → 4 * unread s + 3 ≤ f → g.parse f ⟨name⟩ s ≡ reading ⟨name⟩ s
+unfolding rank
+name-fuelled f s h = agree-eq (agrees f ⟨name⟩ s h)
+
 -- fuel can be forgotten: a reading is its production with itself as `read`
 pub reading-is : (k : Production) (s : State) → reading k s ≡ g.production reading k s
 unfolding reading g.parse

@@ -1,12 +1,12 @@
 -- Laws of texts: what it means that a test of them holds, and numbers in decimal.
 use mathlib.Core.Bool.{Bool, true, false, _&&_, _||_, true≢false, and-false}
 use mathlib.Core.List.{[], _∷_, _++_}
-use mathlib.Core.Path.{_≡_, refl, ap, ap₂, _∙_}
+use mathlib.Core.Path.{_≡_, refl, sym, ap, ap₂, _∙_, subst}
 use Prim.Native.Nat.{ℕ, zero, suc, _+_, _-_, _/_, _%_, _≤_, _<_}
 use native.Mathlib.Omega.{arith}
 use borrow.Author.Tests.{lt-ltb, le-ltb}
 use lib.Dec.{T, eqb, eqb→eq}
-use lib.ListN.{length}
+use lib.ListN.{length, drop}
 use Rattle.grammar.specs.Text.{Text, if_then_else_, same, starts, decimal}
 
 pub both : (p q : Bool) → T (p && q) → T p × T q
@@ -40,6 +40,19 @@ pub starts-nothing : (t : Text) → starts t [] ≡ true
 unfolding starts
 starts-nothing [] = refl
 starts-nothing (x ∷ t) = refl
+
+-- what a text begins with stands first in it
+pub starts-is : (t w : Text) → starts t w ≡ true → t ≡ w ++ drop (length w) t
+unfolding starts
+starts-is t [] e = refl
+starts-is [] (y ∷ w) e = absurd (true≢false (sym e))
+starts-is (x ∷ t) (y ∷ w) e =
+    let (p, q) = both (eqb x y) (starts t w) (subst T (sym e) tt) in
+    ap₂ (λ (z : ℕ) (u : Text). z ∷ u) (eqb→eq x y p) (starts-is t w (holds-true (starts t w) q))
+  where
+    holds-true : (r : Bool) → T r → r ≡ true
+    holds-true true h = refl
+    holds-true false h = absurd h
 
 -- one digit, and the last digit apart
 pub decimal-last : (k n : ℕ) → n < 10 → 1 ≤ k → decimal k n ≡ (48 + n) ∷ []

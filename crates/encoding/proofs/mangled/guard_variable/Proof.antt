@@ -4,8 +4,8 @@ use mathlib.Core.Path.{ap}
 use native.Mathlib.Omega.{arith}
 use lib.ListN.{length}
 use Rattle.grammar.specs.Text.{b}
+use Rattle.grammar.specs.laws.Text.{starts-is}
 use Rattle.store.specs.laws.Lists.{second-lent}
-use Rattle.encoding.specs.laws.Labels.{starts-is}
 use Rattle.encoding.specs.laws.Specials.{guard-holds, guard-refused, guard-got, guard-given}
 use borrow.Author.Needs.{needs}
 use Rattle.encoding.proofs.mangled.guard_variable.Statement.{statement}
