@@ -5,10 +5,10 @@ use mathlib.Core.Path.{_≡_}
 use Prim.Native.Nat.{ℕ, _+_, _≤_}
 use mathlib.Core.Option.{Option, none, some}
 use lib.ListN.{length, take, drop}
-use Rattle.grammar.specs.Text.{Text, b, choose, same, each, join}
+use Rattle.grammar.specs.Text.{Text, b, if_then_else_, choose, same, each, join, digit}
 use Rattle.grammar.specs.Limits.{most-text-bytes, least-text, least-store, least-ends}
 use Rattle.grammar.specs.Tables.{labels}
-use Rattle.grammar.specs.Reader.{State, Result, ok, refused, Reader, onto, give, find}
+use Rattle.grammar.specs.Reader.{State, Result, ok, refused, Reader, onto, unfit, go-to, give, find, need, every}
 use Rattle.grammar.specs.Words.{longest-word, bytes-told}
 use Rattle.grammar.specs.declared.codes.Word.{Word}
 use Rattle.grammar.specs.declared.codes.Word.the-variants.{Bytes, Nothing}
@@ -16,9 +16,11 @@ use Rattle.grammar.specs.Grammar.{reading, ⟨type⟩, qualifier, only-void, ba
 use Rattle.store.specs.Stack.{Stack, Tail}
 use Rattle.store.specs.Table.{Entries}
 use Rattle.grammar.specs.declared.state.Parser.{Parser}
+use Rattle.grammar.specs.declared.state.Eaten.{Eaten}
+use Rattle.grammar.specs.declared.state.Eaten.the-variants as eaten
 use Rattle.grammar.specs.declared.state.Read.{Read}
 use Rattle.grammar.specs.declared.state.Read.the-variants.{Text as read, Refused}
-use Rattle.grammar.specs.States.{fresh, raised-to}
+use Rattle.grammar.specs.States.{fresh, raised-to, moved-to}
 use Rattle.parser.specs.Holds.{Memory, mem, window, part, low-bytes, high-bytes, low-ends, high-ends, Stands, Refines, keep}
 
 -- ---------------------------------------------------------------- functions
@@ -92,3 +94,21 @@ pub record Least (m : Memory) : Type 0 where
   pub text : length (m .text) ≡ least-text
   pub store : length (m .store) ≡ least-store
   pub ends : length (m .ends) ≡ least-ends
+
+-- ---------------------------------------------------------------- thunks
+
+-- the text of a reader behind a label
+abbrev pub behind : Text → Reader Text → Reader Text
+behind w m σ = onto (λ t. give (w ++ t)) (m σ)
+
+-- an offset without its sign
+abbrev pub unsigned : Reader (Unit {0})
+unsigned σ = onto (λ d. if same d [] then unfit else need "_") (every (digit 10) σ)
+
+-- the code hands back the state behind what the grammar reads past, or nothing of the kind stands there
+pub data Passed (s : Text) (p : Parser) (σ : State) (r : Eaten) (x : Result (Unit {0})) : Type 0 where
+  past : {at : ℕ} → at ≤ length s → r ≡ eaten.Next (moved-to p at) → x ≡ go-to (drop at s) σ → Passed s p σ r x
+  stopped : r ≡ eaten.Nothing → x ≡ refused 4 → Passed s p σ r x
+
+abbrev pub Passes : Reader (Unit {0}) → Text → Parser → Eaten → Type 0
+Passes f s p r = (σ : State) → σ .rest ≡ drop (p .at) s → Passed s p σ r (f σ)

@@ -1,5 +1,5 @@
 // <encoding>: special names, and GTt and GV with what is behind them read anew.
-use crate::functions;
+use crate::thunks;
 use grammar::codes;
 use grammar::codes::Word;
 use grammar::state::Parser;
@@ -54,7 +54,7 @@ fn encoding(s: &[u8], text: &mut [u8], store: &mut [u8], ends: &mut [u16], p: Pa
     }
     let mut word = [0u8; codes::LONGEST];
     let Word::Bytes(m) = label(&mut word, s) else {
-        return functions::function_or_data(s, text, store, ends, p);
+        return thunks::thunk_or_function(s, text, store, ends, p);
     };
     let labelled = memory::put_word(text, p.moved(2), &word, m);
     let got = cycle::ty(s, text, store, ends, labelled);

@@ -108,7 +108,7 @@ name-heads (scoped k p n) r = refl
 module _ {room : Type 0} {Q : Text → State → Type 0} where
   encoding-by : (s : State) → first name-head (s .rest) ≡ true → Verdict room Q (onto after-name (reading ⟨name⟩ s))
       → Verdict room Q (reading ⟨encoding⟩ s)
-  unfolding production g.encoding clear labels b name-head digit digit-value if_then_else_
+  unfolding production g.encoding g.encoding-with g.thunks clear labels b name-head digit digit-value if_then_else_
   encoding-by s f h =
       in-reading _ _ (by-code-miss _ _ _ _ (find-miss name-head _ (s .rest) f refl) (by-code-miss _ _ _ _ (find-miss name-head _ (s .rest) f refl)
       (equal-by _ _ (function-is s) h)))

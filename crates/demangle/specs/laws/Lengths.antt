@@ -13,7 +13,7 @@ use Rattle.grammar.specs.Text.{Text, if_then_else_, choose, each}
 use Rattle.grammar.specs.Limits.{most-symbol-bytes, most-text-bytes}
 use Rattle.grammar.specs.Tables.{labels}
 use Rattle.grammar.specs.Reader.{State, Result, ok, refused, Reader, onto, refuse, give, find, by-code, start}
-use Rattle.grammar.specs.Grammar.{Production, ⟨encoding⟩, reading, encoding, function-or-data, production, ended, slot}
+use Rattle.grammar.specs.Grammar.{Production, ⟨encoding⟩, reading, encoding, encoding-with, thunks, function-or-data, production, ended, slot}
 use Rattle.grammar.specs.laws.Fuel.{reading-is}
 use Rattle.grammar.specs.Names.{Answer, named, refusal, without-slots, finished, mangled-name, front, demangle, work-fits, within, answer, length-of}
 use Rattle.answer.specs.Told.{Slices, lent}
@@ -65,13 +65,15 @@ module _ (read : Production → Reader Text) where
       (onto-short _ _ λ templated y. onto-short _ _ λ r z. onto-short _ _ λ ps a. give-short _ a)
 
   encoding-short : (s : State) → Short (encoding read s)
-  unfolding encoding by-code find choose
+  unfolding encoding encoding-with thunks by-code find choose
   encoding-short s =
       onto-short _ _ λ t u.
       choose-short (find labels t) _ _ u (λ r. onto-short _ _ λ _ v. onto-short _ _ λ x w. give-short _ w)
       (onto-short _ _ λ t v.
       row-short _ _ _ _ _ v (onto-short _ _ λ _ w. onto-short _ _ λ x y. give-short _ y)
-      (row-short _ _ _ _ _ v (onto-short _ _ λ _ w. onto-short _ _ λ x y. give-short _ y) (function-short v)))
+      (row-short _ _ _ _ _ v (onto-short _ _ λ _ w. onto-short _ _ λ x y. give-short _ y)
+      (row-short _ _ _ _ _ v (onto-short _ _ λ _ w. onto-short _ _ λ _ z. onto-short _ _ λ x y. give-short _ y)
+      (row-short _ _ _ _ _ v (onto-short _ _ λ _ w. onto-short _ _ λ _ z. onto-short _ _ λ _ a. onto-short _ _ λ x y. give-short _ y) (function-short v)))))
 
 reading-short : (s : State) → Short (reading ⟨encoding⟩ s)
 unfolding production

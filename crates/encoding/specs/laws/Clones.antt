@@ -19,6 +19,7 @@ use Rattle.grammar.specs.declared.state.Parser.{Parser}
 use Rattle.grammar.specs.declared.state.Read.{Read}
 use Rattle.grammar.specs.declared.state.Read.the-variants.{Text as read, Refused}
 use Rattle.grammar.specs.States.{fresh, raised-to, moved-to}
+use Rattle.grammar.specs.laws.Text.{starts-is}
 use Rattle.grammar.specs.laws.Places.{rest-none}
 use Rattle.parser.specs.Holds.{Memory, mem, low-bytes, high-bytes, low-ends, high-ends, Puts, keep, given-of}
 use Rattle.parser.specs.laws.Halves.{give-short, give-long}

@@ -11,10 +11,10 @@ use lib.Dec.{T, eqb, eqb→eq}
 use lib.ListN.{length, take, drop, getD}
 use Rattle.grammar.specs.Text.{Text, b, if_then_else_, choose, starts, holds}
 use Rattle.grammar.specs.Tables.{Row, _⇒_, Table, labels}
-use Rattle.grammar.specs.Reader.{State, Result, ok, refused, Reader, onto, go-to, give, start, find, by-code, word-for}
-use Rattle.grammar.specs.Grammar.{reading, ⟨encoding⟩, ⟨name⟩, ⟨type⟩, encoding, anew, function-or-data, production}
+use Rattle.grammar.specs.Reader.{State, Result, ok, refused, Reader, onto, go-to, give, start, find, by-code, cases, word-for}
+use Rattle.grammar.specs.Grammar.{reading, ⟨encoding⟩, ⟨name⟩, ⟨type⟩, encoding, encoding-with, thunks, anew, function-or-data, production}
 use Rattle.grammar.specs.laws.Agree.{moved, coded, all-coded}
-use Rattle.grammar.specs.laws.Text.{both}
+use Rattle.grammar.specs.laws.Text.{both, starts-is}
 use Rattle.grammar.specs.laws.Fuel.{reading-is}
 use Rattle.grammar.specs.laws.Finds.{all-of, by-word}
 use Rattle.grammar.specs.laws.Steps.{heads, within, no-row-of}
@@ -22,7 +22,7 @@ use Rattle.grammar.specs.Words.{longest-word, bytes-told, Spells}
 use Rattle.grammar.specs.declared.codes.Word.{Word}
 use Rattle.grammar.specs.declared.codes.Word.the-variants.{Bytes, Nothing}
 use Rattle.grammar.specs.laws.Places.{rest-some}
-use Rattle.encoding.specs.Encodings.{word-in, Labels}
+use Rattle.encoding.specs.Encodings.{word-in, Labels, behind}
 use Rattle.parser.specs.laws.Wraps.{spelled-at, spelled-none}
 
 -- ---------------------------------------------------------------- the definition
@@ -43,11 +43,11 @@ abbrev pub guard : Text
 guard = b "guard variable for "
 
 clone-is : (u : Text) → reading ⟨encoding⟩ (start (71 ∷ 84 ∷ 116 ∷ u)) ≡ onto (after clone) (reading ⟨encoding⟩ (start u))
-unfolding production encoding anew by-code find onto choose go-to labels starts b if_then_else_ start
+unfolding production encoding encoding-with anew by-code find onto choose go-to labels starts b if_then_else_ start
 clone-is u = reading-is ⟨encoding⟩ (start (71 ∷ 84 ∷ 116 ∷ u)) ∙ onto-after clone (reading ⟨encoding⟩ (start u))
 
 guard-is : (u : Text) → reading ⟨encoding⟩ (start (71 ∷ 86 ∷ u)) ≡ onto (after guard) (reading ⟨name⟩ (start u))
-unfolding production encoding anew by-code find onto choose go-to labels starts b if_then_else_ start
+unfolding production encoding encoding-with anew by-code find onto choose go-to labels starts b if_then_else_ start
 guard-is u = reading-is ⟨encoding⟩ (start (71 ∷ 86 ∷ u)) ∙ onto-after guard (reading ⟨name⟩ (start u))
 
 pub clone-read : (s : Text) → starts s (71 ∷ 84 ∷ 116 ∷ []) ≡ true → reading ⟨encoding⟩ (start s) ≡ onto (after clone) (reading ⟨encoding⟩ (start (drop 3 s)))
@@ -57,16 +57,16 @@ pub guard-read : (s : Text) → starts s (71 ∷ 86 ∷ []) ≡ true → reading
 guard-read s e = ap (λ (t : Text). reading ⟨encoding⟩ (start t)) (starts-is s (71 ∷ 86 ∷ []) e) ∙ guard-is (drop 2 s)
 
 abbrev pub labelled : Text → Reader Text
-labelled w σ = onto (λ t. give (w ++ t)) (reading ⟨type⟩ σ)
+labelled w = behind w (reading ⟨type⟩)
 
 abbrev special : List (Row (Reader Text))
-special = "GTt" ⇒ (λ τ. onto (λ t. give (clone ++ t)) (anew reading ⟨encoding⟩ τ)) ∷ "GV" ⇒ (λ τ. onto (λ t. give (guard ++ t)) (anew reading ⟨name⟩ τ)) ∷ []
+special = "GTt" ⇒ (λ τ. onto (λ t. give (clone ++ t)) (anew reading ⟨encoding⟩ τ)) ∷ "GV" ⇒ (λ τ. onto (λ t. give (guard ++ t)) (anew reading ⟨name⟩ τ)) ∷ thunks reading
 
 abbrev unlabelled : Reader Text
 unlabelled = by-code special (λ r. r) (function-or-data reading)
 
 encoding-is : (σ : State) → reading ⟨encoding⟩ σ ≡ by-code labels (λ w. labelled (b w)) unlabelled σ
-unfolding production encoding
+unfolding production encoding encoding-with
 encoding-is σ = reading-is ⟨encoding⟩ σ
 
 label-read : (σ : State) → by-code labels (λ w. labelled (b w)) unlabelled σ ≡ choose (find labels (σ .rest)) (λ q. labelled (b (q .0)) (moved (q .1) σ)) (unlabelled σ)
@@ -90,7 +90,8 @@ module _ {s word : Text} {r : Word} (l : Labels s word r) where
   unfolding bytes-told
   label-fits e = subst (λ (x : Word). bytes-told x ≤ longest-word) e (l .fits)
 
-  pub unlabelled-is : r ≡ Nothing → starts s (71 ∷ 84 ∷ 116 ∷ []) ≡ false → starts s (71 ∷ 86 ∷ []) ≡ false → reading ⟨encoding⟩ (start s) ≡ function-or-data reading (start s)
+  pub unlabelled-is : r ≡ Nothing → starts s (71 ∷ 84 ∷ 116 ∷ []) ≡ false → starts s (71 ∷ 86 ∷ []) ≡ false →
+      reading ⟨encoding⟩ (start s) ≡ cases (thunks reading) (function-or-data reading) (start s)
   unfolding word-in choose by-code onto find b start if_then_else_
   unlabelled-is e f h =
       told-is

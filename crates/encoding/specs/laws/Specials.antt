@@ -7,8 +7,8 @@ use native.Mathlib.Omega.{arith}
 use lib.ListN.{length, take, drop, length-append, length-drop}
 use Rattle.grammar.specs.Text.{Text, b, starts, each}
 use Rattle.grammar.specs.Limits.{most-text-bytes, most-length, kept-bytes}
-use Rattle.grammar.specs.Reader.{onto, give, start}
-use Rattle.grammar.specs.Grammar.{reading, ⟨encoding⟩, ⟨name⟩, ⟨type⟩, function-or-data}
+use Rattle.grammar.specs.Reader.{Reader, State, onto, give, start, cases}
+use Rattle.grammar.specs.Grammar.{reading, ⟨encoding⟩, ⟨name⟩, ⟨type⟩, thunks, function-or-data}
 use Rattle.grammar.specs.laws.Agree.{moved}
 use Rattle.grammar.specs.Words.{longest-word}
 use Rattle.grammar.specs.declared.codes.Word.{Word}
@@ -23,8 +23,8 @@ use Rattle.grammar.specs.laws.Places.{rest-none}
 use Rattle.parser.specs.Holds.{Memory, mem, window, Holds, Reads, Puts, keep, given-of}
 use Rattle.parser.specs.laws.Holds.{by-state, holds-moved, holds-puts, Got, got}
 use Rattle.parser.specs.laws.Adds.{puts-from}
-use Rattle.encoding.specs.Encodings.{Labels, Fresh, Encodes}
-use Rattle.encoding.specs.laws.Answers.{encodes-by, encodes-refines, encodes-refused, encodes-given}
+use Rattle.encoding.specs.Encodings.{Labels, Fresh, Encodes, behind}
+use Rattle.encoding.specs.laws.Answers.{encodes-by, encodes-refused, encodes-given}
 use Rattle.encoding.specs.laws.Labels.{after, guard, guard-read, labelled-is, unlabelled-is}
 
 -- ---------------------------------------------------------------- the empty state
@@ -91,40 +91,58 @@ module _ (s : Text) {part text store ends text₁ : Text} {p o : Parser} (l : le
         encodes-by (guard-is ∙ ap (onto (after guard)) (g .is))
         (prefixed guard (g .said) next (omega arith) (w .holds .text) (put-tail guard (h .text) (omega arith) (u .put) (whole kept-bytes (take (p .top) text))) (weaken (omega arith) (w .tail)) z (omega (arith, w .size, w .short, length-append guard (g .said))) y)
 
+-- ---------------------------------------------------------------- a text behind a label
+
+module _ {s text store ends text₁ : Text} {p o : Parser} {w : Text} {σ : State} (h : Holds s (mem text store ends) p σ) (u : Puts text text₁ p o w) {m₂ : Memory} {r : Read} {f : Reader Text}
+    {k from : ℕ} (g : Reads f k from s (mem text₁ store ends) m₂ o r) where
+  pub behind-refused : {j : ℕ} {base : Text} {m' : Memory} {i : ℕ} → r ≡ Refused i → Encodes j s base m' r (behind w f σ)
+  behind-refused y = encodes-refused (λ t. give (w ++ t)) y (g σ (holds-puts u h))
+
+  pub behind-got : {next : Parser} {n : ℕ} → r ≡ read next n → Got k (o .depth) s (window (mem text₁ store ends) o) from m₂ next n (f σ)
+  behind-got y = got y (g σ (holds-puts u h))
+
+  pub behind-given :
+      {next : Parser} {n : ℕ} {v : Read} → keep 0 ≤ k → length w ≤ longest-word → r ≡ read next n → v ≡ given-of next (n + length w) →
+      Encodes (keep 0) s (window (mem text store ends) p) m₂ v (behind w f σ)
+  unfolding onto
+  behind-given {next} {n} {v} i j y c =
+      let z = behind-got y in
+      let a = z .wrote in
+      encodes-by (ap (onto (λ t. give (w ++ t))) (z .is))
+      (encodes-given c (omega (arith, a .size, a .short, length-append w (z .said), j)) (λ d. record {
+        place = a .holds .place;
+        rest = a .holds .rest;
+        text = a .holds .text;
+        tail = both (take (p .top) text) w (z .said) (weaken (omega arith) (put-tail w (h .text) (omega arith) (u .put) (whole kept-bytes (take (p .top) text)))) (weaken i (a .tail));
+        size = omega (arith, a .size, length-append w (z .said));
+        short = d;
+      }))
+
 -- ---------------------------------------------------------------- labels
 
 module _ {s text store ends text₁ : Text} {p q o : Parser} {word : Text} {x : Word} {w : ℕ} (l : length s ≤ most-text-bytes) (h : Fresh (mem text store ends) p) (k : Labels s word x) (e : x ≡ Bytes w)
     (z : q ≡ moved-to p 2)
     (u : Puts text text₁ q o (take w word)) where
+  label-moved : Holds s (mem text store ends) (moved-to p 2) (moved (drop 2 s) (start s))
+  label-moved = holds-moved (fresh-holds l h) 2 (k .long w e)
+
   pub label-holds : Holds s (mem text₁ store ends) o (moved (drop 2 s) (start s))
-  label-holds = holds-puts u (by-state z (holds-moved (fresh-holds l h) 2 (k .long w e)))
+  label-holds = holds-puts (puts-from z u) label-moved
 
   module _ {m₂ : Memory} {r : Read} (f : Reads (reading ⟨type⟩) (keep (o .depth + 1)) (o .at + 1) s (mem text₁ store ends) m₂ o r) where
     pub label-refused : {j : ℕ} {base : Text} {m' : Memory} {i : ℕ} → r ≡ Refused i → Encodes j s base m' r (reading ⟨encoding⟩ (start s))
-    label-refused y = encodes-by (labelled-is k e) (encodes-refused (λ t. give (take w word ++ t)) y (f (moved (drop 2 s) (start s)) label-holds))
+    label-refused y = encodes-by (labelled-is k e) (behind-refused label-moved (puts-from z u) f y)
 
     pub label-got : {next : Parser} {n : ℕ} → r ≡ read next n → Got (keep (o .depth + 1)) (o .depth) s (window (mem text₁ store ends) o) (o .at + 1) m₂ next n (reading ⟨type⟩ (moved (drop 2 s) (start s)))
-    label-got y = got y (f (moved (drop 2 s) (start s)) label-holds)
+    label-got y = behind-got label-moved (puts-from z u) f y
 
     pub label-given : {next : Parser} {n : ℕ} {v : Read} → r ≡ read next n → length (take w word) ≡ w → w ≤ longest-word → v ≡ given-of next (n + w) → Encodes (keep 0) s (window (mem text store ends) p) m₂ v (reading ⟨encoding⟩ (start s))
-    unfolding onto
     label-given {next} {n} {v} y i j c =
-        let g = label-got y in
-        let a = g .wrote in
-        encodes-by (labelled-is k e ∙ ap (onto (λ t. give (take w word ++ t))) (g .is))
-        (encodes-given c (omega (arith, a .size, a .short, length-append (take w word) (g .said), j)) (λ d. record {
-          place = a .holds .place;
-          rest = a .holds .rest;
-          text = a .holds .text;
-          tail = both (take (p .top) text) (take w word) (g .said) (weaken (omega arith) (put-tail (take w word) (h .text) (omega arith) (puts-from z u .put) (whole kept-bytes (take (p .top) text)))) (weaken (omega arith) (a .tail));
-          size = omega (arith, a .size, length-append (take w word) (g .said));
-          short = d;
-        }))
+        encodes-by (labelled-is k e) (behind-given label-moved (puts-from z u) f (omega arith) (omega (arith, i, j)) y (c ∙ ap (λ (m : ℕ). given-of next (n + m)) (sym i)))
 
 -- ---------------------------------------------------------------- other names
 
 pub other-read :
-    {s : Text} {m m' : Memory} {p : Parser} {word : Text} {x : Word} {r : Read} → length s ≤ most-text-bytes → Fresh m p → Labels s word x → x ≡ Nothing →
-    starts s (71 ∷ 84 ∷ 116 ∷ []) ≡ false → starts s (71 ∷ 86 ∷ []) ≡ false → Reads (function-or-data reading) (keep (p .depth)) (p .at + 1) s m m' p r →
-    Encodes (keep 0) s (window m p) m' r (reading ⟨encoding⟩ (start s))
-other-read {s} l h k e g v f = encodes-by (unlabelled-is k e g v) (encodes-refines (omega arith) (f (start s) (fresh-holds l h)))
+    {s base : Text} {m' : Memory} {word : Text} {x : Word} {r : Read} → Labels s word x → x ≡ Nothing → starts s (71 ∷ 84 ∷ 116 ∷ []) ≡ false → starts s (71 ∷ 86 ∷ []) ≡ false →
+    Encodes (keep 0) s base m' r (cases (thunks reading) (function-or-data reading) (start s)) → Encodes (keep 0) s base m' r (reading ⟨encoding⟩ (start s))
+other-read k e g v f = encodes-by (unlabelled-is k e g v) f

@@ -4,7 +4,7 @@ use native.Mathlib.Omega.{arith}
 use Rattle.grammar.specs.Text.{b}
 use Rattle.parser.specs.laws.Adds.{stack-by}
 use Rattle.encoding.specs.laws.Labels.{label-fits}
-use Rattle.encoding.specs.laws.Specials.{fresh-holds, label-holds, label-refused, label-got, label-given, other-read}
+use Rattle.encoding.specs.laws.Specials.{label-holds, label-refused, label-got, label-given, other-read}
 use borrow.Author.Needs.{needs}
 use Rattle.encoding.proofs.mangled.encoding.Statement.{statement}
 use Rattle.encoding.proofs.mangled.encoding.Tie as tie
@@ -25,18 +25,18 @@ guard-variable-requires c κs =
     let at-start = c .before .before .before .before .before .before .before .before .before .before in
     (at-start .pre .0, (sym (c .before .before .before .before .starts-with .ensures) ∙ c .before .before .before .if1 .taken, at-start .pre .1 .1))
 
-function-or-data-requires : tie.Need-function-or-data-requires
-function-or-data-requires c κs =
+thunk-or-function-requires : tie.Need-thunk-or-function-requires
+thunk-or-function-requires c κs =
     let at-label = c .before .before .before .before .before in let at-start = before-label at-label in
-    (_, fresh-holds (at-start .pre .0) (at-start .pre .1 .1))
+    (at-start .pre .0, at-start .pre .1 .1)
 
 returns-2 : tie.Need-returns-2
 unfolding b
 returns-2 c =
     let at-label = c .before .before .before .before .before .before .before .before .before .before .before .before in let at-start = before-label at-label in
-    other-read (at-start .pre .0) (at-start .pre .1 .1) (at-label .label .ensures)
+    other-read (at-label .label .ensures)
     (c .before .before .before .before .before .before .before .before .before .before .enum-told .given .1) (at-start .pre .1 .0)
-    (sym (at-label .before .before .before .starts-with .ensures) ∙ at-label .before .before .if1 .left) (c .before .before .before .before .before .before .function-or-data .ensures)
+    (sym (at-label .before .before .before .starts-with .ensures) ∙ at-label .before .before .if1 .left) (c .before .before .before .before .before .before .thunk-or-function .ensures)
 
 put-word-requires : tie.Need-put-word-requires
 put-word-requires c κs =
@@ -82,7 +82,7 @@ encoding-spec =
     (λ c κs. search needs)
     (λ c. search needs)
     (λ c. search needs)
-    function-or-data-requires
+    thunk-or-function-requires
     (λ c. search needs)
     (λ c. search needs)
     (λ c. search needs)

@@ -1,0 +1,90 @@
+// <special-name> ::= T <call-offset> <base encoding>: thunks.
+use crate::functions;
+use grammar::numbers;
+use grammar::state::Eaten;
+use grammar::state::Parser;
+use grammar::state::Read;
+use grammar::text as bytes;
+use parser::memory;
+ghost use Prim.Native.Nat.{_≤_};
+ghost use lib.ListN.{length};
+ghost use Rattle.grammar.specs.Limits.{most-text-bytes};
+ghost use Rattle.grammar.specs.Words.{longest-word};
+ghost use Rattle.grammar.specs.Reader.{State, start, cases};
+ghost use Rattle.grammar.specs.Grammar.{reading, offset, thunks, function-or-data};
+ghost use Rattle.parser.specs.Holds.{mem, window, Holds, Ready, keep};
+ghost use Rattle.encoding.specs.Encodings.{Fresh, Encodes, Passes, unsigned, behind};
+
+// a thunk, or a function or data
+pub fn thunk_or_function(
+    s: &[u8],
+    text: &mut [u8],
+    store: &mut [u8],
+    ends: &mut [u16],
+    p: Parser,
+) -> Read
+    requires { ⌜ (length (now s) ≤ most-text-bytes) × Fresh (mem (now text) (now store) (now ends)) p ⌝ }
+    ensures { λ r. ⌜ Encodes (keep 0) (now (s .entry)) (window (mem (now (text .entry)) (now (store .entry)) (now (ends .entry))) p)
+        (mem (now (text .exit)) (now (store .exit)) (now (ends .exit))) r (cases (thunks reading) (function-or-data reading) (start (now (s .entry)))) ⌝ }
+{
+    if bytes::starts_with(s, 0, b"Th") {
+        let Eaten::Next(next) = offset(s, p.moved(2)) else {
+            return Read::Refused(4);
+        };
+        return thunk(s, text, store, ends, next, b"non-virtual thunk to ");
+    }
+    if bytes::starts_with(s, 0, b"Tv") {
+        let Eaten::Next(second) = offset(s, p.moved(2)) else {
+            return Read::Refused(4);
+        };
+        let Eaten::Next(next) = offset(s, second) else {
+            return Read::Refused(4);
+        };
+        return thunk(s, text, store, ends, next, b"virtual thunk to ");
+    }
+    functions::function_or_data(s, text, store, ends, p)
+}
+
+// an offset, with n in front for minus, and its _
+fn offset(s: &[u8], p: Parser) -> Eaten
+    ensures { λ r. ⌜ Passes offset (now (s .entry)) p r ⌝ }
+{
+    let Eaten::Next(number) = p.eat(s, b'n') else {
+        return unsigned(s, p);
+    };
+    unsigned(s, number)
+}
+
+// one or more digits, and _
+fn unsigned(s: &[u8], p: Parser) -> Eaten
+    ensures { λ r. ⌜ Passes unsigned (now (s .entry)) p r ⌝ }
+{
+    let at = p.at;
+    let end = numbers::decimal(s, at).next;
+    if end == at {
+        return Eaten::Nothing;
+    }
+    p.moved(end).eat(s, b'_')
+}
+
+// A function or data behind a label.
+fn thunk(
+    s: &[u8],
+    text: &mut [u8],
+    store: &mut [u8],
+    ends: &mut [u16],
+    p: Parser,
+    label: &[u8],
+) -> Read
+    requires { ⌜ Ready (now s) (mem (now text) (now store) (now ends)) p × (length (now label) ≤ longest-word) ⌝ }
+    ensures { λ r. ⌜ ((σ : State) → Holds (now (s .entry)) (mem (now (text .entry)) (now (store .entry)) (now (ends .entry))) p σ →
+        Encodes (keep 0) (now (s .entry)) (window (mem (now (text .entry)) (now (store .entry)) (now (ends .entry))) p)
+        (mem (now (text .exit)) (now (store .exit)) (now (ends .exit))) r (behind (now (label .entry)) (function-or-data reading) σ)) ⌝ }
+{
+    let labelled = memory::put(text, p, label);
+    let got = functions::function_or_data(s, text, store, ends, labelled);
+    let Read::Text(next, n) = got else {
+        return got;
+    };
+    memory::given(next, n + label.len())
+}
