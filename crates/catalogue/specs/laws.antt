@@ -17,5 +17,6 @@ pub mod LowBytes
 pub mod NormalForm
 pub mod Examples
 pub mod Starred
+pub mod Thunks
 pub mod ManyArguments
 pub mod Bytes

@@ -72,6 +72,30 @@ departures =
     ∷ "_Z1fPPPPPPPPPPPPPPPPPPPPPPPPPPPPPPPPPPPPPPPPPPPPPPPPPPPPPPPPPPPPPPPPPPPPPPPPPPPPPPPPPPPPPPPPPPPPPPPPi" ⇒ refuses 8
     ∷ []
 
+-- thunks (document 02, T-01): where they stand, their offsets, and what stands behind them
+unfoldable pub thunks : List (Row Case)
+thunks =
+    "_ZThn16_N1a1fEv" ⇒ prints "non-virtual thunk to a::f()"
+    ∷ "__ZTh007_1f" ⇒ prints "non-virtual thunk to f"
+    ∷ "_ZTv0_n24_NK1a1fIiEEvT_" ⇒ prints "virtual thunk to void a::f<int>(int) const"
+    ∷ "_ZGTtGTtTh0_1f" ⇒ prints "transaction clone for transaction clone for non-virtual thunk to f"
+    ∷ "_ZTh0_1fv.cold" ⇒ prints "non-virtual thunk to f(void)"
+    ∷ "_ZTh_1fv" ⇒ refuses 4
+    ∷ "_ZThn_1fv" ⇒ refuses 4
+    ∷ "_ZThnn0_1fv" ⇒ refuses 4
+    ∷ "_ZTh01fv" ⇒ refuses 4
+    ∷ "_ZTv0_1fv" ⇒ refuses 4
+    ∷ "_ZTh0_0_1fv" ⇒ refuses 4
+    ∷ "_ZTh0_TV1a" ⇒ refuses 4
+    ∷ "_ZTh0_GV1f" ⇒ refuses 4
+    ∷ "_ZTh0_GTt1f" ⇒ refuses 4
+    ∷ "_ZTh0_Th0_1f" ⇒ refuses 4
+    ∷ "_ZGVTh0_1f" ⇒ refuses 4
+    ∷ "_ZZTh0_1fvE1g" ⇒ refuses 4
+    ∷ "_ZTh0_1fv!" ⇒ refuses 4
+    ∷ "_ZTh0_1fS_" ⇒ refuses 7
+    ∷ []
+
 -- ---------------------------------------------------------------- tables computed
 
 unfoldable pub same-answer : Answer → Answer → Bool
@@ -223,6 +247,10 @@ by-test ((w ⇒ c) ∷ rows) h =
 pub departures-answered : Answered departures
 unfolding answered departures
 departures-answered = by-test departures tt
+
+pub thunks-answered : Answered thunks
+unfolding answered thunks
+thunks-answered = by-test thunks tt
 
 -- `_Z1fv.isra.0`, `_Z1fv.cold` and any other bytes behind that dot
 pub behind-v : (u : Text) → Plain most-symbol-bytes (b "_Z1fv" ++ (b "." ++ u)) → demangle most-symbol-bytes (b "_Z1fv" ++ (b "." ++ u)) ≡ named (b "f(void)")

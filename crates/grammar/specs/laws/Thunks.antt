@@ -73,9 +73,14 @@ pub data Kept {A : Type 0} (P : Type 0) (four : A) : A → A → Type 0 where
   same : {x : A} → Kept P four x x
   new : {x : A} → P → Kept P four four x
 
-kept-by : {A B P Q : Type 0} {four x y : A} (f : A → B) → (P → Q) → Kept P four x y → Kept Q (f four) (f x) (f y)
+pub kept-by : {A B P Q : Type 0} {four x y : A} (f : A → B) → (P → Q) → Kept P four x y → Kept Q (f four) (f x) (f y)
 kept-by f h same = same
 kept-by f h (new p) = new (h p)
+
+pub if-kept : {A P : Type 0} {four x y : A} (z : A) (q : Bool) → Kept P four x y → Kept P four (if q then x else z) (if q then y else z)
+unfolding if_then_else_
+if-kept z true h = h
+if-kept z false h = same
 
 -- ---------------------------------------------------------------- no other production reads an encoding
 
@@ -281,11 +286,11 @@ keeps (suc n) t h =
 
 -- ---------------------------------------------------------------- answers
 
-mangled-kept : (t : Text) → Kept (Thunk t) (refusal 4) (mangled-without t) (mangled-name t)
+pub mangled-kept : (t : Text) → Kept (Thunk t) (refusal 4) (mangled-without t) (mangled-name t)
 unfolding mangled-without mangled-name reading finished start
 mangled-kept t = kept-by finished (λ p. p) (keeps (4 * suc (length t)) t (omega arith))
 
-front-kept : (limit : ℕ) (t : Text) (f f' : Text → Answer) → ((u : Text) → Kept (Thunk u) (refusal 4) (f u) (f' u)) → Kept (ThunkSymbol t) (refusal 4) (front limit t f) (front limit t f')
+pub front-kept : (limit : ℕ) (t : Text) (f f' : Text → Answer) → ((u : Text) → Kept (Thunk u) (refusal 4) (f u) (f' u)) → Kept (ThunkSymbol t) (refusal 4) (front limit t f) (front limit t f')
 unfolding front find choose if_then_else_ b
 front-kept limit t f f' h = long (ltb limit (length t)) (high t) (starts t (b "_Z")) refl (starts t (b "__Z")) refl
   where
@@ -308,12 +313,8 @@ demangle-kept limit t = front-kept limit t _ _ mangled-kept
 
 -- and what the entry for names tells, whatever the slices
 pub answer-kept : (limit : ℕ) (l : Lent) (t : Text) → Kept (ThunkSymbol t) (refusal 4) (answer-without limit l t) (answer limit l t)
-unfolding answer-without answer within if_then_else_
-answer-kept limit l t = front-kept limit t _ _ λ u. go u (work-fits l)
-  where
-    go : (u : Text) (q : Bool) → Kept (Thunk u) (refusal 4) (if q then within (l .out) (mangled-without u) else refusal 14) (if q then within (l .out) (mangled-name u) else refusal 14)
-    go u true = kept-by (within (l .out)) (λ p. p) (mangled-kept u)
-    go u false = same
+unfolding answer-without answer within
+answer-kept limit l t = front-kept limit t _ _ λ u. if-kept _ (work-fits l) (kept-by (within (l .out)) (λ p. p) (mangled-kept u))
 
 -- "Every symbol accepted before keeps its answer."
 pub accepted-keeps : (limit : ℕ) (t x : Text) → demangle-without limit t ≡ named x → demangle limit t ≡ named x

@@ -1,0 +1,41 @@
+-- Thunks are no catalogue symbols, so that the entry for normal symbols tells 6 for an accepted one; all its other answers are what they were.
+-- Assumes nothing.
+use mathlib.Core.Path.{_≡_, refl, ap, _∙_}
+use lib.ListN.{length}
+use Rattle.grammar.specs.Text.{Text, b, if_then_else_, choose, digit, digit-value}
+use Rattle.grammar.specs.Limits.{most-symbol-bytes}
+use Rattle.grammar.specs.Names.{Answer, named, refusal, Lent, front, demangle, within}
+use Rattle.grammar.specs.laws.Thunks.{Thunk, non-virtual, virtual, clone, ThunkSymbol, behind-Z, behind-_Z, Kept, kept-by, if-kept, mangled-without, demangle-without, mangled-kept, front-kept, demangle-kept}
+use Rattle.catalogue.specs.Class.{wrong}
+use Rattle.catalogue.specs.Recogniser.{with-code, lead, parse, parse-sym, classify}
+use Rattle.catalogue.specs.Answer.{normal-told, normal-after, normal-symbol, normal-work-fits, normal-answer}
+
+thunk-wrong : {t : Text} → ThunkSymbol t → classify t ≡ wrong
+unfolding classify parse-sym parse lead with-code choose digit digit-value if_then_else_ b
+thunk-wrong (behind-Z (non-virtual t)) = refl
+thunk-wrong (behind-Z (virtual t)) = refl
+thunk-wrong (behind-Z (clone p)) = refl
+thunk-wrong (behind-_Z (non-virtual t)) = refl
+thunk-wrong (behind-_Z (virtual t)) = refl
+thunk-wrong (behind-_Z (clone p)) = refl
+
+pub thunk-6 : {t x : Text} → ThunkSymbol t → demangle most-symbol-bytes t ≡ named x → normal-symbol t ≡ refusal 6
+unfolding normal-symbol normal-after normal-told
+thunk-6 {t} p e = ap (normal-after t) e ∙ rw (thunk-wrong p)
+
+-- the normal symbol without thunks, by itself and with the slices of the entry
+unfoldable pub normal-symbol-without : Text → Answer
+normal-symbol-without t = normal-after t (demangle-without most-symbol-bytes t)
+
+unfoldable pub normal-answer-without : Lent → Text → Answer
+normal-answer-without l t =
+    front most-symbol-bytes t λ u. if normal-work-fits l then within (l .out) (normal-after t (mangled-without u)) else refusal 14
+
+pub normal-symbol-kept : (t : Text) → Kept (ThunkSymbol t) (refusal 4) (normal-symbol-without t) (normal-symbol t)
+unfolding normal-symbol-without normal-symbol normal-after
+normal-symbol-kept t = kept-by (normal-after t) (λ p. p) (demangle-kept most-symbol-bytes t)
+
+pub normal-answer-kept : (l : Lent) (t : Text) → Kept (ThunkSymbol t) (refusal 4) (normal-answer-without l t) (normal-answer l t)
+unfolding normal-answer-without normal-answer normal-after within
+normal-answer-kept l t =
+    front-kept most-symbol-bytes t _ _ λ u. if-kept _ (normal-work-fits l) (kept-by (λ a. within (l .out) (normal-after t a)) (λ p. p) (mangled-kept u))
