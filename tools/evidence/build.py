@@ -12,14 +12,12 @@ RUST_FILE = "src--crates--e5r-types--src--itanium.rs.txt"
 
 # ---------------------------------------------------------------- the numbered copy
 
-DEMANGLE = """pub fn answer(s: &str) -> Result<String, u8> {
+DEMANGLE = """/// The text with its bytes 1, and whether bytes are left that don't begin with a dot.
+pub fn reading(s: &str) -> Result<(String, bool), u8> {
     let body = s.strip_prefix("_Z").or_else(|| s.strip_prefix("__Z")).ok_or(3u8)?;
     let mut p = Parser::new(body);
     let out = p.mangled_name()?;
-    if !p.rest().is_empty() && !p.rest().starts_with('.') {
-        return Err(5);
-    }
-    Ok(out.replace(SLOT, ""))
+    Ok((out, !p.rest().is_empty() && !p.rest().starts_with('.')))
 }
 
 fn returned(out: String) -> R<String> {
@@ -105,7 +103,7 @@ def build(program, folder, scratch):
         rust = f.read()
     with open(os.path.join(scratch, "numbered.rs"), "w") as f:
         f.write(numbered(rust))
-    for name in ("symbols.rs", "catalogue.rs", program + ".rs"):
+    for name in ("symbols.rs", "catalogue.rs", "thunks.rs", program + ".rs"):
         shutil.copyfile(os.path.join(HERE, name), os.path.join(scratch, name))
     binary = os.path.join(scratch, program)
     # with overflow checks the Rust panics at the numbers that document 01 puts outside the comparison

@@ -2,7 +2,7 @@
 //!
 //! The Rust answers in a process of its own (this program with `--answer`): it recurses, and a short symbol can make it
 //! ask for more memory than there is. `itanium.rs` is the Rust, unchanged. `numbered.rs` is made from it by
-//! `build.py`: the same readings, with document 01's numbers and limits.
+//! `build.py`: the same readings, with document 01's numbers and limits. Thunks, which the Rust refuses, are struck and judged by `thunks.rs`.
 
 #[path = "itanium.rs"]
 mod itanium;
@@ -10,6 +10,8 @@ mod itanium;
 mod numbered;
 #[path = "symbols.rs"]
 mod symbols;
+#[path = "thunks.rs"]
+mod thunks;
 
 use std::alloc::{GlobalAlloc, Layout, System};
 use std::collections::{BTreeMap, HashSet};
@@ -18,6 +20,7 @@ use std::process::{Command, ExitCode, Stdio};
 use std::sync::atomic::{AtomicUsize, Ordering::Relaxed};
 use std::time::{Duration, Instant};
 use symbols::{Grammar, Rng};
+use thunks::Mistake;
 
 // ---------------------------------------------------------------- memory
 
@@ -84,7 +87,7 @@ fn answer_all(careful: bool) {
             bytes.resize(u32::from_le_bytes(head) as usize, 0);
             input.read_exact(&mut bytes).unwrap();
             let symbol = std::str::from_utf8(&bytes).unwrap();
-            let number = match numbered::answer(symbol) {
+            let number = match thunks::answer(symbol, numbered::reading) {
                 Ok(_) => 0,
                 Err(k) => k,
             };
@@ -92,7 +95,7 @@ fn answer_all(careful: bool) {
             if careful {
                 output.flush().unwrap();
             }
-            let answer = std::panic::catch_unwind(|| itanium::demangle(symbol));
+            let answer = std::panic::catch_unwind(|| thunks::named(symbol, itanium::demangle));
             let (tag, name) = match answer {
                 Ok(None) => (0, String::new()),
                 Ok(Some(name)) => (1, name),
@@ -107,7 +110,7 @@ fn answer_all(careful: bool) {
         }
         output.flush().unwrap();
     };
-    std::thread::Builder::new().stack_size(1 << 30).spawn(run).unwrap().join().unwrap();
+    on_large_stack(run);
 }
 
 fn asked(symbol: &[u8]) -> bool {
@@ -181,7 +184,8 @@ fn references(batch: &[Vec<u8>]) -> Vec<Reference> {
 // ---------------------------------------------------------------- the listing program
 
 struct Listing {
-    program: String,
+    /// The program and its words.
+    program: Vec<String>,
     /// The program's machine stack in KiB, if it is set.
     stack: Option<usize>,
     /// How long it may take for a batch.
@@ -199,8 +203,8 @@ impl Listing {
         let mut command = Command::new("timeout");
         command.args(["-s", "KILL", &self.seconds.to_string()]);
         match self.stack {
-            None => command.arg(&self.program),
-            Some(kib) => command.args(["sh", "-c", &format!("ulimit -s {kib} && exec \"$0\""), &self.program]),
+            None => command.args(&self.program),
+            Some(kib) => command.args(["sh", "-c", &format!("ulimit -s {kib} && exec \"$0\" \"$@\"")]).args(&self.program),
         };
         command
     }
@@ -361,7 +365,8 @@ fn wrong(symbol: &[u8], reference: &Reference, line: &[u8], numbers: bool) -> Op
         return Some("a code that doesn't fit the Rust's answer".into());
     }
     match reference.number {
-        Some(number) if numbers && number != code => Some(format!("the number is {number} by document 01")),
+        // what the papers say of thunks is all that there is, numbers too
+        Some(number) if (numbers || thunks::is_struck(symbol)) && number != code => Some(format!("the number is {number} by the papers")),
         _ => None,
     }
 }
@@ -390,6 +395,9 @@ struct Counts {
     too_large: usize,
     not_asked: usize,
     short_limits: usize,
+    /// Thunks: struck from the comparison with the Rust.
+    struck: usize,
+    struck_names: usize,
     bytes: usize,
     generating: Duration,
     rust: Duration,
@@ -408,6 +416,8 @@ struct Comparison {
     counts: Vec<(String, Counts)>,
     differences: usize,
     batches: usize,
+    /// Counts alone: nothing is printed.
+    quiet: bool,
 }
 
 const BATCH: usize = 20_000;
@@ -435,7 +445,19 @@ impl Comparison {
             self.batch(&batch);
         }
         let (kind, counts) = self.counts.last().unwrap();
-        report(kind, counts);
+        if !self.quiet {
+            report(kind, counts);
+        }
+    }
+
+    /// The thunks. Were none struck, or none of them accepted, nothing would be tested.
+    fn thunks(&mut self, seed: u64, count: usize) {
+        self.kind("thunks", distinct(thunk_symbols(seed, count)));
+        let counts = &self.counts.last().unwrap().1;
+        if counts.struck == 0 || counts.struck_names == 0 {
+            println!("thunks: {} struck, {} of them with a name: nothing is tested", counts.struck, counts.struck_names);
+            self.differences += 1;
+        }
     }
 
     fn batch(&mut self, batch: &[Vec<u8>]) {
@@ -449,6 +471,9 @@ impl Comparison {
         self.batches += 1;
         for ((symbol, reference), line) in batch.iter().zip(&references).zip(&lines) {
             counts.bytes += symbol.len();
+            let struck = thunks::is_struck(symbol);
+            counts.struck += struck as usize;
+            counts.struck_names += (struck && matches!(reference.answer, Answer::Name(..))) as usize;
             match reference.answer {
                 Answer::Name(..) => counts.names += 1,
                 Answer::None => counts.nones += 1,
@@ -470,7 +495,7 @@ impl Comparison {
             };
             if let Some(why) = why {
                 self.differences += 1;
-                if self.differences <= MOST_SHOWN {
+                if self.differences <= MOST_SHOWN && !self.quiet {
                     difference(kind, symbol, reference, line, &why);
                 }
             }
@@ -490,7 +515,8 @@ fn difference(kind: &str, symbol: &[u8], reference: &Reference, line: &Result<Ve
         Answer::NotAsked => "not asked".into(),
     };
     let number = reference.number.map_or("none".into(), |k| k.to_string());
-    println!("    the Rust:    {rust} (number by the numbered copy: {number})");
+    let whose = if thunks::is_struck(symbol) { "the papers: " } else { "the Rust:   " };
+    println!("    {whose} {rust} (number by the numbered copy: {number})");
     println!("    the program: {}", line.as_ref().map_or("no line".into(), |l| shown(l)));
 }
 
@@ -503,6 +529,10 @@ fn report(kind: &str, counts: &Counts) {
         "    the Rust: names {}, None {}, overflow {}, too large {}, not asked {}",
         counts.names, counts.nones, counts.overflows, counts.too_large, counts.not_asked
     );
+    if counts.struck > 0 {
+        let (struck, names) = (counts.struck, counts.struck_names);
+        println!("    of these thunks, struck from the comparison with the Rust and judged by the papers: {struck}, with a name {names}");
+    }
     if counts.short_limits > 0 {
         println!("    9, 10 or 11 for a symbol of at most 200 bytes: {}", counts.short_limits);
     }
@@ -519,7 +549,7 @@ fn report(kind: &str, counts: &Counts) {
 
 // ---------------------------------------------------------------- kinds
 
-const KINDS: &[&str] = &["systematic", "short", "grammar", "grown", "damaged", "high", "limits", "chains-small-stack", "real"];
+const KINDS: &[&str] = &["systematic", "short", "grammar", "grown", "damaged", "high", "limits", "chains-small-stack", "thunks", "real"];
 
 struct Options {
     list: String,
@@ -534,6 +564,7 @@ struct Options {
     numbers: bool,
     failing: Option<String>,
     seconds: usize,
+    selftest: bool,
 }
 
 fn options() -> Options {
@@ -550,6 +581,7 @@ fn options() -> Options {
         numbers: false,
         failing: None,
         seconds: 120,
+        selftest: false,
     };
     let mut words = std::env::args().skip(1);
     while let Some(word) = words.next() {
@@ -568,6 +600,7 @@ fn options() -> Options {
             "--numbers" => o.numbers = true,
             "--failing" => o.failing = Some(value()),
             "--seconds" => o.seconds = number(value()),
+            "--selftest" => o.selftest = true,
             _ => usage(&format!("{word}: no such option")),
         }
     }
@@ -580,7 +613,7 @@ fn options() -> Options {
 fn usage(why: &str) -> ! {
     eprintln!("{why}");
     eprintln!("options: --list PROGRAM --seed N --count N --kind {} --real FILE", KINDS.join(","));
-    eprintln!("         --symbols FILE --hex SYMBOL --stack KIB --small-stack KIB --numbers --failing FILE --seconds N");
+    eprintln!("         --symbols FILE --hex SYMBOL --stack KIB --small-stack KIB --numbers --failing FILE --seconds N --selftest");
     std::process::exit(2)
 }
 
@@ -609,6 +642,77 @@ fn distinct(symbols: impl Iterator<Item = Vec<u8>>) -> impl Iterator<Item = Vec<
     })
 }
 
+/// Short thunks, those of the papers and near the limits, and so many generated ones.
+fn thunk_symbols(seed: u64, count: usize) -> impl Iterator<Item = Vec<u8>> {
+    let papers = thunks::PAPER.iter().map(|(symbol, ..)| symbol.as_bytes().to_vec());
+    let limits = symbols::thunk_limits(&mut Rng::new(seed)).into_iter().map(String::into_bytes);
+    let short = symbols::SHORT_THUNKS.iter().flat_map(|s| s.all()).take(count);
+    let mut made = symbols::Thunks::new(seed);
+    papers.chain(limits).chain(short).chain((0..count).map(move |_| made.any()))
+}
+
+// ---------------------------------------------------------------- the test of itself
+
+/// A listing program by the papers, with a mistake about thunks.
+fn stand_in(mistake: Mistake) {
+    let mut given = vec![];
+    std::io::stdin().read_to_end(&mut given).unwrap();
+    let body = given.strip_suffix(b"\n").unwrap_or(&given);
+    let mut out = [HEADER, b"\n"].concat();
+    for line in body.split(|b| *b == b'\n') {
+        let answer = match std::str::from_utf8(line) {
+            _ if line.len() > MOST_SYMBOL => Err(1),
+            Ok(symbol) if symbol.is_ascii() => thunks::mistaken(symbol, numbered::reading, mistake),
+            _ => Err(2),
+        };
+        let (code, name) = answer.map_or_else(|code| (code, String::new()), |name| (0, name));
+        out.extend(format!("{code},{},{name}\n", name.len()).bytes());
+    }
+    std::io::stdout().write_all(&out).unwrap();
+}
+
+/// What an oracle answers otherwise than the papers, if anything: answers by hand, and names of 16,384 bytes and of one more.
+fn against_papers(mistake: Mistake) -> Option<String> {
+    let answer = |symbol: &str| thunks::mistaken(symbol, numbered::reading, mistake);
+    for (symbol, code, name) in thunks::PAPER {
+        if answer(symbol) != if *code == 0 { Ok(name.to_string()) } else { Err(*code) } {
+            return Some(symbol.to_string());
+        }
+    }
+    let clones = [0, 1, 2, 10, 742];
+    let fits = |symbol: &String| answer(symbol).is_ok_and(|name| name.len() == MOST_TEXT || symbol.contains('\x01'));
+    let within = symbols::thunk_texts(MOST_TEXT..=MOST_TEXT, &clones).into_iter().find(|s| !fits(s));
+    within.or_else(|| symbols::thunk_texts(MOST_TEXT + 1..=MOST_TEXT + 1, &clones).into_iter().find(|s| answer(s) != Err(11)))
+}
+
+/// The oracle must be the papers', a program like it must pass, and each mistake, in either, be caught.
+fn selftest(seed: u64, count: usize) -> bool {
+    let own = std::env::current_exe().unwrap().to_str().unwrap().to_string();
+    let named = |symbol: &str| thunks::named(symbol, itanium::demangle).unwrap_or_default();
+    let mut sound = thunks::PAPER.iter().all(|(symbol, _, name)| named(symbol) == *name);
+    println!("{}: names of the papers, the Rust unchanged", if sound { "as it must be" } else { "WRONG" });
+    for (i, (mistake, what)) in std::iter::once(&(Mistake::No, "no mistake")).chain(thunks::MISTAKES).enumerate() {
+        let program = vec![own.clone(), "--stand-in".into(), i.to_string()];
+        let listing = Listing { program, stack: None, seconds: 120, failing: None, failures: 0 };
+        let mut comparison = Comparison { listing, numbers: true, counts: vec![], differences: 0, batches: 0, quiet: true };
+        comparison.thunks(seed, count);
+        let (found, differences) = (against_papers(*mistake), comparison.differences);
+        let right = i == 0;
+        let as_must = found.is_none() == right && (differences == 0) == right;
+        sound &= as_must;
+        let by_hand = found.map_or("none".into(), |s| shown(s.as_bytes()));
+        println!("{}: {what}: {differences} differences; by hand: {by_hand}", if as_must { "as it must be" } else { "WRONG" });
+    }
+    sound
+}
+
+// ---------------------------------------------------------------- all of it
+
+/// The Rust recurses.
+fn on_large_stack<T: Send + 'static>(run: impl FnOnce() -> T + Send + 'static) -> T {
+    std::thread::Builder::new().stack_size(1 << 30).spawn(run).unwrap().join().unwrap()
+}
+
 fn main() -> ExitCode {
     match std::env::args().nth(1).as_deref() {
         Some("--answer") => {
@@ -619,15 +723,25 @@ fn main() -> ExitCode {
             answer_all(true);
             return ExitCode::SUCCESS;
         }
+        Some("--stand-in") => {
+            let which: usize = std::env::args().nth(2).and_then(|n| n.parse().ok()).unwrap_or(0);
+            on_large_stack(move || stand_in(if which == 0 { Mistake::No } else { thunks::MISTAKES[which - 1].0 }));
+            return ExitCode::SUCCESS;
+        }
         _ => {}
     }
     let o = options();
+    if o.selftest {
+        let sound = on_large_stack(move || selftest(o.seed, o.count.unwrap_or(20_000)));
+        return if sound { ExitCode::SUCCESS } else { ExitCode::FAILURE };
+    }
     let mut comparison = Comparison {
-        listing: Listing { program: o.list.clone(), stack: o.stack, seconds: o.seconds, failing: o.failing, failures: 0 },
+        listing: Listing { program: vec![o.list.clone()], stack: o.stack, seconds: o.seconds, failing: o.failing, failures: 0 },
         numbers: o.numbers,
         counts: vec![],
         differences: 0,
         batches: 0,
+        quiet: false,
     };
     if let Some(file) = &o.symbols {
         comparison.kind("given", lines_of(file).into_iter());
@@ -681,6 +795,7 @@ fn main() -> ExitCode {
                 comparison.kind(&kind, distinct(made.map(String::into_bytes)));
                 comparison.listing.stack = o.stack;
             }
+            "thunks" => comparison.thunks(o.seed, count(1_000_000)),
             _ => comparison.kind(kind, distinct(real.iter().cloned()).take(count(usize::MAX))),
         }
     }
@@ -690,6 +805,8 @@ fn main() -> ExitCode {
         *codes.entry(*code).or_default() += n;
     }
     let codes: Vec<String> = codes.iter().map(|(code, n)| format!("{code}: {n}")).collect();
-    println!("seed {}: {total} symbols, {} differences; codes {}", o.seed, comparison.differences, codes.join(", "));
+    let struck: usize = comparison.counts.iter().map(|(_, c)| c.struck).sum();
+    let (seed, differences) = (o.seed, comparison.differences);
+    println!("seed {seed}: {total} symbols, of them struck as thunks {struck}, {differences} differences; codes {}", codes.join(", "));
     if comparison.differences > 0 { ExitCode::FAILURE } else { ExitCode::SUCCESS }
 }

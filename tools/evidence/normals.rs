@@ -8,6 +8,8 @@ mod catalogue;
 mod numbered;
 #[path = "symbols.rs"]
 mod symbols;
+#[path = "thunks.rs"]
+mod thunks;
 
 use catalogue::{Encoding, Maker, Mistake};
 use std::collections::{BTreeMap, HashMap, HashSet};
@@ -40,6 +42,8 @@ const STAND_INS: &[(&str, &str)] = &[
     ("twice", "a nested class that ends in arguments entered twice"),
     ("words", "words such as int taken as names"),
     ("nested", "N around one part"),
+    ("thunk-refused", "4 for thunks"),
+    ("thunk-base", "the normal symbol of what stands behind a thunk's offsets"),
 ];
 
 /// Programs for names: the right one, and such as must be caught.
@@ -60,7 +64,7 @@ fn mistake(stand_in: &str) -> Mistake {
     }
 }
 
-/// The name of a symbol or the refusal, by the numbered copy of the Rust.
+/// The name of a symbol or the refusal, by the numbered copy of the Rust and, for thunks, by document 02.
 fn read(symbol: &[u8]) -> Result<String, u8> {
     if symbol.len() > 4096 {
         return Err(1);
@@ -68,7 +72,7 @@ fn read(symbol: &[u8]) -> Result<String, u8> {
     if !symbol.is_ascii() {
         return Err(2);
     }
-    numbered::answer(std::str::from_utf8(symbol).unwrap())
+    thunks::answer(std::str::from_utf8(symbol).unwrap(), numbered::reading)
 }
 
 fn named(stand_in: &str, symbol: &[u8]) -> (u8, String) {
@@ -88,6 +92,9 @@ fn normal(stand_in: &str, symbol: &[u8]) -> (u8, String) {
     if number != 0 {
         return (number, String::new());
     }
+    if stand_in.starts_with("thunk-") && thunks::is_struck(symbol) {
+        return if stand_in == "thunk-refused" { (4, String::new()) } else { normal("right", &behind_offsets(symbol)) };
+    }
     let text = String::from_utf8(symbol.to_vec()).unwrap();
     let Some(encoding) = catalogue::recognised(symbol, mistake(stand_in)).filter(|_| stand_in != "six") else {
         return if stand_in == "copied-six" { (0, text) } else { (6, String::new()) };
@@ -100,6 +107,14 @@ fn normal(stand_in: &str, symbol: &[u8]) -> (u8, String) {
         "13-early" if normal.len() == catalogue::MOST_NORMAL => (13, String::new()),
         _ => catalogue::within(normal),
     }
+}
+
+/// An accepted thunk as a symbol without its label: `_Z` and what stands behind the last `_` of an offset.
+fn behind_offsets(symbol: &[u8]) -> Vec<u8> {
+    let at = symbol.windows(2).position(|w| w == b"Th" || w == b"Tv").unwrap();
+    let offsets = if symbol[at + 1] == b'h' { 1 } else { 2 };
+    let rest = symbol[at + 2..].splitn(offsets + 1, |b| *b == b'_').last().unwrap();
+    [b"_Z", rest].concat()
 }
 
 fn stand_in(which: &str) {
@@ -329,6 +344,18 @@ impl Comparison {
         }
     }
 
+    /// The thunks: an accepted one has no normal symbol. Without one nothing would be tested.
+    fn thunks(&mut self, seed: u64, most: usize) {
+        let papers = thunks::PAPER.iter().map(|(symbol, code, _)| {
+            let must = if *code == 0 { catalogue::NOT_CATALOGUE } else { *code };
+            Item { symbol: symbol.as_bytes().to_vec(), known: Known::Answer(must, "") }
+        });
+        self.kind("thunks", papers.chain(thunk_items(seed)), most.max(thunks::PAPER.len()));
+        if !self.count().codes.contains_key(&catalogue::NOT_CATALOGUE) {
+            self.differs("thunks", b"", "none was accepted".into());
+        }
+    }
+
     fn differs(&mut self, check: &'static str, symbol: &[u8], why: String) {
         let smaller = |new: &[u8], old: &[u8]| (new.len(), new) < (old.len(), old);
         let difference = Difference { symbol: symbol.to_vec(), why };
@@ -472,7 +499,7 @@ impl Comparison {
 
 // ---------------------------------------------------------------- kinds of symbols
 
-const KINDS: &[&str] = &["document", "spellings", "large", "damaged", "short", "limits", "any"];
+const KINDS: &[&str] = &["document", "spellings", "large", "damaged", "short", "limits", "thunks", "any"];
 
 /// Chances of a reference, of a thousand, in the spellings of one tree.
 const CHANCES: &[usize] = &[0, 300, 700, 1000, 1000];
@@ -504,6 +531,16 @@ fn large(seed: u64) -> impl Iterator<Item = Item> {
 fn damaged(seed: u64) -> impl Iterator<Item = Item> {
     let mut rng = Rng::new(seed ^ 0xda3a);
     spellings(seed ^ 0xd).filter(|item| item.symbol.len() < 400).map(move |item| Item::of(catalogue::damaged(&item.symbol, &mut rng)))
+}
+
+/// Catalogue symbols behind a thunk's offsets, and thunks of every kind.
+fn thunk_items(seed: u64) -> impl Iterator<Item = Item> {
+    let (mut made, mut rng) = (symbols::Thunks::new(seed), Rng::new(seed ^ 0x7468));
+    let behind = spellings(seed ^ 0x74).map(move |item| {
+        let offsets = rng.pick(&["Th8_", "Thn16_", "Tv0_n24_", "GTtTh0_"]);
+        Item::of([b"_Z", offsets.as_bytes(), &item.symbol[2..]].concat())
+    });
+    behind.flat_map(move |item| [item, Item::of(made.any())])
 }
 
 fn by_hand() -> impl Iterator<Item = Item> {
@@ -553,6 +590,7 @@ fn compare(comparison: &mut Comparison, kinds: &[String], seed: u64, count: usiz
                     comparison.kind(&format!("limits, {family}"), made.into_iter().map(Item::of), usize::MAX);
                 }
             }
+            "thunks" => comparison.thunks(seed, count / 10),
             _ => {
                 let mut grammar = Grammar::new(seed);
                 comparison.kind("any symbols", std::iter::repeat_with(|| Item::of(grammar.any())), count / 10);

@@ -1,5 +1,5 @@
 //! Writes the stored list of symbols: `stdin`, one symbol a line; `expected-names`, the Rust's answer for each line;
-//! `expected-codes`, the number by document 01 for each line.
+//! `expected-codes`, the number by document 01 for each line; `stdout`, the listing that these two give. Thunks are answered by `thunks.rs`.
 //!
 //! Words: the folder to write to, a file with lines from docs/DIFFERENCES.md's symbols, a file of real symbols, a seed.
 //!
@@ -12,6 +12,8 @@ mod itanium;
 mod numbered;
 #[path = "symbols.rs"]
 mod symbols;
+#[path = "thunks.rs"]
+mod thunks;
 
 use std::collections::{BTreeMap, HashSet};
 use symbols::{Grammar, Rng};
@@ -64,6 +66,32 @@ fn by_hand() -> Vec<String> {
     out
 }
 
+/// Thunks of the papers, their limits from both sides, and generated ones.
+fn thunks_by_hand(seed: u64) -> Vec<Vec<u8>> {
+    let mut out: Vec<String> = thunks::PAPER.iter().map(|(symbol, ..)| symbol.to_string()).collect();
+    for tag in ["Th8_", "Tv0_n8_"] {
+        out.push(format!("_Z{}{}_1fv", &tag[..tag.len() - 2], "7".repeat(4000)));
+        for n in [94, 95, 96] {
+            out.push(format!("_Z{tag}1f{}i", "P".repeat(n)));
+        }
+        for n in [1024, 1025] {
+            out.extend([format!("_Z{tag}1f{}", "Pi".repeat(n)), format!("_Z{tag}1fI{}E", "i".repeat(n))]);
+        }
+        for n in [3277, 3278] {
+            out.push(format!("_Z{tag}1fOO{}", symbols::source(&"\x01".repeat(n))));
+        }
+        for letter in 'a'..='z' {
+            out.extend([format!("_Z{tag}{letter}1f"), format!("_Z{}{letter}1f", &tag[..tag.len() - 1]), format!("_Z{letter}{}", &tag[1..])]);
+        }
+    }
+    out.extend(symbols::thunk_lengths(&[4096, 4097]));
+    out.extend(spread(&symbols::thunk_texts(16384..=16385, &[0, 1, 2]), 22));
+    out.extend(symbols::thunk_texts(16384..=16385, &[742]));
+    let mut made = symbols::Thunks::new(seed);
+    let generated = std::iter::repeat_with(|| made.any()).filter(|s| s.len() <= 400).take(500);
+    out.into_iter().map(String::into_bytes).chain(generated).collect()
+}
+
 fn lines_of(file: &str) -> Vec<Vec<u8>> {
     let bytes = std::fs::read(file).unwrap();
     bytes.split(|b| *b == b'\n').filter(|l| !l.is_empty()).map(|l| l.to_vec()).collect()
@@ -82,17 +110,23 @@ fn answer(symbol: &[u8]) -> (u8, Vec<u8>) {
         return (2, b"?".to_vec());
     }
     let text = std::str::from_utf8(symbol).unwrap();
-    let number = match numbered::answer(text) {
+    let number = match thunks::answer(text, numbered::reading) {
         Ok(_) => 0,
         Err(k) => k,
     };
-    let line = match std::panic::catch_unwind(|| itanium::demangle(text)) {
+    let line = match std::panic::catch_unwind(|| thunks::named(text, itanium::demangle)) {
         Ok(None) => b"-".to_vec(),
         Ok(Some(name)) if name.len() > 16384 => b">".to_vec(),
         Ok(Some(name)) => [b"=", name.as_bytes()].concat(),
         Err(_) => b"?".to_vec(),
     };
     (number, line)
+}
+
+/// A line of the listing, by number and expected name.
+fn listed(number: u8, line: &[u8]) -> Vec<u8> {
+    let name = if number == 0 { line.strip_prefix(b"=").expect("a name") } else { b"" };
+    [format!("{number},{},", name.len()).as_bytes(), name, b"\n"].concat()
 }
 
 fn write(folder: &str, differences: &str, real: &str, seed: u64) {
@@ -120,10 +154,12 @@ fn write(folder: &str, differences: &str, real: &str, seed: u64) {
     });
     groups.push(("damaged", made.collect()));
     groups.push(("high bytes", (0..40).map(|_| symbols::high(&mut rng, &grammar.any())).collect()));
+    groups.push(("thunks", thunks_by_hand(seed)));
     // a last line without line feed
     groups.push(("the last", vec![b"_Z4lastv".to_vec()]));
 
     let (mut given, mut names, mut codes) = (vec![], vec![], String::new());
+    let mut listing = b"code,bytes,name\n".to_vec();
     let mut seen: HashSet<Vec<u8>> = HashSet::new();
     let mut total: BTreeMap<u8, usize> = BTreeMap::new();
     for (group, made) in groups {
@@ -140,6 +176,7 @@ fn write(folder: &str, differences: &str, real: &str, seed: u64) {
                 given.push(b'\n');
             }
             given.extend(symbol);
+            listing.extend(listed(number, &line));
             names.extend(line);
             names.push(b'\n');
             codes += &format!("{number}\n");
@@ -154,6 +191,7 @@ fn write(folder: &str, differences: &str, real: &str, seed: u64) {
     std::fs::write(file("stdin"), given).unwrap();
     std::fs::write(file("expected-names"), names).unwrap();
     std::fs::write(file("expected-codes"), codes).unwrap();
+    std::fs::write(file("stdout"), listing).unwrap();
 }
 
 fn told(counts: &BTreeMap<u8, usize>) -> String {

@@ -1,6 +1,7 @@
 //! Writes the stored symbols of the program for normal symbols: `stdin`, one symbol a line, and `stdout`, the listing by document 01.
 //!
-//! Words: the folder to write to, a file of real symbols, a seed. Refusals of the reading are the numbered copy's, all else is `catalogue.rs`'s.
+//! Words: the folder to write to, a file of real symbols, a seed. Refusals of the reading are the numbered copy's, of thunks `thunks.rs`'s,
+//! all else is `catalogue.rs`'s.
 
 #[path = "catalogue.rs"]
 mod catalogue;
@@ -8,6 +9,8 @@ mod catalogue;
 mod numbered;
 #[path = "symbols.rs"]
 mod symbols;
+#[path = "thunks.rs"]
+mod thunks;
 
 use catalogue::{Encoding, Maker, Mistake};
 use std::collections::{BTreeMap, HashSet};
@@ -22,7 +25,7 @@ fn number(symbol: &[u8]) -> u8 {
     if !symbol.is_ascii() {
         return 2;
     }
-    numbered::answer(std::str::from_utf8(symbol).unwrap()).err().unwrap_or(0)
+    thunks::answer(std::str::from_utf8(symbol).unwrap(), numbered::reading).err().unwrap_or(0)
 }
 
 fn bytes(texts: Vec<String>) -> Vec<Vec<u8>> {
@@ -90,6 +93,27 @@ fn lengths(seed: u64, trees: usize) -> Vec<Vec<u8>> {
     bytes(out)
 }
 
+/// Thunks of the papers, each as a name is given its number, both sides of the limits, and generated ones.
+fn thunks_by_hand(seed: u64) -> Vec<Vec<u8>> {
+    let mut out: Vec<Vec<u8>> = vec![];
+    for (symbol, code, _) in thunks::PAPER {
+        let must = if *code == 0 { catalogue::NOT_CATALOGUE } else { *code };
+        assert_eq!(catalogue::answer(symbol.as_bytes(), number(symbol.as_bytes())), (must, String::new()), "{symbol}");
+        out.push(symbol.as_bytes().to_vec());
+    }
+    out.extend(bytes(symbols::thunk_lengths(&[4096, 4097])));
+    out.extend(spread(&bytes(symbols::thunk_texts(16384..=16385, &[0, 1, 742])), 12));
+    let mut made = symbols::Thunks::new(seed);
+    out.extend(std::iter::repeat_with(|| made.any()).filter(|s| s.len() <= 400).take(200));
+    // catalogue symbols behind the offsets
+    let (mut maker, mut rng) = (Maker::new(seed ^ 0x74), Rng::new(seed ^ 0x68));
+    for offsets in ["Th8_", "Tv0_n24_"] {
+        let spelled = (0..30).map(|_| catalogue::spelled(&maker.encoding(), &mut rng, 600).0);
+        out.extend(spelled.map(|s| s.replacen("_Z", &format!("_Z{offsets}"), 1).into_bytes()));
+    }
+    out
+}
+
 fn damaged(seed: u64, count: usize) -> Vec<Vec<u8>> {
     let (mut maker, mut rng) = (Maker::new(seed ^ 0xd), Rng::new(seed ^ 0xda));
     let made = (0..count).map(|_| {
@@ -134,6 +158,7 @@ fn groups(real: &str, seed: u64) -> Vec<(&'static str, Vec<Vec<u8>>)> {
     out.push(("any symbols", (0..200).map(|_| grammar.any()).collect()));
     out.push(("real", spread(&lines_of(real), 200)));
     out.push(("high bytes", (0..10).map(|_| symbols::high(&mut rng, &grammar.any())).collect()));
+    out.push(("thunks", thunks_by_hand(seed)));
     // a last line without line feed
     out.push(("the last", vec![b"_Z4last1a1bS0_".to_vec()]));
     out

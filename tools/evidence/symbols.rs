@@ -1208,3 +1208,173 @@ pub fn few_limits(rng: &mut Rng) -> Vec<(&'static str, Vec<String>)> {
         ("chains", chains(&[2043], &[700, 1363], &[4089])),
     ]
 }
+
+// ---------------------------------------------------------------- thunks
+
+/// Short thunks, and what is nearly one.
+pub const SHORT_THUNKS: &[Short] = &[
+    Short { front: "_ZT", alphabet: "hv0n_1f", end: "", most: 6 },
+    Short { front: "_ZTh", alphabet: "08n_-1fa.", end: "", most: 5 },
+    Short { front: "_ZTv0_", alphabet: "8n_1fv.!", end: "", most: 5 },
+    Short { front: "_ZGTtTv", alphabet: "0n_1fvG", end: "1f", most: 5 },
+    Short { front: "_Z", alphabet: "Th Tv 0_ n8_ 0 _ 1f v GTt GV TV", end: "", most: 5 },
+    Short { front: "_ZTh8_", alphabet: "1f 1a N E I i v S_ T_ . !", end: "", most: 5 },
+    Short { front: "_ZGTt", alphabet: "Th8_ Tv0_8_ 1f N1a E C1 v . TI Z s", end: "", most: 5 },
+];
+
+const TAGS: &[(&str, usize)] = &[("Th", 1), ("Tv", 2)];
+/// Where no thunk may stand, nearly one, or no symbol at all.
+const WRONG_FRONTS: &[&str] =
+    &["_ZGV", "_ZGTtGV", "_ZZ", "_ZL", "_ZN", "_Z1fIL_", "_Z1fIL_Z", "_Z1f", "_ZTV", "_ZGT", "_ZGTtT", "_ZGTtG", "Z", "_", "_Z_", ""];
+const WRONG_TAGS: &[(&str, usize)] =
+    &[("Th", 0), ("Th", 2), ("Th", 3), ("Tv", 0), ("Tv", 1), ("Tv", 3), ("Tc", 2), ("Tch", 2), ("T", 1), ("TH", 1), ("t", 1), ("TV", 2)];
+const BEHIND: &[&str] = &["TV", "TT", "TI", "TS", "GTt", "GV", "Th8_", "Tv0_n8_", "Th", "Tv", "TC", "GR", "_Z"];
+
+/// Thunks of every kind: good and wrong ones, with the other generators' names behind the offsets.
+pub struct Thunks {
+    rng: Rng,
+    grammar: Grammar,
+    grown: Grammar,
+    /// What stands behind `_Z` in symbols near the limits.
+    near: Vec<String>,
+}
+
+impl Thunks {
+    pub fn new(seed: u64) -> Thunks {
+        let mut rng = Rng::new(seed ^ 0x7468);
+        let all = few_limits(&mut rng).into_iter().flat_map(|(_, made)| made);
+        let near = all.filter(|s| s.is_ascii()).filter_map(|s| s.strip_prefix("_Z").map(String::from)).collect();
+        Thunks { rng, grammar: Grammar::new(seed ^ 0x7476), grown: Grammar::grown(seed ^ 0x7477), near }
+    }
+
+    pub fn any(&mut self) -> Vec<u8> {
+        let (front, rest) = (self.front(), self.rest());
+        let (tag, offsets) = if self.rng.chance(920) { self.rng.pick(TAGS) } else { self.rng.pick(WRONG_TAGS) };
+        let mut out = front + tag;
+        for i in 0..offsets {
+            let most = if i == 0 { 4097 - (out.len() + rest.len() + 8).min(4096) } else { 60 };
+            out += &self.offset(most);
+        }
+        out += &rest;
+        if self.rng.chance(150) {
+            out += self.rng.pick(&[".", ".x", ".part.0", ".isra.0!", "!", "E", "Es", "vEs", "EE", "v", "_", "1", "\x01"]);
+        }
+        if self.rng.chance(120) {
+            let other = self.grammar.any();
+            return damaged(&mut self.rng, out.as_bytes(), &other);
+        }
+        if self.rng.chance(5) { high(&mut self.rng, out.as_bytes()) } else { out.into_bytes() }
+    }
+
+    fn front(&mut self) -> String {
+        let clones = [0, 1, 2, 3 + self.rng.below(40), 700 + self.rng.below(50)][self.rng.weighted(&[780, 150, 50, 15, 5])];
+        match self.rng.below(100) {
+            0..=4 => self.rng.pick(WRONG_FRONTS).into(),
+            5..=12 => format!("__Z{}", "GTt".repeat(clones)),
+            _ => format!("_Z{}", "GTt".repeat(clones)),
+        }
+    }
+
+    /// An offset and its `_`, most of them right.
+    fn offset(&mut self, most: usize) -> String {
+        let sign = ["", "n", "nn", "-", "+", "N", "_"][self.rng.weighted(&[640, 330, 10, 5, 5, 5, 5])];
+        let digits = match self.rng.weighted(&[700, 100, 100, 30, 30, 40]) {
+            0 => self.rng.pick(&["0", "8", "16", "24", "00", "007", "1", "9", "1234"]).into(),
+            1 => self.rng.pick(&["18446744073709551615", "18446744073709551616", "9223372036854775808", "4294967296", "65536"]).into(),
+            2 => self.digits(400),
+            3 => String::new(),
+            4 => self.rng.pick(&["8a", "a8", "8n8", "0x1", "8-", "1.5", "8 ", "S_"]).into(),
+            _ => "7".repeat(most),
+        };
+        let end = ["_", "", "__", "E", "."][self.rng.weighted(&[965, 15, 10, 5, 5])];
+        format!("{sign}{digits}{end}")
+    }
+
+    fn digits(&mut self, most: usize) -> String {
+        (0..1 + self.rng.below(most)).map(|_| self.rng.pick(b"0123456789") as char).collect()
+    }
+
+    /// A name with its parameters, or what may not stand there.
+    fn rest(&mut self) -> String {
+        let made = match self.rng.weighted(&[800, 60, 60, 80]) {
+            0 => self.grammar.any(),
+            1 => self.grown.any(),
+            2 => return self.near[self.rng.below(self.near.len())].clone(),
+            _ => {
+                let label = self.rng.pick(BEHIND);
+                let encoding = self.grammar.any();
+                return label.to_string() + behind_front(&encoding);
+            }
+        };
+        behind_front(&made).into()
+    }
+}
+
+fn behind_front(symbol: &[u8]) -> &str {
+    let text = std::str::from_utf8(symbol).unwrap();
+    text.strip_prefix("_Z").or_else(|| text.strip_prefix("__Z")).unwrap_or(text)
+}
+
+/// What stands behind `_Z` in symbols whose name has so many bytes, bytes 1 counted.
+fn names_of_length(bytes: usize) -> Vec<String> {
+    if bytes < 1500 {
+        return vec![class(bytes), format!("N1a{}E", class(bytes - 3)), source(&"\x01".repeat(bytes))];
+    }
+    // A, A, A, A, A, B and abbreviations of 70 bytes
+    let a = (bytes - 120) / 5 - 2;
+    let b = |fixed: usize| class(bytes - fixed - 5 * (a + 2));
+    let s = (bytes - 120) / 72;
+    vec![
+        format!("1f{}{}{}", class(a), "S_".repeat(4), b(3)),
+        format!("1f{}{}{}.x", class(a), "S_".repeat(4), b(3)),
+        format!("N{}{}{}E", class(a), "S_".repeat(4), b(0)),
+        format!("NK{}{}{}Ev", class(a), "S_".repeat(4), b(8)),
+        format!("1fIiEv{}{}{}", class(a), "S1_".repeat(4), b(13)),
+        format!("1fI{}{}{}E", class(a), "S0_".repeat(4), b(3)),
+        format!("1f{}{}{}", source(&"\x01".repeat(a)), "S_".repeat(4), b(3)),
+        format!("1f{}{}", "Ss".repeat(s), class(bytes - 3 - 72 * s)),
+        format!("N{}{}Ev", "Ss".repeat(s), class(bytes - 2 - 72 * s)),
+    ]
+}
+
+/// Thunks whose texts have so many bytes: behind no GTt and as many as a symbol allows, only the labels decide 11.
+pub fn thunk_texts(totals: std::ops::RangeInclusive<usize>, clones: &[usize]) -> Vec<String> {
+    let mut out = vec![];
+    for total in totals {
+        for (offsets, label) in [("Th8_", "non-virtual thunk to "), ("Tv0_n24_", "virtual thunk to ")] {
+            for &clones in clones {
+                let name = total - label.len() - "transaction clone for ".len() * clones;
+                let made = names_of_length(name).into_iter();
+                out.extend(made.map(|rest| format!("_Z{}{offsets}{rest}", "GTt".repeat(clones))));
+            }
+        }
+    }
+    out
+}
+
+/// Thunks of so many bytes, by their offsets and by what stands behind a dot.
+pub fn thunk_lengths(totals: &[usize]) -> Vec<String> {
+    let mut out = vec![];
+    for &total in totals {
+        for (before, unit, after) in [
+            ("_ZTh", "0", "_1fv"), ("__ZThn", "9", "_1f"), ("_ZTv", "7", "_0_N1a1bEi"), ("_ZTv0_n", "1", "_1f"), ("_ZGTtTh", "8", "_1fv.x"),
+            ("_ZTh8_1fv.", "x", ""), ("_ZTh", "1", ""), ("_ZThn", "0", "_"), ("_ZTh", "n", "8_1f"), ("_ZTh", "8_", "1f"),
+        ] {
+            let room = total - before.len() - after.len();
+            out.push(format!("{before}{}{}{after}", "1".repeat(room % unit.len()), unit.repeat(room / unit.len())));
+        }
+    }
+    out
+}
+
+/// Thunks near every limit.
+pub fn thunk_limits(rng: &mut Rng) -> Vec<String> {
+    let mut out = thunk_texts(16380..=16388, &[0, 1, 2, 10, 500, 700, 742]);
+    out.extend(thunk_lengths(&[4094, 4095, 4096, 4097, 4098, 5000]));
+    for made in limits(rng).into_iter().flat_map(|(_, made)| made) {
+        if let Some(rest) = made.strip_prefix("_Z") {
+            out.extend([format!("_ZTh8_{rest}"), format!("_ZGTtTv0_n8_{rest}")]);
+        }
+    }
+    out
+}
