@@ -11,6 +11,8 @@ use std::io::Write;
 mod itanium;
 /// The functions of the library.
 mod library;
+/// What the papers say of thunks, which the Rust refuses.
+mod thunks;
 
 use library::{entry, Entry};
 
@@ -239,7 +241,7 @@ fn list(file: &str) {
     for symbol in symbols_of(file) {
         bench.lines.add(&symbol);
         let name = bench.names.name(symbol.bytes());
-        if !agrees(&name, &itanium::demangle(&symbol.text)) {
+        if !agrees(&name, &thunks::named(&symbol.text, itanium::demangle)) {
             different(&symbol);
         }
         check_normal_symbol(&mut bench, &symbol);
