@@ -790,7 +790,8 @@ fn main() -> ExitCode {
             }
             "chains-small-stack" => {
                 comparison.listing.stack = Some(o.small_stack);
-                let made = symbols::long_chains().into_iter().chain(symbols::opened(&mut Rng::new(o.seed), 40));
+                let plain: Vec<String> = symbols::long_chains().into_iter().chain(symbols::opened(&mut Rng::new(o.seed), 40)).collect();
+                let made = plain.clone().into_iter().chain(symbols::thunked(plain.into_iter()));
                 let kind = format!("chains and open readings, machine stack of {} KiB", o.small_stack);
                 comparison.kind(&kind, distinct(made.map(String::into_bytes)));
                 comparison.listing.stack = o.stack;

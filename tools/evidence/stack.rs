@@ -40,6 +40,8 @@ fn read() -> Vec<(&'static str, String)> {
         ("47 templates of std, with packs", open(47, "St1aIJ", "EE")),
         ("95 conversions in nested names", open(95, "Ncv", "E")),
         ("94 conversions in nested names, then 3,805 J", format!("_Z1f{}St1aI{}", times("Ncv", 94), times("J", 3805))),
+        ("a thunk, 94 conversions in nested names, then 3,801 J", format!("_ZTh8_1f{}St1aI{}", times("Ncv", 94), times("J", 3801))),
+        ("1,362 GTt and a thunk", format!("_Z{}Th8_1f", times("GTt", 1362))),
     ]
 }
 

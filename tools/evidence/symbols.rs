@@ -1371,10 +1371,12 @@ pub fn thunk_lengths(totals: &[usize]) -> Vec<String> {
 pub fn thunk_limits(rng: &mut Rng) -> Vec<String> {
     let mut out = thunk_texts(16380..=16388, &[0, 1, 2, 10, 500, 700, 742]);
     out.extend(thunk_lengths(&[4094, 4095, 4096, 4097, 4098, 5000]));
-    for made in limits(rng).into_iter().flat_map(|(_, made)| made) {
-        if let Some(rest) = made.strip_prefix("_Z") {
-            out.extend([format!("_ZTh8_{rest}"), format!("_ZGTtTv0_n8_{rest}")]);
-        }
-    }
+    out.extend(thunked(limits(rng).into_iter().flat_map(|(_, made)| made)));
     out
+}
+
+/// Symbols with offsets in front of what stands behind `_Z`.
+pub fn thunked(symbols: impl Iterator<Item = String>) -> impl Iterator<Item = String> {
+    let rests = symbols.filter_map(|s| s.strip_prefix("_Z").map(String::from));
+    rests.flat_map(|rest| [format!("_ZTh8_{rest}"), format!("_ZGTtTv0_n8_{rest}")])
 }
