@@ -12,7 +12,7 @@ use Rattle.grammar.specs.Reader.{State, Result, ok, refused, Reader, onto, unfi
 use Rattle.grammar.specs.Words.{longest-word, bytes-told}
 use Rattle.grammar.specs.declared.codes.Word.{Word}
 use Rattle.grammar.specs.declared.codes.Word.the-variants.{Bytes, Nothing}
-use Rattle.grammar.specs.Grammar.{reading, ⟨type⟩, qualifier, only-void, bare-function-type}
+use Rattle.grammar.specs.Grammar.{reading, ⟨type⟩, offset, qualifier, only-void, bare-function-type}
 use Rattle.store.specs.Stack.{Stack, Tail}
 use Rattle.store.specs.Table.{Entries}
 use Rattle.grammar.specs.declared.state.Parser.{Parser}
@@ -104,6 +104,9 @@ behind w m σ = onto (λ t. give (w ++ t)) (m σ)
 -- an offset without its sign
 abbrev pub unsigned : Reader (Unit {0})
 unsigned σ = onto (λ d. if same d [] then unfit else need "_") (every (digit 10) σ)
+
+abbrev pub two-offsets : Reader (Unit {0})
+two-offsets σ = onto (λ _. offset) (offset σ)
 
 -- the code hands back the state behind what the grammar reads past, or nothing of the kind stands there
 pub data Passed (s : Text) (p : Parser) (σ : State) (r : Eaten) (x : Result (Unit {0})) : Type 0 where

@@ -13,7 +13,7 @@ ghost use Rattle.grammar.specs.Words.{longest-word};
 ghost use Rattle.grammar.specs.Reader.{State, start, cases};
 ghost use Rattle.grammar.specs.Grammar.{reading, offset, thunks, function-or-data};
 ghost use Rattle.parser.specs.Holds.{mem, window, Holds, Ready, keep};
-ghost use Rattle.encoding.specs.Encodings.{Fresh, Encodes, Passes, unsigned, behind};
+ghost use Rattle.encoding.specs.Encodings.{Fresh, Encodes, Passes, two-offsets, unsigned, behind};
 
 // a thunk, or a function or data
 pub fn thunk_or_function(
@@ -34,15 +34,22 @@ pub fn thunk_or_function(
         return thunk(s, text, store, ends, next, b"non-virtual thunk to ");
     }
     if bytes::starts_with(s, 0, b"Tv") {
-        let Eaten::Next(second) = offset(s, p.moved(2)) else {
-            return Read::Refused(4);
-        };
-        let Eaten::Next(next) = offset(s, second) else {
+        let Eaten::Next(next) = two_offsets(s, p.moved(2)) else {
             return Read::Refused(4);
         };
         return thunk(s, text, store, ends, next, b"virtual thunk to ");
     }
     functions::function_or_data(s, text, store, ends, p)
+}
+
+fn two_offsets(s: &[u8], p: Parser) -> Eaten
+    ensures { λ r. ⌜ Passes two-offsets (now (s .entry)) p r ⌝ }
+{
+    let first = offset(s, p);
+    let Eaten::Next(second) = first else {
+        return first;
+    };
+    offset(s, second)
 }
 
 // an offset, with n in front for minus, and its _

@@ -5,7 +5,8 @@ use lib.ListN.{length}
 use Rattle.grammar.specs.Text.{Text, b, if_then_else_, choose, digit, digit-value}
 use Rattle.grammar.specs.Limits.{most-symbol-bytes}
 use Rattle.grammar.specs.Names.{Answer, named, refusal, Lent, front, demangle, within}
-use Rattle.grammar.specs.laws.Thunks.{Thunk, non-virtual, virtual, clone, ThunkSymbol, behind-Z, behind-_Z, Kept, kept-by, if-kept, mangled-without, demangle-without, mangled-kept, front-kept, demangle-kept}
+use Rattle.grammar.specs.laws.Thunks.{Thunk, non-virtual, virtual, clone, ThunkSymbol, behind-Z, behind-_Z, Kept, kept-by, if-kept}
+use Rattle.grammar.specs.laws.Thunks.{mangled-without, demangle-without, mangled-kept, front-kept, demangle-kept}
 use Rattle.catalogue.specs.Class.{wrong}
 use Rattle.catalogue.specs.Recogniser.{with-code, lead, parse, parse-sym, classify}
 use Rattle.catalogue.specs.Answer.{normal-told, normal-after, normal-symbol, normal-work-fits, normal-answer}

@@ -21,7 +21,7 @@ use Rattle.grammar.specs.declared.state.Read.{Read}
 use Rattle.grammar.specs.declared.state.Read.the-variants.{Refused}
 use Rattle.parser.specs.Holds.{Memory, Holds}
 use Rattle.parser.specs.laws.Holds.{by-state, holds-moved}
-use Rattle.encoding.specs.Encodings.{Encodes, refuses, Passed, past, stopped, Passes, unsigned, behind}
+use Rattle.encoding.specs.Encodings.{Encodes, refuses, Passed, past, stopped, Passes, unsigned, two-offsets, behind}
 use Rattle.encoding.specs.laws.Answers.{encodes-by}
 
 -- ---------------------------------------------------------------- offsets
@@ -85,115 +85,102 @@ module _ {s : Text} {p : Parser} {r : Eaten} where
       from (past l a c) = past l a c
       from (stopped a c) = stopped a c
 
--- ---------------------------------------------------------------- places behind offsets
+-- two offsets, one after the other
+module _ {s : Text} {p : Parser} {r : Eaten} (g : Passes offset s p r) where
+  pub no-offset : r ≡ Nothing → Passes two-offsets s p r
+  unfolding onto
+  no-offset e σ h = go (g σ h)
+    where
+      go : Passed s p σ r (offset σ) → Passed s p σ r (two-offsets σ)
+      go (past {at} l a c) = let f : Nothing ≡ Next (moved-to p at) = sym e ∙ a in let y : _≡_ {A = ℕ} 0 1 = cc in absurd (omega arith)
+      go (stopped a c) = stopped a (ap (onto (λ _. offset)) c)
 
--- the state q is p before another place, and the grammar's reading is there
-pub record Behind (s : Text) (p : Parser) (σ : State) (q : Parser) (x : Result (Unit {0})) : Type 0 where
-  pub at : ℕ
-  pub within : at ≤ length s
-  pub next : q ≡ moved-to p at
-  pub is : x ≡ ok tt (moved (drop at s) σ)
+  pub next-offset : {q : Parser} {r' : Eaten} → r ≡ Next q → Passes offset s q r' → Passes two-offsets s p r'
+  unfolding onto go-to
+  next-offset {q} {r'} e f σ h = go (g σ h)
+    where
+      from : {at : ℕ} {x : Result (Unit {0})} → Passed s (moved-to p at) (moved (drop at s) σ) r' x → Passed s p σ r' x
+      from (past l a c) = past l a c
+      from (stopped a c) = stopped a c
 
-module _ {s : Text} {p q : Parser} {σ : State} {x : Result (Unit {0})} (z : Behind s p σ q x) where
-  abbrev there : State
-  there = moved (drop (z .at) s) σ
-
-  module _ {f : Reader (Unit {0})} {r : Eaten} (g : Passes f s q r) where
-    passed : Passed s (moved-to p (z .at)) there r (f there)
-    passed = subst (λ (y : Parser). Passes f s y r) (z .next) g there refl
-
-    pub behind-next : {q' : Parser} → r ≡ Next q' → Behind s p σ q' (f there)
-    unfolding go-to
-    behind-next {q'} e = go passed
-      where
-        go : Passed s (moved-to p (z .at)) there r (f there) → Behind s p σ q' (f there)
-        go (past {at} l a c) = record { at = at; within = l; next = let h : Next q' ≡ Next (moved-to p at) = sym e ∙ a in cc; is = c }
-        go (stopped a c) = let h : Next q' ≡ Nothing = sym e ∙ a in let y : _≡_ {A = ℕ} 0 1 = cc in absurd (omega arith)
-
-    pub behind-none : r ≡ Nothing → f there ≡ refused 4
-    behind-none e = go passed
-      where
-        go : Passed s (moved-to p (z .at)) there r (f there) → f there ≡ refused 4
-        go (past {at} l a c) = let h : Nothing ≡ Next (moved-to p at) = sym e ∙ a in let y : _≡_ {A = ℕ} 0 1 = cc in absurd (omega arith)
-        go (stopped a c) = c
-
-  pub behind-holds : {m : Memory} → Holds s m p σ → Holds s m q there
-  behind-holds h = by-state (z .next) (holds-moved h (z .at) (z .within))
-
-  pub behind-encodes : {k : ℕ} (text : Text) {m : Memory} {r : Read} {f : Result Text} → Encodes k s (take (q .top) text) m r f → Encodes k s (take (p .top) text) m r f
-  behind-encodes {k} text {m} {r} {f} h = subst (λ (y : Parser). Encodes k s (take (y .top) text) m r f) (z .next) h
+      go : Passed s p σ r (offset σ) → Passed s p σ r' (two-offsets σ)
+      go (past {at} l a c) =
+          let i : Next q ≡ Next (moved-to p at) = sym e ∙ a in let j : q ≡ moved-to p at = cc in
+          let k = subst (λ (x : Parser). Passes offset s x r') j f (moved (drop at s) σ) refl in
+          subst (λ (x : Result (Unit {0})). Passed s p σ r' x) (sym (ap (onto (λ _. offset)) c)) (from k)
+      go (stopped a c) = let i : Next q ≡ Nothing = sym e ∙ a in let y : _≡_ {A = ℕ} 0 1 = cc in absurd (omega arith)
 
 -- ---------------------------------------------------------------- the rows
 
-abbrev base : Reader Text
+abbrev pub base : Reader Text
 base = function-or-data reading
 
-abbrev rows : Reader Text
+abbrev pub rows : Reader Text
 rows = cases (thunks reading) base
 
--- the grammar's reading behind T and h or v
-abbrev opened : Text → State
+-- the grammar's reading behind T and a letter
+abbrev pub opened : Text → State
 opened s = moved (drop 2 s) (start s)
 
-abbrev one-offset : Text → Unit {0} → Reader Text
-one-offset w _ = behind w base
+-- the row that stands here: offsets are read past by f, and the label is w
+pub record Picks (s : Text) (f : Reader (Unit {0})) (w : Text) : Type 0 where
+  pub is : rows (start s) ≡ onto (λ _. behind w base) (f (opened s))
 
-abbrev two-offsets : Text → Unit {0} → Reader Text
-two-offsets w _ σ = onto (one-offset w) (offset σ)
-
--- the first offset
-module _ {s : Text} (p : Parser) {q : Parser} {r : Eaten} (c : ℕ) (e : starts s (84 ∷ c ∷ []) ≡ true) (z : q ≡ moved-to p 2) (g : Passes offset s q r) where
-  letters : Behind s p (start s) q (ok tt (opened s))
-  letters = record { at = 2; within = omega (arith, ap length (starts-is s (84 ∷ c ∷ []) e)); next = z; is = refl }
-
-  pub first-next : {q' : Parser} → r ≡ Next q' → Behind s p (start s) q' (offset (opened s))
-  unfolding letters
-  first-next f = behind-next letters g f
-
-  pub first-none : r ≡ Nothing → offset (opened s) ≡ refused 4
-  unfolding letters
-  first-none f = behind-none letters g f
+onto-onto : {A B C : Type 0} (f : A → Reader B) (g : B → Reader C) (x : Result A) → onto (λ y σ. onto g (f y σ)) x ≡ onto g (onto f x)
+unfolding onto
+onto-onto f g (ok y σ) = refl
+onto-onto f g (refused r) = refl
 
 module _ (s : Text) where
-  one-is : starts s (84 ∷ 104 ∷ []) ≡ true → rows (start s) ≡ onto (one-offset (b "non-virtual thunk to ")) (offset (opened s))
+  pub row-h : starts s (84 ∷ 104 ∷ []) ≡ true → Picks s offset (b "non-virtual thunk to ")
   unfolding thunks by-code find choose onto go-to starts b if_then_else_ start
-  one-is e = subst (λ (t : Text). rows (start t) ≡ onto (one-offset (b "non-virtual thunk to ")) (offset (opened t))) (sym (starts-is s (84 ∷ 104 ∷ []) e)) refl
+  row-h e = subst (λ (t : Text). Picks t offset (b "non-virtual thunk to ")) (sym (starts-is s (84 ∷ 104 ∷ []) e)) (record { is = refl })
 
-  two-is : starts s (84 ∷ 118 ∷ []) ≡ true → rows (start s) ≡ onto (two-offsets (b "virtual thunk to ")) (offset (opened s))
+  pub row-v : starts s (84 ∷ 118 ∷ []) ≡ true → Picks s two-offsets (b "virtual thunk to ")
   unfolding thunks by-code find choose onto go-to starts b if_then_else_ start
-  two-is e = subst (λ (t : Text). rows (start t) ≡ onto (two-offsets (b "virtual thunk to ")) (offset (opened t))) (sym (starts-is s (84 ∷ 118 ∷ []) e)) refl
+  row-v e =
+      subst (λ (t : Text). Picks t two-offsets (b "virtual thunk to ")) (sym (starts-is s (84 ∷ 118 ∷ []) e))
+      (record { is = onto-onto (λ _. offset) (λ _. behind (b "virtual thunk to ") base) (offset (opened s)) })
 
   pub no-thunk : starts s (84 ∷ 104 ∷ []) ≡ false → starts s (84 ∷ 118 ∷ []) ≡ false → rows (start s) ≡ base (start s)
   unfolding thunks by-code find choose onto b if_then_else_ start
   no-thunk e f = rw (e, f)
 
-module _ {s : Text} {m : Memory} where
-  -- Th: no offset, or what stands behind it
-  module _ (e : starts s (84 ∷ 104 ∷ []) ≡ true) where
-    pub one-refused : {k : ℕ} {base : Text} → offset (opened s) ≡ refused 4 → Encodes k s base m (Refused 4) (rows (start s))
-    unfolding onto
-    one-refused f = encodes-by (one-is s e ∙ ap (onto (one-offset (b "non-virtual thunk to "))) f) refuses
+-- the state q is p behind the offsets, and so is the grammar's reading
+pub record Behind (s : Text) (p q : Parser) (x : Result (Unit {0})) : Type 0 where
+  pub at : ℕ
+  pub within : at ≤ length s
+  pub next : q ≡ moved-to p at
+  pub is : x ≡ ok tt (moved (drop at s) (start s))
 
-    pub one-read :
-        {p q : Parser} {k : ℕ} {r : Read} (text : Text) (z : Behind s p (start s) q (offset (opened s))) →
-        Encodes k s (take (q .top) text) m r (behind (b "non-virtual thunk to ") base (moved (drop (z .at) s) (start s))) → Encodes k s (take (p .top) text) m r (rows (start s))
-    unfolding onto
-    one-read text z h = encodes-by (one-is s e ∙ ap (onto (one-offset (b "non-virtual thunk to "))) (z .is)) (behind-encodes z text h)
+module _ {s : Text} (p : Parser) {q : Parser} {f : Reader (Unit {0})} {w : Text} {r : Eaten} (row : Picks s f w) (z : q ≡ moved-to p 2) (g : Passes f s q r) where
+  passed : Passed s (moved-to p 2) (opened s) r (f (opened s))
+  passed = subst (λ (y : Parser). Passes f s y r) z g (opened s) refl
 
-  -- Tv: no offset, one, or what stands behind two
-  module _ (e : starts s (84 ∷ 118 ∷ []) ≡ true) where
-    pub two-refused : {k : ℕ} {base : Text} → offset (opened s) ≡ refused 4 → Encodes k s base m (Refused 4) (rows (start s))
-    unfolding onto
-    two-refused f = encodes-by (two-is s e ∙ ap (onto (two-offsets (b "virtual thunk to "))) f) refuses
+  pub row-refused : {k : ℕ} {base : Text} {m : Memory} → r ≡ Nothing → Encodes k s base m (Refused 4) (rows (start s))
+  unfolding onto
+  row-refused e = encodes-by (row .is ∙ ap (onto (λ _. behind w base)) (go passed)) refuses
+    where
+      go : Passed s (moved-to p 2) (opened s) r (f (opened s)) → f (opened s) ≡ refused 4
+      go (past {at} l a i) = let h : Nothing ≡ Next (moved-to p at) = sym e ∙ a in let y : _≡_ {A = ℕ} 0 1 = cc in absurd (omega arith)
+      go (stopped a i) = i
 
-    module _ {p second : Parser} (y : Behind s p (start s) second (offset (opened s))) where
-      pub second-refused : {k : ℕ} {base : Text} → offset (moved (drop (y .at) s) (start s)) ≡ refused 4 → Encodes k s base m (Refused 4) (rows (start s))
-      unfolding onto
-      second-refused f = encodes-by (two-is s e ∙ ap (onto (two-offsets (b "virtual thunk to "))) (y .is) ∙ ap (onto (one-offset (b "virtual thunk to "))) f) refuses
+  pub row-behind : {next : Parser} → r ≡ Next next → Behind s p next (f (opened s))
+  unfolding go-to
+  row-behind {next} e = go passed
+    where
+      go : Passed s (moved-to p 2) (opened s) r (f (opened s)) → Behind s p next (f (opened s))
+      go (past {at} l a i) = record { at = at; within = l; next = let h : Next next ≡ Next (moved-to p at) = sym e ∙ a in cc; is = i }
+      go (stopped a i) = let h : Next next ≡ Nothing = sym e ∙ a in let y : _≡_ {A = ℕ} 0 1 = cc in absurd (omega arith)
 
-      pub two-read :
-          {q : Parser} {k : ℕ} {r : Read} (text : Text) (z : Behind s p (start s) q (offset (moved (drop (y .at) s) (start s)))) →
-          Encodes k s (take (q .top) text) m r (behind (b "virtual thunk to ") base (moved (drop (z .at) s) (start s))) → Encodes k s (take (p .top) text) m r (rows (start s))
-      unfolding onto
-      two-read text z h =
-          encodes-by (two-is s e ∙ ap (onto (two-offsets (b "virtual thunk to "))) (y .is) ∙ ap (onto (one-offset (b "virtual thunk to "))) (z .is)) (behind-encodes z text h)
+module _ {s : Text} {p next : Parser} {f : Reader (Unit {0})} {w : Text} (row : Picks s f w) (z : Behind s p next (f (opened s))) where
+  abbrev there : State
+  there = moved (drop (z .at) s) (start s)
+
+  pub row-holds : {m : Memory} → Holds s m p (start s) → Holds s m next there
+  row-holds h = by-state (z .next) (holds-moved h (z .at) (z .within))
+
+  pub row-read : {k : ℕ} (text : Text) {m : Memory} {v : Read} → Encodes k s (take (next .top) text) m v (behind w base there) → Encodes k s (take (p .top) text) m v (rows (start s))
+  unfolding onto
+  row-read {k} text {m} {v} h =
+      encodes-by (row .is ∙ ap (onto (λ _. behind w base)) (z .is)) (subst (λ (y : Parser). Encodes k s (take (y .top) text) m v (behind w base there)) (z .next) h)
