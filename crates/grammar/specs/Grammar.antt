@@ -142,14 +142,14 @@ substitution = do
     l ← the λ s. s .subs
     choose (getElem? l (index 36 d)) give (refuse 7)
 
--- [n] <decimal digit>+ _: an <offset number> of a thunk, with the _ behind it
+-- <offset number> _, of a thunk: "an offset being one or more decimal digits with `n` in front for minus"
 unfoldable pub offset : Reader (Unit {0})
 offset = do
   eat "n"
   d ← every (digit 10)
   if same d [] then unfit else need "_"
 
--- what is printed before the text of another reader
+-- the text of a reader, with a label before it
 abbrev pub labelled : String → Reader Text → Reader Text
 labelled w m = do
   t ← m

@@ -1,5 +1,6 @@
 -- Laws: propositions between definitions and code, and their proofs. Nothing here has to be believed.
 pub mod Text
+pub mod Productions
 pub mod Places
 pub mod Agree
 pub mod Runs

@@ -10,6 +10,7 @@ use Rattle.grammar.specs.Tables as w
 use Rattle.grammar.specs.Reader as r
 use Rattle.grammar.specs.Grammar as g
 use Rattle.grammar.specs.Names as n
+use Rattle.grammar.specs.laws.Productions.{productions}
 use Rattle.grammar.specs.laws.Text.{both, same→eq}
 use Rattle.grammar.specs.laws.Dots.{left-in, left-of, Plain, behind-dot}
 use Rattle.grammar.specs.Text.{Text, b, same}
@@ -179,46 +180,7 @@ unfolding
     g.template-param
     g.substitution
     g.offset
-    g.bare-function-type
-    g.function-or-data
-    g.anew
-    g.thunks
-    g.encoding-with
-    g.encoding
-    g.name-args
-    g.name-instance
-    g.std-name
-    g.s-name
-    g.unscoped-name
-    g.local-encoding
-    g.local-name
-    g.name-inner
-    g.name
-    g.ctor-dtor-name
-    g.old-prefix
-    g.prefix-args
-    g.new-prefix
-    g.prefix
-    g.nested-name
-    g.unqualified-name
-    g.source-name
-    g.operator-name
-    g.wrapped
-    g.function-type
-    g.array-type
-    g.pointer-to-member-type
-    g.type-instance
-    g.nested-type
-    g.class-type
-    g.s-type
-    g.type-inner
-    g.type
-    g.template-args
-    g.expression
-    g.pack
-    g.template-arg
-    g.expr-primary
-    g.production
+    productions
     g.parse
     g.reading
     n.without-slots

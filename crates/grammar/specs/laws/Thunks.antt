@@ -18,6 +18,7 @@ use Rattle.grammar.specs.Grammar.{Production, ⟨encoding⟩, ⟨name⟩
 use Rattle.grammar.specs.Grammar.{⟨template-param⟩, ⟨template-args⟩, ⟨template-arg⟩, ⟨expr-primary⟩, ⟨substitution⟩, parse, reading}
 use Rattle.grammar.specs.Grammar as g
 use Rattle.grammar.specs.Names.{Answer, named, refusal, Lent, finished, mangled-name, high, front, demangle, answer, work-fits, within}
+use Rattle.grammar.specs.laws.Productions.{productions}
 use Rattle.grammar.specs.laws.Text.{starts-is}
 use Rattle.grammar.specs.laws.Agree.{moved}
 use Rattle.grammar.specs.laws.Steps.{at-level}
@@ -97,45 +98,7 @@ unqualified r f = cases
     (do d ← the λ s. g.digit-ahead (s .rest); f d)
 
 others : (x y : Reader Text) (read : Production → Reader Text) (k : Production) → instead y (g.production (instead x read)) k ≡ instead y (g.production read) k
-unfolding
-    instead
-    unqualified
-    g.bare-function-type
-    g.function-or-data
-    g.name-args
-    g.name-instance
-    g.std-name
-    g.s-name
-    g.unscoped-name
-    g.local-encoding
-    g.local-name
-    g.name-inner
-    g.name
-    g.ctor-dtor-name
-    g.old-prefix
-    g.prefix-args
-    g.new-prefix
-    g.prefix
-    g.nested-name
-    g.unqualified-name
-    g.source-name
-    g.operator-name
-    g.wrapped
-    g.function-type
-    g.array-type
-    g.pointer-to-member-type
-    g.type-instance
-    g.nested-type
-    g.class-type
-    g.s-type
-    g.type-inner
-    g.type
-    g.template-args
-    g.expression
-    g.pack
-    g.template-arg
-    g.expr-primary
-    g.production
+unfolding instead unqualified productions
 others x y read ⟨encoding⟩ = refl
 others x y read ⟨name⟩ = refl
 others x y read ⟨nested-name⟩ = refl
