@@ -21,7 +21,7 @@ use Rattle.grammar.specs.declared.state.Eaten.the-variants as eaten
 use Rattle.grammar.specs.declared.state.Read.{Read}
 use Rattle.grammar.specs.declared.state.Read.the-variants.{Text as read, Refused}
 use Rattle.grammar.specs.States.{fresh, raised-to, moved-to}
-use Rattle.parser.specs.Holds.{Memory, mem, window, part, low-bytes, high-bytes, low-ends, high-ends, Stands, Refines, keep}
+use Rattle.parser.specs.Holds.{Memory, mem, window, part, low-bytes, high-bytes, low-ends, high-ends, Holds, Stands, Refines, keep}
 
 -- ---------------------------------------------------------------- functions
 
@@ -115,3 +115,9 @@ pub data Passed (s : Text) (p : Parser) (σ : State) (r : Eaten) (x : Result (Un
 
 abbrev pub Passes : Reader (Unit {0}) → Text → Parser → Eaten → Type 0
 Passes f s p r = (σ : State) → σ .rest ≡ drop (p .at) s → Passed s p σ r (f σ)
+
+-- from a state that p and the slices hold, the grammar's x reads past what the code has passed
+pub record Starts (s : Text) (m : Memory) (p : Parser) (r : Eaten) (x : Result (Unit {0})) : Type 0 where
+  pub from : State
+  pub holds : Holds s m p from
+  pub passed : Passed s p from r x

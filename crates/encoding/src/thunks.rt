@@ -10,10 +10,10 @@ ghost use Prim.Native.Nat.{_≤_};
 ghost use lib.ListN.{length};
 ghost use Rattle.grammar.specs.Limits.{most-text-bytes};
 ghost use Rattle.grammar.specs.Words.{longest-word};
-ghost use Rattle.grammar.specs.Reader.{State, start, cases};
+ghost use Rattle.grammar.specs.Reader.{Result, onto, start, cases};
 ghost use Rattle.grammar.specs.Grammar.{reading, offset, thunks, function-or-data};
-ghost use Rattle.parser.specs.Holds.{mem, window, Holds, Ready, keep};
-ghost use Rattle.encoding.specs.Encodings.{Fresh, Encodes, Passes, two-offsets, unsigned, behind};
+ghost use Rattle.parser.specs.Holds.{mem, window, keep};
+ghost use Rattle.encoding.specs.Encodings.{Fresh, Encodes, Passes, Starts, two-offsets, unsigned, behind};
 
 // a thunk, or a function or data
 pub fn thunk_or_function(
@@ -28,16 +28,12 @@ pub fn thunk_or_function(
         (mem (now (text .exit)) (now (store .exit)) (now (ends .exit))) r (cases (thunks reading) (function-or-data reading) (start (now (s .entry)))) ⌝ }
 {
     if bytes::starts_with(s, 0, b"Th") {
-        let Eaten::Next(next) = offset(s, p.moved(2)) else {
-            return Read::Refused(4);
-        };
-        return thunk(s, text, store, ends, next, b"non-virtual thunk to ");
+        let passed = offset(s, p.moved(2));
+        return thunk(s, text, store, ends, passed, b"non-virtual thunk to ");
     }
     if bytes::starts_with(s, 0, b"Tv") {
-        let Eaten::Next(next) = two_offsets(s, p.moved(2)) else {
-            return Read::Refused(4);
-        };
-        return thunk(s, text, store, ends, next, b"virtual thunk to ");
+        let passed = two_offsets(s, p.moved(2));
+        return thunk(s, text, store, ends, passed, b"virtual thunk to ");
     }
     functions::function_or_data(s, text, store, ends, p)
 }
@@ -74,20 +70,23 @@ fn unsigned(s: &[u8], p: Parser) -> Eaten
     p.moved(end).eat(s, b'_')
 }
 
-// A function or data behind a label.
+// A function or data behind offsets that were passed, with a label before it.
 fn thunk(
     s: &[u8],
     text: &mut [u8],
     store: &mut [u8],
     ends: &mut [u16],
-    p: Parser,
+    passed: Eaten,
     label: &[u8],
 ) -> Read
-    requires { ⌜ Ready (now s) (mem (now text) (now store) (now ends)) p × (length (now label) ≤ longest-word) ⌝ }
-    ensures { λ r. ⌜ ((σ : State) → Holds (now (s .entry)) (mem (now (text .entry)) (now (store .entry)) (now (ends .entry))) p σ →
+    requires { ⌜ (length (now label) ≤ longest-word) × ((p : Parser) × ((x : Result (Unit {0})) × Starts (now s) (mem (now text) (now store) (now ends)) p passed x)) ⌝ }
+    ensures { λ r. ⌜ ((p : Parser) (x : Result (Unit {0})) → Starts (now (s .entry)) (mem (now (text .entry)) (now (store .entry)) (now (ends .entry))) p passed x →
         Encodes (keep 0) (now (s .entry)) (window (mem (now (text .entry)) (now (store .entry)) (now (ends .entry))) p)
-        (mem (now (text .exit)) (now (store .exit)) (now (ends .exit))) r (behind (now (label .entry)) (function-or-data reading) σ)) ⌝ }
+        (mem (now (text .exit)) (now (store .exit)) (now (ends .exit))) r (onto (λ _. behind (now (label .entry)) (function-or-data reading)) x)) ⌝ }
 {
+    let Eaten::Next(p) = passed else {
+        return Read::Refused(4);
+    };
     let labelled = memory::put(text, p, label);
     let got = functions::function_or_data(s, text, store, ends, labelled);
     let Read::Text(next, n) = got else {

@@ -6,6 +6,7 @@ use Prim.Native.Nat.{ℕ, _+_, _≤_}
 use native.Mathlib.Omega.{arith}
 use lib.ListN.{length, take, drop}
 use Rattle.grammar.specs.Text.{Text, b, if_then_else_, choose, same, starts, run, digit}
+use Rattle.grammar.specs.Limits.{most-text-bytes}
 use Rattle.grammar.specs.Reader.{State, Result, ok, refused, Reader, onto, go-to, start, find, by-code, cases, eat, need, every}
 use Rattle.grammar.specs.Grammar.{reading, offset, thunks, function-or-data}
 use Rattle.grammar.specs.laws.Text.{same-not, starts-is}
@@ -21,8 +22,9 @@ use Rattle.grammar.specs.declared.state.Read.{Read}
 use Rattle.grammar.specs.declared.state.Read.the-variants.{Refused}
 use Rattle.parser.specs.Holds.{Memory, Holds}
 use Rattle.parser.specs.laws.Holds.{by-state, holds-moved}
-use Rattle.encoding.specs.Encodings.{Encodes, refuses, Passed, past, stopped, Passes, unsigned, two-offsets, behind}
+use Rattle.encoding.specs.Encodings.{Fresh, Encodes, refuses, Passed, past, stopped, Passes, Starts, unsigned, two-offsets, behind}
 use Rattle.encoding.specs.laws.Answers.{encodes-by}
+use Rattle.encoding.specs.laws.Specials.{fresh-holds}
 
 -- ---------------------------------------------------------------- offsets
 
@@ -112,19 +114,15 @@ module _ {s : Text} {p : Parser} {r : Eaten} (g : Passes offset s p r) where
 
 -- ---------------------------------------------------------------- the rows
 
-abbrev pub base : Reader Text
+abbrev base : Reader Text
 base = function-or-data reading
 
-abbrev pub rows : Reader Text
+abbrev rows : Reader Text
 rows = cases (thunks reading) base
 
 -- the grammar's reading behind T and a letter
-abbrev pub opened : Text → State
+abbrev opened : Text → State
 opened s = moved (drop 2 s) (start s)
-
--- the row that stands here: offsets are read past by f, and the label is w
-pub record Picks (s : Text) (f : Reader (Unit {0})) (w : Text) : Type 0 where
-  pub is : rows (start s) ≡ onto (λ _. behind w base) (f (opened s))
 
 onto-onto : {A B C : Type 0} (f : A → Reader B) (g : B → Reader C) (x : Result A) → onto (λ y σ. onto g (f y σ)) x ≡ onto g (onto f x)
 unfolding onto
@@ -132,55 +130,63 @@ onto-onto f g (ok y σ) = refl
 onto-onto f g (refused r) = refl
 
 module _ (s : Text) where
-  pub row-h : starts s (84 ∷ 104 ∷ []) ≡ true → Picks s offset (b "non-virtual thunk to ")
+  pub row-h : starts s (84 ∷ 104 ∷ []) ≡ true → rows (start s) ≡ onto (λ _. behind (b "non-virtual thunk to ") base) (offset (opened s))
   unfolding thunks by-code find choose onto go-to starts b if_then_else_ start
-  row-h e = subst (λ (t : Text). Picks t offset (b "non-virtual thunk to ")) (sym (starts-is s (84 ∷ 104 ∷ []) e)) (record { is = refl })
+  row-h e = subst (λ (t : Text). rows (start t) ≡ onto (λ _. behind (b "non-virtual thunk to ") base) (offset (opened t))) (sym (starts-is s (84 ∷ 104 ∷ []) e)) refl
 
-  pub row-v : starts s (84 ∷ 118 ∷ []) ≡ true → Picks s two-offsets (b "virtual thunk to ")
+  pub row-v : starts s (84 ∷ 118 ∷ []) ≡ true → rows (start s) ≡ onto (λ _. behind (b "virtual thunk to ") base) (two-offsets (opened s))
   unfolding thunks by-code find choose onto go-to starts b if_then_else_ start
   row-v e =
-      subst (λ (t : Text). Picks t two-offsets (b "virtual thunk to ")) (sym (starts-is s (84 ∷ 118 ∷ []) e))
-      (record { is = onto-onto (λ _. offset) (λ _. behind (b "virtual thunk to ") base) (offset (opened s)) })
+      subst (λ (t : Text). rows (start t) ≡ onto (λ _. behind (b "virtual thunk to ") base) (two-offsets (opened t))) (sym (starts-is s (84 ∷ 118 ∷ []) e))
+      (onto-onto (λ _. offset) (λ _. behind (b "virtual thunk to ") base) (offset (opened s)))
 
   pub no-thunk : starts s (84 ∷ 104 ∷ []) ≡ false → starts s (84 ∷ 118 ∷ []) ≡ false → rows (start s) ≡ base (start s)
   unfolding thunks by-code find choose onto b if_then_else_ start
   no-thunk e f = rw (e, f)
 
--- the state q is p behind the offsets, and so is the grammar's reading
-pub record Behind (s : Text) (p q : Parser) (x : Result (Unit {0})) : Type 0 where
-  pub at : ℕ
-  pub within : at ≤ length s
-  pub next : q ≡ moved-to p at
-  pub is : x ≡ ok tt (moved (drop at s) (start s))
+-- what is passed behind T and a letter
+pub row-starts :
+    {s : Text} {m : Memory} (p : Parser) {q : Parser} (c : ℕ) {f : Reader (Unit {0})} {r : Eaten} → length s ≤ most-text-bytes → Fresh m p → starts s (84 ∷ c ∷ []) ≡ true →
+    q ≡ moved-to p 2 → Passes f s q r → Starts s m (moved-to p 2) r (f (opened s))
+row-starts {s} p c {f} {r} l h e z g = record {
+  from = opened s;
+  holds = holds-moved (fresh-holds l h) 2 (omega (arith, ap length (starts-is s (84 ∷ c ∷ []) e)));
+  passed = subst (λ (y : Parser). Passes f s y r) z g (opened s) refl;
+}
 
-module _ {s : Text} (p : Parser) {q : Parser} {f : Reader (Unit {0})} {w : Text} {r : Eaten} (row : Picks s f w) (z : q ≡ moved-to p 2) (g : Passes f s q r) where
-  passed : Passed s (moved-to p 2) (opened s) r (f (opened s))
-  passed = subst (λ (y : Parser). Passes f s y r) z g (opened s) refl
+-- ---------------------------------------------------------------- a function or data behind offsets
 
-  pub row-refused : {k : ℕ} {base : Text} {m : Memory} → r ≡ Nothing → Encodes k s base m (Refused 4) (rows (start s))
+module _ {s : Text} {m : Memory} {p : Parser} {r : Eaten} {x : Result (Unit {0})} (h : Starts s m p r x) where
+  pub stopped-refused : {k : ℕ} {above : Text} (w : Text) {m' : Memory} → r ≡ Nothing → Encodes k s above m' (Refused 4) (onto (λ _. behind w base) x)
   unfolding onto
-  row-refused e = encodes-by (row .is ∙ ap (onto (λ _. behind w base)) (go passed)) refuses
+  stopped-refused w e = encodes-by (ap (onto (λ _. behind w base)) (go (h .passed))) refuses
     where
-      go : Passed s (moved-to p 2) (opened s) r (f (opened s)) → f (opened s) ≡ refused 4
-      go (past {at} l a i) = let h : Nothing ≡ Next (moved-to p at) = sym e ∙ a in let y : _≡_ {A = ℕ} 0 1 = cc in absurd (omega arith)
+      go : Passed s p (h .from) r x → x ≡ refused 4
+      go (past {at} l a i) = let f : Nothing ≡ Next (moved-to p at) = sym e ∙ a in let y : _≡_ {A = ℕ} 0 1 = cc in absurd (omega arith)
       go (stopped a i) = i
 
-  pub row-behind : {next : Parser} → r ≡ Next next → Behind s p next (f (opened s))
+  -- the state q is p behind the offsets, and so is the grammar's
+  pub record Behind (q : Parser) : Type 0 where
+    pub at : ℕ
+    pub next : q ≡ moved-to p at
+    pub holds : Holds s m q (moved (drop at s) (h .from))
+    pub is : x ≡ ok tt (moved (drop at s) (h .from))
+
+  pub behind-offsets : {q : Parser} → r ≡ Next q → Behind q
   unfolding go-to
-  row-behind {next} e = go passed
+  behind-offsets {q} e = go (h .passed)
     where
-      go : Passed s (moved-to p 2) (opened s) r (f (opened s)) → Behind s p next (f (opened s))
-      go (past {at} l a i) = record { at = at; within = l; next = let h : Next next ≡ Next (moved-to p at) = sym e ∙ a in cc; is = i }
-      go (stopped a i) = let h : Next next ≡ Nothing = sym e ∙ a in let y : _≡_ {A = ℕ} 0 1 = cc in absurd (omega arith)
+      go : Passed s p (h .from) r x → Behind q
+      go (past {at} l a i) =
+          let f : Next q ≡ Next (moved-to p at) = sym e ∙ a in
+          let n : q ≡ moved-to p at = cc in
+          record { at = at; next = n; holds = by-state n (holds-moved (h .holds) at l); is = i }
+      go (stopped a i) = let f : Next q ≡ Nothing = sym e ∙ a in let y : _≡_ {A = ℕ} 0 1 = cc in absurd (omega arith)
 
-module _ {s : Text} {p next : Parser} {f : Reader (Unit {0})} {w : Text} (row : Picks s f w) (z : Behind s p next (f (opened s))) where
-  abbrev there : State
-  there = moved (drop (z .at) s) (start s)
-
-  pub row-holds : {m : Memory} → Holds s m p (start s) → Holds s m next there
-  row-holds h = by-state (z .next) (holds-moved h (z .at) (z .within))
-
-  pub row-read : {k : ℕ} (text : Text) {m : Memory} {v : Read} → Encodes k s (take (next .top) text) m v (behind w base there) → Encodes k s (take (p .top) text) m v (rows (start s))
+  pub offsets-read : {q : Parser} (z : Behind q) {k : ℕ} (w text : Text) {m' : Memory} {v : Read} →
+      Encodes k s (take (q .top) text) m' v (behind w base (moved (drop (z .at) s) (h .from))) →
+      Encodes k s (take (p .top) text) m' v (onto (λ _. behind w base) x)
   unfolding onto
-  row-read {k} text {m} {v} h =
-      encodes-by (row .is ∙ ap (onto (λ _. behind w base)) (z .is)) (subst (λ (y : Parser). Encodes k s (take (y .top) text) m v (behind w base there)) (z .next) h)
+  offsets-read {q} z {k} w text {m'} {v} g =
+      encodes-by (ap (onto (λ _. behind w base)) (z .is))
+      (subst (λ (y : Parser). Encodes k s (take (y .top) text) m' v (behind w base (moved (drop (z .at) s) (h .from)))) (z .next) g)
