@@ -26,6 +26,31 @@ use Rattle.encoding.specs.Encodings.{Fresh, Encodes, refuses, Passed, pa
 use Rattle.encoding.specs.laws.Answers.{encodes-by}
 use Rattle.encoding.specs.laws.Specials.{fresh-holds}
 
+-- ---------------------------------------------------------------- what is passed, taken apart
+
+-- the state q is p at another place, and there the grammar's x goes on
+pub record Place (s : Text) (p : Parser) (σ : State) (q : Parser) (x : Result (Unit {0})) : Type 0 where
+  pub at : ℕ
+  pub within : at ≤ length s
+  pub next : q ≡ moved-to p at
+  pub is : x ≡ ok tt (moved (drop at s) σ)
+
+module _ {s : Text} {p : Parser} {σ : State} {r : Eaten} {x : Result (Unit {0})} where
+  passed-none : Passed s p σ r x → r ≡ Nothing → x ≡ refused 4
+  passed-none (past {at} l a c) e = let h : Nothing ≡ Next (moved-to p at) = sym e ∙ a in let z : _≡_ {A = ℕ} 0 1 = cc in absurd (omega arith)
+  passed-none (stopped a c) e = c
+
+  passed-next : {q : Parser} → Passed s p σ r x → r ≡ Next q → Place s p σ q x
+  unfolding go-to
+  passed-next {q} (past {at} l a c) e = record { at = at; within = l; next = let h : Next q ≡ Next (moved-to p at) = sym e ∙ a in cc; is = c }
+  passed-next {q} (stopped a c) e = let h : Next q ≡ Nothing = sym e ∙ a in let z : _≡_ {A = ℕ} 0 1 = cc in absurd (omega arith)
+
+  -- from another place
+  passed-from : {at : ℕ} → Passed s (moved-to p at) (moved (drop at s) σ) r x → Passed s p σ r x
+  unfolding go-to
+  passed-from (past l a c) = past l a c
+  passed-from (stopped a c) = stopped a c
+
 -- ---------------------------------------------------------------- offsets
 
 module _ (s : Text) (at : ℕ) (σ : State) (e : σ .rest ≡ drop at s) {end : ℕ} (n : end ≡ at + length (run (digit 10) (drop at s))) where
@@ -78,39 +103,23 @@ module _ {s : Text} {p : Parser} {r : Eaten} where
   offset-plain h f σ e = subst (λ (x : Result (Unit {0})). Passed s p σ r x) (sym (ap (onto (λ _. unsigned)) (eat-not "n" s (p .at) σ e h))) (f σ e)
 
   pub offset-minus : {q : Parser} → Past s p 110 q → Passes unsigned s q r → Passes offset s p r
-  unfolding offset onto go-to b
+  unfolding offset onto b
   offset-minus {q} h f σ e =
       let i = subst (λ (x : Parser). Passes unsigned s x r) (h .next) f (moved (drop (p .at + 1) s) σ) refl in
-      subst (λ (x : Result (Unit {0})). Passed s p σ r x) (sym (ap (onto (λ _. unsigned)) (eat-here "n" s (p .at) σ e (h .ahead)))) (from i)
-    where
-      from : {x : Result (Unit {0})} → Passed s (moved-to p (p .at + 1)) (moved (drop (p .at + 1) s) σ) r x → Passed s p σ r x
-      from (past l a c) = past l a c
-      from (stopped a c) = stopped a c
+      subst (λ (x : Result (Unit {0})). Passed s p σ r x) (sym (ap (onto (λ _. unsigned)) (eat-here "n" s (p .at) σ e (h .ahead)))) (passed-from i)
 
 -- two offsets, one after the other
 module _ {s : Text} {p : Parser} {r : Eaten} (g : Passes offset s p r) where
   pub no-offset : r ≡ Nothing → Passes two-offsets s p r
   unfolding onto
-  no-offset e σ h = go (g σ h)
-    where
-      go : Passed s p σ r (offset σ) → Passed s p σ r (two-offsets σ)
-      go (past {at} l a c) = let f : Nothing ≡ Next (moved-to p at) = sym e ∙ a in let y : _≡_ {A = ℕ} 0 1 = cc in absurd (omega arith)
-      go (stopped a c) = stopped a (ap (onto (λ _. offset)) c)
+  no-offset e σ h = stopped e (ap (onto (λ _. offset)) (passed-none (g σ h) e))
 
   pub next-offset : {q : Parser} {r' : Eaten} → r ≡ Next q → Passes offset s q r' → Passes two-offsets s p r'
-  unfolding onto go-to
-  next-offset {q} {r'} e f σ h = go (g σ h)
-    where
-      from : {at : ℕ} {x : Result (Unit {0})} → Passed s (moved-to p at) (moved (drop at s) σ) r' x → Passed s p σ r' x
-      from (past l a c) = past l a c
-      from (stopped a c) = stopped a c
-
-      go : Passed s p σ r (offset σ) → Passed s p σ r' (two-offsets σ)
-      go (past {at} l a c) =
-          let i : Next q ≡ Next (moved-to p at) = sym e ∙ a in let j : q ≡ moved-to p at = cc in
-          let k = subst (λ (x : Parser). Passes offset s x r') j f (moved (drop at s) σ) refl in
-          subst (λ (x : Result (Unit {0})). Passed s p σ r' x) (sym (ap (onto (λ _. offset)) c)) (from k)
-      go (stopped a c) = let i : Next q ≡ Nothing = sym e ∙ a in let y : _≡_ {A = ℕ} 0 1 = cc in absurd (omega arith)
+  unfolding onto
+  next-offset {q} {r'} e f σ h =
+      let z = passed-next (g σ h) e in
+      let k = subst (λ (x : Parser). Passes offset s x r') (z .next) f (moved (drop (z .at) s) σ) refl in
+      subst (λ (x : Result (Unit {0})). Passed s p σ r' x) (sym (ap (onto (λ _. offset)) (z .is))) (passed-from k)
 
 -- ---------------------------------------------------------------- the rows
 
@@ -159,34 +168,20 @@ row-starts {s} p c {f} {r} l h e z g = record {
 module _ {s : Text} {m : Memory} {p : Parser} {r : Eaten} {x : Result (Unit {0})} (h : Starts s m p r x) where
   pub stopped-refused : {k : ℕ} {above : Text} (w : Text) {m' : Memory} → r ≡ Nothing → Encodes k s above m' (Refused 4) (onto (λ _. behind w base) x)
   unfolding onto
-  stopped-refused w e = encodes-by (ap (onto (λ _. behind w base)) (go (h .passed))) refuses
-    where
-      go : Passed s p (h .from) r x → x ≡ refused 4
-      go (past {at} l a i) = let f : Nothing ≡ Next (moved-to p at) = sym e ∙ a in let y : _≡_ {A = ℕ} 0 1 = cc in absurd (omega arith)
-      go (stopped a i) = i
+  stopped-refused w e = encodes-by (ap (onto (λ _. behind w base)) (passed-none (h .passed) e)) refuses
 
-  -- the state q is p behind the offsets, and so is the grammar's
-  pub record Behind (q : Parser) : Type 0 where
-    pub at : ℕ
-    pub next : q ≡ moved-to p at
-    pub holds : Holds s m q (moved (drop at s) (h .from))
-    pub is : x ≡ ok tt (moved (drop at s) (h .from))
+  module _ {q : Parser} (e : r ≡ Next q) where
+    pub behind-offsets : Place s p (h .from) q x
+    behind-offsets = passed-next (h .passed) e
 
-  pub behind-offsets : {q : Parser} → r ≡ Next q → Behind q
-  unfolding go-to
-  behind-offsets {q} e = go (h .passed)
-    where
-      go : Passed s p (h .from) r x → Behind q
-      go (past {at} l a i) =
-          let f : Next q ≡ Next (moved-to p at) = sym e ∙ a in
-          let n : q ≡ moved-to p at = cc in
-          record { at = at; next = n; holds = by-state n (holds-moved (h .holds) at l); is = i }
-      go (stopped a i) = let f : Next q ≡ Nothing = sym e ∙ a in let y : _≡_ {A = ℕ} 0 1 = cc in absurd (omega arith)
+    pub there : State
+    there = moved (drop (behind-offsets .at) s) (h .from)
 
-  pub offsets-read : {q : Parser} (z : Behind q) {k : ℕ} (w text : Text) {m' : Memory} {v : Read} →
-      Encodes k s (take (q .top) text) m' v (behind w base (moved (drop (z .at) s) (h .from))) →
-      Encodes k s (take (p .top) text) m' v (onto (λ _. behind w base) x)
-  unfolding onto
-  offsets-read {q} z {k} w text {m'} {v} g =
-      encodes-by (ap (onto (λ _. behind w base)) (z .is))
-      (subst (λ (y : Parser). Encodes k s (take (y .top) text) m' v (behind w base (moved (drop (z .at) s) (h .from)))) (z .next) g)
+    pub offsets-hold : Holds s m q there
+    unfolding there
+    offsets-hold = by-state (behind-offsets .next) (holds-moved (h .holds) (behind-offsets .at) (behind-offsets .within))
+
+    pub offsets-read : {k : ℕ} (w text : Text) {m' : Memory} {v : Read} → Encodes k s (take (q .top) text) m' v (behind w base there) → Encodes k s (take (p .top) text) m' v (onto (λ _. behind w base) x)
+    unfolding onto there
+    offsets-read {k} w text {m'} {v} g =
+        encodes-by (ap (onto (λ _. behind w base)) (behind-offsets .is)) (subst (λ (y : Parser). Encodes k s (take (y .top) text) m' v (behind w base there)) (behind-offsets .next) g)

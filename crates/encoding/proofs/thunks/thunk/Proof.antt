@@ -2,7 +2,7 @@
 use native.Mathlib.Omega.{arith}
 use Rattle.parser.specs.laws.Holds.{holds-puts}
 use Rattle.encoding.specs.laws.Specials.{behind-refused, behind-got, behind-given}
-use Rattle.encoding.specs.laws.Thunks.{stopped-refused, behind-offsets, offsets-read}
+use Rattle.encoding.specs.laws.Thunks.{stopped-refused, offsets-hold, offsets-read}
 use borrow.Author.Needs.{needs}
 use Rattle.encoding.proofs.thunks.thunk.Statement.{statement}
 use Rattle.encoding.proofs.thunks.thunk.Tie as tie
@@ -25,27 +25,26 @@ returns c =
 put-requires : tie.Need-put-requires
 put-requires c κs =
     let at-passed = c .before .before in let at-start = before-passed at-passed in
-    (behind-offsets (at-start .pre .1 .1 .1) (at-passed .passed .given .1) .holds .text, omega (arith, at-start .pre .0))
+    (offsets-hold (at-start .pre .1 .1 .1) (at-passed .passed .given .1) .text, omega (arith, at-start .pre .0))
 
 function-or-data-requires : tie.Need-function-or-data-requires
 function-or-data-requires c κs =
     let at-put = c .before .before .before .before .before in let at-passed = before-put at-put in let at-start = before-passed at-passed in
-    (_, holds-puts (at-put .put .ensures) (behind-offsets (at-start .pre .1 .1 .1) (at-passed .passed .given .1) .holds))
+    (_, holds-puts (at-put .put .ensures) (offsets-hold (at-start .pre .1 .1 .1) (at-passed .passed .given .1)))
 
 returns-2 : tie.Need-returns-2
 returns-2 c =
     let at-function = c .before .before .before .before .before .before .before .before in let at-put = before-function at-function in let at-passed = before-put at-put in
     let at-start = before-passed at-passed in
     λ p x h.
-    let z = behind-offsets h (at-passed .passed .given .1) in
-    offsets-read h z (at-start .args .label .now) _ (behind-refused (z .holds) (at-put .put .ensures) (at-function .function-or-data .ensures) (c .enum-told2 .given .1))
+    offsets-read h (at-passed .passed .given .1) (at-start .args .label .now) _
+    (behind-refused (offsets-hold h (at-passed .passed .given .1)) (at-put .put .ensures) (at-function .function-or-data .ensures) (c .enum-told2 .given .1))
 
 add-given : tie.Need-add-given
 add-given c =
     let at-function = c .before .before .before .before .before .before .before .before .before in let at-put = before-function at-function in let at-passed = before-put at-put in
     let at-start = before-passed at-passed in
-    let z = behind-offsets (at-start .pre .1 .1 .1) (at-passed .passed .given .1) in
-    let w = behind-got (z .holds) (at-put .put .ensures) (at-function .function-or-data .ensures) (c .before .got .given .1) .wrote in
+    let w = behind-got (offsets-hold (at-start .pre .1 .1 .1) (at-passed .passed .given .1)) (at-put .put .ensures) (at-function .function-or-data .ensures) (c .before .got .given .1) .wrote in
     omega (arith, w .size, w .short, at-start .pre .0)
 
 returns-3 : tie.Need-returns-3
@@ -53,9 +52,8 @@ returns-3 c =
     let at-function = c .before .before .before .before .before .before .before .before .before .before in let at-put = before-function at-function in let at-passed = before-put at-put in
     let at-start = before-passed at-passed in
     λ p x h.
-    let z = behind-offsets h (at-passed .passed .given .1) in
-    offsets-read h z (at-start .args .label .now) _
-    (behind-given (z .holds) (at-put .put .ensures) (at-function .function-or-data .ensures) (omega arith) (at-start .pre .0) (c .before .before .got .given .1) (c .given .ensures))
+    offsets-read h (at-passed .passed .given .1) (at-start .args .label .now) _
+    (behind-given (offsets-hold h (at-passed .passed .given .1)) (at-put .put .ensures) (at-function .function-or-data .ensures) (omega arith) (at-start .pre .0) (c .before .before .got .given .1) (c .given .ensures))
 
 pub thunk-spec : {M : Type 1} → statement M
 thunk-spec =
