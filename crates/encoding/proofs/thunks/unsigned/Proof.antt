@@ -1,11 +1,12 @@
 -- `encoding::thunks::unsigned` reads digits and the _ behind them. Assumes nothing.
+use native.Mathlib.Omega.{arith}
 use Rattle.encoding.specs.laws.Thunks.{unsigned-none, unsigned-ate}
 use borrow.Author.Needs.{needs}
 use Rattle.encoding.proofs.thunks.unsigned.Statement.{statement}
 use Rattle.encoding.proofs.thunks.unsigned.Tie as tie
 
 returns : tie.Need-returns
-returns c = unsigned-none (c .before .decimal .ensures .behind) (c .if1 .taken)
+returns c = let n = c .before .decimal .ensures .behind in unsigned-none n (omega (arith, n, c .if1 .taken))
 
 returns-2 : tie.Need-returns-2
 returns-2 c = unsigned-ate (c .before .before .before .decimal .ensures .behind) (c .before .before .if1 .left) (c .before .moved .ensures) (c .eat .ensures)
