@@ -5,10 +5,10 @@ use mathlib.Core.Path.{_≡_}
 use Prim.Native.Nat.{ℕ, _+_, _≤_}
 use mathlib.Core.Option.{Option, none, some}
 use lib.ListN.{length, take, drop}
-use Rattle.grammar.specs.Text.{Text, b, if_then_else_, choose, same, each, join, digit}
+use Rattle.grammar.specs.Text.{Text, b, choose, same, each, join}
 use Rattle.grammar.specs.Limits.{most-text-bytes, least-text, least-store, least-ends}
 use Rattle.grammar.specs.Tables.{labels}
-use Rattle.grammar.specs.Reader.{State, Result, ok, refused, Reader, onto, unfit, go-to, give, find, need, every}
+use Rattle.grammar.specs.Reader.{State, Result, ok, refused, Reader, onto, go-to, give, find}
 use Rattle.grammar.specs.Words.{longest-word, bytes-told}
 use Rattle.grammar.specs.declared.codes.Word.{Word}
 use Rattle.grammar.specs.declared.codes.Word.the-variants.{Bytes, Nothing}
@@ -97,27 +97,19 @@ pub record Least (m : Memory) : Type 0 where
 
 -- ---------------------------------------------------------------- thunks
 
--- the text of a reader behind a label
-abbrev pub behind : Text → Reader Text → Reader Text
-behind w m σ = onto (λ t. give (w ++ t)) (m σ)
-
--- an offset without its sign
-abbrev pub unsigned : Reader (Unit {0})
-unsigned σ = onto (λ d. if same d [] then unfit else need "_") (every (digit 10) σ)
-
 abbrev pub two-offsets : Reader (Unit {0})
 two-offsets σ = onto (λ _. offset) (offset σ)
 
--- the code hands back the state behind what the grammar reads past, or nothing of the kind stands there
-pub data Passed (s : Text) (p : Parser) (σ : State) (r : Eaten) (x : Result (Unit {0})) : Type 0 where
-  past : {at : ℕ} → at ≤ length s → r ≡ eaten.Next (moved-to p at) → x ≡ go-to (drop at s) σ → Passed s p σ r x
-  stopped : r ≡ eaten.Nothing → x ≡ refused 4 → Passed s p σ r x
+-- the code hands back the state behind what the grammar steps over, or nothing of the kind stands there
+pub data Stepped (s : Text) (p : Parser) (σ : State) (r : Eaten) (x : Result (Unit {0})) : Type 0 where
+  past : {at : ℕ} → at ≤ length s → r ≡ eaten.Next (moved-to p at) → x ≡ go-to (drop at s) σ → Stepped s p σ r x
+  stopped : r ≡ eaten.Nothing → x ≡ refused 4 → Stepped s p σ r x
 
-abbrev pub Passes : Reader (Unit {0}) → Text → Parser → Eaten → Type 0
-Passes f s p r = (σ : State) → σ .rest ≡ drop (p .at) s → Passed s p σ r (f σ)
+abbrev pub StepsOver : Reader (Unit {0}) → Text → Parser → Eaten → Type 0
+StepsOver f s p r = (σ : State) → σ .rest ≡ drop (p .at) s → Stepped s p σ r (f σ)
 
--- from a state that p and the slices hold, the grammar's x reads past what the code has passed
-pub record Starts (s : Text) (m : Memory) (p : Parser) (r : Eaten) (x : Result (Unit {0})) : Type 0 where
+-- the same from a state that p and the slices hold
+pub record SteppedFrom (s : Text) (m : Memory) (p : Parser) (r : Eaten) (x : Result (Unit {0})) : Type 0 where
   pub from : State
   pub holds : Holds s m p from
-  pub passed : Passed s p from r x
+  pub stepped : Stepped s p from r x

@@ -4,6 +4,6 @@ pub mod Ends
 pub mod Functions
 pub mod Named
 pub mod Labels
-pub mod Thunks
 pub mod Specials
+pub mod Thunks
 pub mod Clones

@@ -1,4 +1,4 @@
 // What is behind _Z: special names, functions and data.
 pub mod functions;
 pub mod mangled;
-pub mod thunks;
+mod thunks;

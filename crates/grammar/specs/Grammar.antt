@@ -1,8 +1,8 @@
--- The productions of the ABI's chapter 5.1 as the Rust reads them, each below its production: those of letters and digits
--- alone first, then the others in the ABI's order. A reader starts at its production's first byte, or behind the letter that
--- its comment names, and returns the text that is printed. The twelve productions of the type `Production` are read by
--- `read`; a part that only one of them has stands above it. D-1, D-2, .. are the Rust's departures from the ABI, by their
--- numbers in docs/DIFFERENCES.md.
+-- The productions of the ABI's chapter 5.1 as the Rust reads them, and thunks, which the Rust refuses, by document 02 (T-01). Each
+-- reader stands below its production: those of letters and digits alone first, then the others in the ABI's order. A reader starts
+-- at its production's first byte, or behind the letter that its comment names, and returns the text that is printed. The twelve
+-- productions of the type `Production` are read by `read`; a part that only one of them has stands above it. D-1, D-2, .. are the
+-- Rust's departures from the ABI, by their numbers in docs/DIFFERENCES.md.
 use mathlib.Core.Bool.{Bool, true, false, not, _&&_, _||_}
 use mathlib.Core.List.{List, [], _∷_, _++_}
 use mathlib.Core.Option.{Option, none, some}
@@ -142,18 +142,22 @@ substitution = do
     l ← the λ s. s .subs
     choose (getElem? l (index 36 d)) give (refuse 7)
 
--- <offset number> _, of a thunk: "an offset being one or more decimal digits with `n` in front for minus"
-unfoldable pub offset : Reader (Unit {0})
-offset = do
-  eat "n"
+-- <number> _, of a thunk's offset: "an offset being one or more decimal digits with `n` in front for minus"
+unfoldable pub unsigned : Reader (Unit {0})
+unsigned = do
   d ← every (digit 10)
   if same d [] then unfit else need "_"
 
+unfoldable pub offset : Reader (Unit {0})
+offset = do
+  eat "n"
+  unsigned
+
 -- the text of a reader, with a label before it
-abbrev pub labelled : String → Reader Text → Reader Text
+abbrev pub labelled : Text → Reader Text → Reader Text
 labelled w m = do
   t ← m
-  give (b w ++ t)
+  give (w ++ t)
 
 -- ---------------------------------------------------------------- the productions made of others
 
@@ -189,22 +193,24 @@ module _ (read : Production → Reader Text) where
 
   -- <special-name> ::= T <call-offset> <base encoding>
   -- <call-offset> ::= h <offset number> _ | v <offset number> _ <virtual offset number> _
-  -- "then a name follows with its parameters, if any, as document 01 reads them without a label"
+  -- "Th carries an offset and `_`, Tv two offsets each with `_` .. then a name follows with its parameters, if any, as document 01 reads
+  -- them without a label. Print "non-virtual thunk to " or "virtual thunk to " and the encoding's name."
   unfoldable pub thunks : List (Row (Reader Text))
   thunks =
-      "Th" ⇒ (do offset; labelled "non-virtual thunk to " function-or-data)
-      ∷ "Tv" ⇒ (do offset; offset; labelled "virtual thunk to " function-or-data)
+      "Th" ⇒ (do offset; labelled (b "non-virtual thunk to ") function-or-data)
+      ∷ "Tv" ⇒ (do offset; offset; labelled (b "virtual thunk to ") function-or-data)
       ∷ []
 
-  -- <special-name> ::= TV <type> | TT <type> | TI <type> | TS <type> | GV <object name> | GTt <encoding> | further rows
-  -- <encoding> ::= <special-name> | the above. Other special names are 4 (D-39).
+  -- <special-name> ::= TV <type> | TT <type> | TI <type> | TS <type> | GV <object name> | GTt <encoding>
+  -- <encoding> ::= <special-name> | <function name> <bare-function-type> | <data name>, with rows for other special names
   unfoldable pub encoding-with : List (Row (Reader Text)) → Reader Text
-  encoding-with rows = by-code labels (λ w. labelled w (read ⟨type⟩)) (cases
-      ("GTt" ⇒ labelled "transaction clone for " (anew ⟨encoding⟩)
-      ∷ "GV" ⇒ labelled "guard variable for " (anew ⟨name⟩)
+  encoding-with rows = by-code labels (λ w. labelled (b w) (read ⟨type⟩)) (cases
+      ("GTt" ⇒ labelled (b "transaction clone for ") (anew ⟨encoding⟩)
+      ∷ "GV" ⇒ labelled (b "guard variable for ") (anew ⟨name⟩)
       ∷ rows)
       function-or-data)
 
+  -- Thunks "stand directly after the `_Z` or `__Z` in front, or after `GTt`". Other special names are 4 (D-39).
   unfoldable pub encoding : Reader Text
   encoding = encoding-with thunks
 

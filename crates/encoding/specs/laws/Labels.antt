@@ -1,5 +1,5 @@
 -- The special names of the definition, each by the bytes that stand first, and the labels that the code picks. Assumes nothing.
-use mathlib.Core.Bool.{Bool, true, false, _&&_, true≢false}
+use mathlib.Core.Bool.{Bool, true, false, _&&_}
 use mathlib.Core.List.{List, [], _∷_, _++_}
 use mathlib.Core.Option.{Option, none, some}
 use mathlib.Core.Path.{_≡_, refl, sym, ap, ap₂, _∙_, subst}
@@ -12,7 +12,7 @@ use lib.ListN.{length, take, drop, getD}
 use Rattle.grammar.specs.Text.{Text, b, if_then_else_, choose, starts, holds}
 use Rattle.grammar.specs.Tables.{Row, _⇒_, Table, labels}
 use Rattle.grammar.specs.Reader.{State, Result, ok, refused, Reader, onto, go-to, give, start, find, by-code, cases, word-for}
-use Rattle.grammar.specs.Grammar.{reading, ⟨encoding⟩, ⟨name⟩, ⟨type⟩, encoding, encoding-with, thunks, anew, function-or-data, production}
+use Rattle.grammar.specs.Grammar.{reading, ⟨encoding⟩, ⟨name⟩, ⟨type⟩, encoding, encoding-with, labelled, thunks, anew, function-or-data, production}
 use Rattle.grammar.specs.laws.Agree.{moved, coded, all-coded}
 use Rattle.grammar.specs.laws.Text.{both, starts-is}
 use Rattle.grammar.specs.laws.Fuel.{reading-is}
@@ -22,7 +22,7 @@ use Rattle.grammar.specs.Words.{longest-word, bytes-told, Spells}
 use Rattle.grammar.specs.declared.codes.Word.{Word}
 use Rattle.grammar.specs.declared.codes.Word.the-variants.{Bytes, Nothing}
 use Rattle.grammar.specs.laws.Places.{rest-some}
-use Rattle.encoding.specs.Encodings.{word-in, Labels, behind}
+use Rattle.encoding.specs.Encodings.{word-in, Labels}
 use Rattle.parser.specs.laws.Wraps.{spelled-at, spelled-none}
 
 -- ---------------------------------------------------------------- the definition
@@ -56,35 +56,35 @@ clone-read s e = ap (λ (t : Text). reading ⟨encoding⟩ (start t)) (starts-is
 pub guard-read : (s : Text) → starts s (71 ∷ 86 ∷ []) ≡ true → reading ⟨encoding⟩ (start s) ≡ onto (after guard) (reading ⟨name⟩ (start (drop 2 s)))
 guard-read s e = ap (λ (t : Text). reading ⟨encoding⟩ (start t)) (starts-is s (71 ∷ 86 ∷ []) e) ∙ guard-is (drop 2 s)
 
-abbrev pub labelled : Text → Reader Text
-labelled w = behind w (reading ⟨type⟩)
+abbrev pub typed : Text → Reader Text
+typed w = labelled w (reading ⟨type⟩)
 
 abbrev special : List (Row (Reader Text))
-special = "GTt" ⇒ (λ τ. onto (λ t. give (clone ++ t)) (anew reading ⟨encoding⟩ τ)) ∷ "GV" ⇒ (λ τ. onto (λ t. give (guard ++ t)) (anew reading ⟨name⟩ τ)) ∷ thunks reading
+special = "GTt" ⇒ labelled clone (anew reading ⟨encoding⟩) ∷ "GV" ⇒ labelled guard (anew reading ⟨name⟩) ∷ thunks reading
 
 abbrev unlabelled : Reader Text
 unlabelled = by-code special (λ r. r) (function-or-data reading)
 
-encoding-is : (σ : State) → reading ⟨encoding⟩ σ ≡ by-code labels (λ w. labelled (b w)) unlabelled σ
+encoding-is : (σ : State) → reading ⟨encoding⟩ σ ≡ by-code labels (λ w. typed (b w)) unlabelled σ
 unfolding production encoding encoding-with
 encoding-is σ = reading-is ⟨encoding⟩ σ
 
-label-read : (σ : State) → by-code labels (λ w. labelled (b w)) unlabelled σ ≡ choose (find labels (σ .rest)) (λ q. labelled (b (q .0)) (moved (q .1) σ)) (unlabelled σ)
+label-read : (σ : State) → by-code labels (λ w. typed (b w)) unlabelled σ ≡ choose (find labels (σ .rest)) (λ q. typed (b (q .0)) (moved (q .1) σ)) (unlabelled σ)
 unfolding by-code onto choose go-to
 label-read σ = through (find labels (σ .rest))
   where
-    through : (o : Option (String × Text)) → choose o (λ q v. onto (λ _. labelled (b (q .0))) (go-to (q .1) v)) unlabelled σ ≡ choose o (λ q. labelled (b (q .0)) (moved (q .1) σ)) (unlabelled σ)
+    through : (o : Option (String × Text)) → choose o (λ q v. onto (λ _. typed (b (q .0))) (go-to (q .1) v)) unlabelled σ ≡ choose o (λ q. typed (b (q .0)) (moved (q .1) σ)) (unlabelled σ)
     through none = refl
     through (some q) = refl
 
 module _ {s word : Text} {r : Word} (l : Labels s word r) where
-  told-is : reading ⟨encoding⟩ (start s) ≡ choose (word-in word r) (λ w. labelled w (moved (drop 2 s) (start s))) (unlabelled (start s))
+  told-is : reading ⟨encoding⟩ (start s) ≡ choose (word-in word r) (λ w. typed w (moved (drop 2 s) (start s))) (unlabelled (start s))
   unfolding start
-  told-is = encoding-is (start s) ∙ label-read (start s) ∙ l .is (λ w u. labelled w (moved u (start s))) (unlabelled (start s))
+  told-is = encoding-is (start s) ∙ label-read (start s) ∙ l .is (λ w u. typed w (moved u (start s))) (unlabelled (start s))
 
-  pub labelled-is : {n : ℕ} → r ≡ Bytes n → reading ⟨encoding⟩ (start s) ≡ labelled (take n word) (moved (drop 2 s) (start s))
+  pub labelled-is : {n : ℕ} → r ≡ Bytes n → reading ⟨encoding⟩ (start s) ≡ typed (take n word) (moved (drop 2 s) (start s))
   unfolding word-in choose
-  labelled-is e = told-is ∙ ap (λ (q : Word). choose (word-in word q) (λ w. labelled w (moved (drop 2 s) (start s))) (unlabelled (start s))) e
+  labelled-is e = told-is ∙ ap (λ (q : Word). choose (word-in word q) (λ w. typed w (moved (drop 2 s) (start s))) (unlabelled (start s))) e
 
   pub label-fits : {n : ℕ} → r ≡ Bytes n → n ≤ longest-word
   unfolding bytes-told
@@ -95,7 +95,7 @@ module _ {s word : Text} {r : Word} (l : Labels s word r) where
   unfolding word-in choose by-code onto find b start if_then_else_
   unlabelled-is e f h =
       told-is
-      ∙ ap (λ (q : Word). choose (word-in word q) (λ w. labelled w (moved (drop 2 s) (start s))) (unlabelled (start s))) e
+      ∙ ap (λ (q : Word). choose (word-in word q) (λ w. typed w (moved (drop 2 s) (start s))) (unlabelled (start s))) e
       ∙ rw (f, h)
 
 -- ---------------------------------------------------------------- labels

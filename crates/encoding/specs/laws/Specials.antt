@@ -8,7 +8,7 @@ use lib.ListN.{length, take, drop, length-append, length-drop}
 use Rattle.grammar.specs.Text.{Text, b, starts, each}
 use Rattle.grammar.specs.Limits.{most-text-bytes, most-length, kept-bytes}
 use Rattle.grammar.specs.Reader.{Reader, State, onto, give, start, cases}
-use Rattle.grammar.specs.Grammar.{reading, ⟨encoding⟩, ⟨name⟩, ⟨type⟩, thunks, function-or-data}
+use Rattle.grammar.specs.Grammar.{reading, ⟨encoding⟩, ⟨name⟩, ⟨type⟩, labelled, thunks, function-or-data}
 use Rattle.grammar.specs.laws.Agree.{moved}
 use Rattle.grammar.specs.Words.{longest-word}
 use Rattle.grammar.specs.declared.codes.Word.{Word}
@@ -23,7 +23,7 @@ use Rattle.grammar.specs.laws.Places.{rest-none}
 use Rattle.parser.specs.Holds.{Memory, mem, window, Holds, Reads, Puts, keep, given-of}
 use Rattle.parser.specs.laws.Holds.{by-state, holds-moved, holds-puts, Got, got}
 use Rattle.parser.specs.laws.Adds.{puts-from}
-use Rattle.encoding.specs.Encodings.{Labels, Fresh, Encodes, behind}
+use Rattle.encoding.specs.Encodings.{Labels, Fresh, Encodes}
 use Rattle.encoding.specs.laws.Answers.{encodes-by, encodes-refused, encodes-given}
 use Rattle.encoding.specs.laws.Labels.{after, guard, guard-read, labelled-is, unlabelled-is}
 
@@ -95,7 +95,7 @@ module _ (s : Text) {part text store ends text₁ : Text} {p o : Parser} (l : le
 
 module _ {s text store ends text₁ : Text} {p o : Parser} {w : Text} {σ : State} (h : Holds s (mem text store ends) p σ) (u : Puts text text₁ p o w) {m₂ : Memory} {r : Read} {f : Reader Text}
     {k from : ℕ} (g : Reads f k from s (mem text₁ store ends) m₂ o r) where
-  pub behind-refused : {j : ℕ} {base : Text} {m' : Memory} {i : ℕ} → r ≡ Refused i → Encodes j s base m' r (behind w f σ)
+  pub behind-refused : {j : ℕ} {base : Text} {m' : Memory} {i : ℕ} → r ≡ Refused i → Encodes j s base m' r (labelled w f σ)
   behind-refused y = encodes-refused (λ t. give (w ++ t)) y (g σ (holds-puts u h))
 
   pub behind-got : {next : Parser} {n : ℕ} → r ≡ read next n → Got k (o .depth) s (window (mem text₁ store ends) o) from m₂ next n (f σ)
@@ -103,7 +103,7 @@ module _ {s text store ends text₁ : Text} {p o : Parser} {w : Text} {σ : Stat
 
   pub behind-given :
       {next : Parser} {n : ℕ} {v : Read} → keep 0 ≤ k → length w ≤ longest-word → r ≡ read next n → v ≡ given-of next (n + length w) →
-      Encodes (keep 0) s (window (mem text store ends) p) m₂ v (behind w f σ)
+      Encodes (keep 0) s (window (mem text store ends) p) m₂ v (labelled w f σ)
   unfolding onto
   behind-given {next} {n} {v} i j y c =
       let z = behind-got y in

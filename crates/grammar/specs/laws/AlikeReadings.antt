@@ -15,7 +15,7 @@ use Rattle.grammar.specs.Tables.{_⇒_, letters, d-letters, operators, l
 use Rattle.grammar.specs.Reader.{State, Result, ok, refused, Reader, onto, refuse, start, go-to, give, one-more, cases}
 use Rattle.grammar.specs.Grammar.{Production, ⟨encoding⟩, ⟨name⟩, ⟨nested-name⟩, ⟨unqualified-name⟩, ⟨source-name⟩, ⟨operator-name⟩, ⟨type⟩}
 use Rattle.grammar.specs.Grammar.{⟨template-param⟩, ⟨template-args⟩, ⟨template-arg⟩, ⟨expr-primary⟩, ⟨substitution⟩, Parts, skipped, open-after}
-use Rattle.grammar.specs.Grammar.{ended, digit-ahead, std-ahead, structor-ahead, only-void, unnamed-type-name, template-param, substitution, offset, reading}
+use Rattle.grammar.specs.Grammar.{ended, digit-ahead, std-ahead, structor-ahead, only-void, unnamed-type-name, template-param, substitution, unsigned, offset, reading}
 use Rattle.grammar.specs.Grammar as g
 use Rattle.grammar.specs.laws.Text.{both}
 use Rattle.grammar.specs.laws.Agree.{unread, moved, end, row, coded, all-coded}
@@ -59,7 +59,7 @@ module _ {u v : Text} where
       chosen _ give-alike (refuses-alike 7))
 
   offset-alike : Alike u v offset offset
-  unfolding offset undotted holds b
+  unfolding offset unsigned undotted holds b
   offset-alike =
       bind (eat-alike "n" tt) λ _.
       bind (every-alike _) λ d.

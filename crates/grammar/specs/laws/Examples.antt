@@ -179,6 +179,7 @@ unfolding
     g.unnamed-type-name
     g.template-param
     g.substitution
+    g.unsigned
     g.offset
     productions
     g.parse

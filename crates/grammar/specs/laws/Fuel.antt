@@ -15,7 +15,7 @@ use Rattle.grammar.specs.Tables.{letters, d-letters, operators, labels, 
 use Rattle.grammar.specs.Reader.{State, Result, ok, refused, Reader, onto, give, go-to, set-args, push-arg, one-more, start}
 use Rattle.grammar.specs.Grammar.{Production, ⟨encoding⟩, ⟨name⟩, ⟨nested-name⟩, ⟨unqualified-name⟩, ⟨source-name⟩, ⟨operator-name⟩, ⟨type⟩}
 use Rattle.grammar.specs.Grammar.{⟨template-param⟩, ⟨template-args⟩, ⟨template-arg⟩, ⟨expr-primary⟩, ⟨substitution⟩, Parts, skipped, open-after}
-use Rattle.grammar.specs.Grammar.{unnamed-type-name, template-param, substitution, offset, reading}
+use Rattle.grammar.specs.Grammar.{unnamed-type-name, template-param, substitution, unsigned, offset, reading}
 use Rattle.grammar.specs.Grammar as g
 use Rattle.grammar.specs.Names.{Answer, named, refusal, demangle, mangled-name, front, finished}
 use Rattle.grammar.specs.laws.Agree.{unread, Agree, reads, refuses, agree-eq, bind, weaken, tested, branch, chosen, coded, end, row, all-coded}
@@ -76,7 +76,7 @@ module _ {n : ℕ} where
       chosen _ _ _ _ _ w (λ x. give-keeps x w m) refuses)
 
   offset-keeps : Keeps n offset offset
-  unfolding offset onto coded b
+  unfolding offset unsigned onto coded b
   offset-keeps s h =
       bind (eat-keeps "n" s h) λ _ u k.
       bind (every-keeps _ u k) λ d v l.

@@ -42,17 +42,16 @@ starts-nothing [] = refl
 starts-nothing (x ∷ t) = refl
 
 -- what a text begins with stands first in it
-pub starts-is : (t w : Text) → starts t w ≡ true → t ≡ w ++ drop (length w) t
+starts-there : (t w : Text) → T (starts t w) → t ≡ w ++ drop (length w) t
 unfolding starts
-starts-is t [] e = refl
-starts-is [] (y ∷ w) e = absurd (true≢false (sym e))
-starts-is (x ∷ t) (y ∷ w) e =
-    let (p, q) = both (eqb x y) (starts t w) (subst T (sym e) tt) in
-    ap₂ (λ (z : ℕ) (u : Text). z ∷ u) (eqb→eq x y p) (starts-is t w (holds-true (starts t w) q))
-  where
-    holds-true : (r : Bool) → T r → r ≡ true
-    holds-true true h = refl
-    holds-true false h = absurd h
+starts-there t [] h = refl
+starts-there [] (y ∷ w) h = absurd h
+starts-there (x ∷ t) (y ∷ w) h =
+    let (p, q) = both (eqb x y) (starts t w) h in
+    ap₂ (λ (z : ℕ) (u : Text). z ∷ u) (eqb→eq x y p) (starts-there t w q)
+
+pub starts-is : (t w : Text) → starts t w ≡ true → t ≡ w ++ drop (length w) t
+starts-is t w e = starts-there t w (subst T (sym e) tt)
 
 -- one digit, and the last digit apart
 pub decimal-last : (k n : ℕ) → n < 10 → 1 ≤ k → decimal k n ≡ (48 + n) ∷ []

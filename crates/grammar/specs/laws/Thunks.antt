@@ -8,7 +8,7 @@ use mathlib.Core.Path.{_≡_, refl, sym, ap, subst, fun-ext, _∙_}
 use Prim.Native.Nat.{ℕ, zero, suc, _+_, _*_, _≤_}
 use Prim.Native.String.{String}
 use native.Mathlib.Omega.{arith}
-use lib.ListN.{length, drop, length-drop}
+use lib.ListN.{length, drop}
 use lib.Dec.{ltb}
 use Rattle.grammar.specs.Text.{Text, b, if_then_else_, choose, starts, holds, digit, digit-value}
 use Rattle.grammar.specs.Limits.{most-open}
@@ -208,10 +208,10 @@ module _ {P : Type 0} {four : Result Text} {s : State} {m m' : Reader Text} wher
 module _ (n : ℕ) (x : Reader Text) (t : Text) where
   -- without thunks, behind a GTt in front
   abbrev clone-before : Reader Text
-  clone-before = g.labelled "transaction clone for " (g.anew (instead x (parse n)) ⟨encoding⟩)
+  clone-before = g.labelled (b "transaction clone for ") (g.anew (instead x (parse n)) ⟨encoding⟩)
 
   clone-kept : (u : Text) → t ≡ b "GTt" ++ u → Kept (Thunk u) (refused 4) (x (start u)) (parse n ⟨encoding⟩ (start u)) →
-      Kept (Thunk t) (refused 4) (clone-before (moved u (start t))) (g.labelled "transaction clone for " (g.anew (parse n) ⟨encoding⟩) (moved u (start t)))
+      Kept (Thunk t) (refused 4) (clone-before (moved u (start t))) (g.labelled (b "transaction clone for ") (g.anew (parse n) ⟨encoding⟩) (moved u (start t)))
   unfolding g.anew instead onto start
   clone-kept u e h =
       kept-by (λ (r : Result Text). onto (λ v. give (b "transaction clone for " ++ v)) (onto (λ v _. onto (λ _. λ z. ok v z) (go-to [] (moved u (start t)))) r))
@@ -229,11 +229,11 @@ module _ (n : ℕ) (x : Reader Text) (t : Text) where
   encoding-kept : 4 * suc (length t) ≤ suc n → ((u : Text) → t ≡ b "GTt" ++ u → Kept (Thunk u) (refused 4) (x (start u)) (parse n ⟨encoding⟩ (start u))) →
       Kept (Thunk t) (refused 4) (g.encoding-with (instead x (parse n)) [] (start t)) (g.encoding (parse n) (start t))
   unfolding g.encoding g.encoding-with g.thunks g.function-or-data g.bare-function-type g.anew by-code onto instead start b
-  encoding-kept l below = table-kept (λ w. g.labelled w (parse n ⟨type⟩)) (find labels t) _ _ (start t) (rows-kept special)
+  encoding-kept l below = table-kept (λ w. g.labelled (b w) (parse n ⟨type⟩)) (find labels t) _ _ (start t) (rows-kept special)
     where
       special : Beside (Thunk t) (refused 4) (start t) (g.function-or-data (instead x (parse n))) (g.function-or-data (parse n))
-          ("GTt" ⇒ clone-before ∷ "GV" ⇒ g.labelled "guard variable for " (g.anew (instead x (parse n)) ⟨name⟩) ∷ [])
-          ("GTt" ⇒ g.labelled "transaction clone for " (g.anew (parse n) ⟨encoding⟩) ∷ "GV" ⇒ g.labelled "guard variable for " (g.anew (parse n) ⟨name⟩) ∷ g.thunks (parse n))
+          ("GTt" ⇒ clone-before ∷ "GV" ⇒ g.labelled (b "guard variable for ") (g.anew (instead x (parse n)) ⟨name⟩) ∷ [])
+          ("GTt" ⇒ g.labelled (b "transaction clone for ") (g.anew (parse n) ⟨encoding⟩) ∷ "GV" ⇒ g.labelled (b "guard variable for ") (g.anew (parse n) ⟨name⟩) ∷ g.thunks (parse n))
       special =
           row (λ e. let i = starts-is t (b "GTt") e in clone-kept (drop 3 t) i (below (drop 3 t) i))
           (row (λ _. same)

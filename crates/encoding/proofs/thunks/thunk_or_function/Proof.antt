@@ -1,4 +1,4 @@
--- `encoding::thunks::thunk_or_function` goes by the first two letters, and passes one offset or two. Assumes nothing.
+-- `encoding::thunks::thunk_or_function` goes by the first two letters, and steps over one offset or two. Assumes nothing.
 use mathlib.Core.Bool.{true}
 use mathlib.Core.List.{[], _∷_}
 use mathlib.Core.Path.{_≡_, sym, _∙_}
