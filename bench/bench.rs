@@ -4,14 +4,15 @@
 //!     bench time FILE ROUND       one pass of each, the first another one in each round: `contender nanoseconds`
 //!     bench count FILE..          one pass of each over each file, to be counted from outside: `contender file`
 //!     bench clearing              what clearing costs, by the lengths of the work slices
+//!     bench unstruck FILE         the lines of the file but thunks
 //!     bench read FILE CONTENDER   how many symbols of the file it reads, and how many of these get the library's name
-use std::io::Write;
+use std::io::{BufRead, Write};
 
 /// The Rust original, unchanged.
 mod itanium;
 /// The functions of the library.
 mod library;
-/// What the papers say of thunks, which the Rust refuses.
+/// The rule that strikes thunks.
 mod thunks;
 
 use library::{entry, Entry};
@@ -241,7 +242,7 @@ fn list(file: &str) {
     for symbol in symbols_of(file) {
         bench.lines.add(&symbol);
         let name = bench.names.name(symbol.bytes());
-        if !agrees(&name, &thunks::named(&symbol.text, itanium::demangle)) {
+        if !agrees(&name, &itanium::demangle(&symbol.text)) {
             different(&symbol);
         }
         check_normal_symbol(&mut bench, &symbol);
@@ -322,6 +323,12 @@ fn read(file: &str, contender: &str) {
     println!("{read} {same}");
 }
 
+fn unstruck(file: &str) {
+    let lines = std::io::BufReader::new(std::fs::File::open(file).unwrap()).split(b'\n').map(Result::unwrap);
+    let kept = lines.filter(|line| !thunks::is_struck(line)).flat_map(|line| [line, b"\n".to_vec()].concat());
+    std::io::stdout().write_all(&kept.collect::<Vec<u8>>()).unwrap();
+}
+
 /// Calls that are refused before anything is read, with a `text` of its least length, of the one it had once, of a smaller one and with none.
 fn clearing() {
     for length in [65536, 51200, 34816, 0] {
@@ -346,6 +353,7 @@ fn main() {
         "time" => time(&args[1], args[2].parse().unwrap()),
         "count" => count(&args[1..]),
         "clearing" => clearing(),
+        "unstruck" => unstruck(&args[1]),
         "read" => read(&args[1], &args[2]),
         other => panic!("{other}: not known"),
     }
