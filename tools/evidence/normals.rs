@@ -92,10 +92,11 @@ fn normal(stand_in: &str, symbol: &[u8]) -> (u8, String) {
     if number != 0 {
         return (number, String::new());
     }
-    if stand_in.starts_with("thunk-") && thunks::is_struck(symbol) {
-        return if stand_in == "thunk-refused" { (4, String::new()) } else { normal("right", &behind_offsets(symbol)) };
-    }
     let text = String::from_utf8(symbol.to_vec()).unwrap();
+    if stand_in.starts_with("thunk-") && thunks::is_struck(symbol) {
+        let base = || normal("right", thunks::base(&text).unwrap().as_bytes());
+        return if stand_in == "thunk-refused" { (4, String::new()) } else { base() };
+    }
     let Some(encoding) = catalogue::recognised(symbol, mistake(stand_in)).filter(|_| stand_in != "six") else {
         return if stand_in == "copied-six" { (0, text) } else { (6, String::new()) };
     };
@@ -107,14 +108,6 @@ fn normal(stand_in: &str, symbol: &[u8]) -> (u8, String) {
         "13-early" if normal.len() == catalogue::MOST_NORMAL => (13, String::new()),
         _ => catalogue::within(normal),
     }
-}
-
-/// An accepted thunk as a symbol without its label: `_Z` and what stands behind the last `_` of an offset.
-fn behind_offsets(symbol: &[u8]) -> Vec<u8> {
-    let at = symbol.windows(2).position(|w| w == b"Th" || w == b"Tv").unwrap();
-    let offsets = if symbol[at + 1] == b'h' { 1 } else { 2 };
-    let rest = symbol[at + 2..].splitn(offsets + 1, |b| *b == b'_').last().unwrap();
-    [b"_Z", rest].concat()
 }
 
 fn stand_in(which: &str) {
