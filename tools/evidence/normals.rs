@@ -66,13 +66,7 @@ fn mistake(stand_in: &str) -> Mistake {
 
 /// The name of a symbol or the refusal, by the numbered copy of the Rust and, for thunks, by document 02.
 fn read(symbol: &[u8]) -> Result<String, u8> {
-    if symbol.len() > 4096 {
-        return Err(1);
-    }
-    if !symbol.is_ascii() {
-        return Err(2);
-    }
-    thunks::answer(std::str::from_utf8(symbol).unwrap(), numbered::reading)
+    thunks::answered(symbol, numbered::reading)
 }
 
 fn named(stand_in: &str, symbol: &[u8]) -> (u8, String) {

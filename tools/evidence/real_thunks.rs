@@ -11,9 +11,11 @@ mod thunks;
 use std::io::BufRead;
 
 fn row(symbol: &str) -> String {
-    let base = thunks::base(symbol).unwrap_or_default();
+    let answer = thunks::answered(symbol.as_bytes(), numbered::reading);
+    let (number, name) = answer.map_or_else(|number| (number, String::new()), |name| (0, name));
+    // past the length, or with a byte of 128 or more, it has no base: the Rust isn't asked
+    let base = if [1, 2].contains(&number) { None } else { thunks::base(symbol) }.unwrap_or_default();
     let rust = itanium::demangle(&base).unwrap_or_default();
-    let (number, name) = thunks::answer(symbol, numbered::reading).map_or_else(|number| (number, String::new()), |name| (0, name));
     format!("{symbol}\t{base}\t{rust}\t{number}\t{name}")
 }
 
@@ -21,7 +23,7 @@ fn main() {
     let run = || {
         for line in std::io::stdin().lock().lines() {
             let symbol = line.unwrap();
-            if symbol.len() <= 4096 && symbol.is_ascii() && thunks::is_struck(symbol.as_bytes()) {
+            if thunks::is_struck(symbol.as_bytes()) {
                 println!("{}", row(&symbol));
             }
         }

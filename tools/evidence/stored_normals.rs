@@ -19,13 +19,7 @@ use symbols::{Grammar, Rng};
 const CODES: &[u8] = &[0, 1, 2, 3, 4, 5, 6, 7, 8, 9, 10, 11, 13];
 
 fn number(symbol: &[u8]) -> u8 {
-    if symbol.len() > 4096 {
-        return 1;
-    }
-    if !symbol.is_ascii() {
-        return 2;
-    }
-    thunks::answer(std::str::from_utf8(symbol).unwrap(), numbered::reading).err().unwrap_or(0)
+    thunks::answered(symbol, numbered::reading).err().unwrap_or(0)
 }
 
 fn bytes(texts: Vec<String>) -> Vec<Vec<u8>> {

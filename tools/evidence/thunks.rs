@@ -6,6 +6,7 @@ const LABELS: &[&str] = &["TV", "TT", "TI", "TS", "GTt", "GV", "Th", "Tv"];
 const NON_VIRTUAL: &str = "non-virtual thunk to ";
 const VIRTUAL: &str = "virtual thunk to ";
 const CLONE: &str = "transaction clone for ";
+const MOST_SYMBOL: usize = 4096;
 const MOST_TEXT: usize = 16384;
 /// The Rust's `SLOT`: counted in a text, not printed.
 const SLOT: char = '\u{1}';
@@ -143,6 +144,17 @@ pub type Reading = Result<(String, bool), u8>;
 /// The name or the number. `read` is the numbered copy's reading of a symbol.
 pub fn answer(symbol: &str, read: fn(&str) -> Reading) -> Result<String, u8> {
     mistaken(symbol, read, Mistake::No)
+}
+
+/// The same for any bytes.
+pub fn answered(symbol: &[u8], read: fn(&str) -> Reading) -> Result<String, u8> {
+    if symbol.len() > MOST_SYMBOL {
+        return Err(1);
+    }
+    if !symbol.is_ascii() {
+        return Err(2);
+    }
+    answer(std::str::from_utf8(symbol).unwrap(), read)
 }
 
 pub fn mistaken(symbol: &str, read: fn(&str) -> Reading, mistake: Mistake) -> Result<String, u8> {
