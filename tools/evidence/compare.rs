@@ -70,7 +70,7 @@ enum Answer {
 
 struct Reference {
     answer: Answer,
-    /// The number by document 01, from the numbered copy.
+    /// The number by the papers, from the numbered copy; a thunk's from `thunks.rs`.
     number: Option<u8>,
 }
 
@@ -362,7 +362,8 @@ fn wrong(symbol: &[u8], reference: &Reference, line: &[u8], numbers: bool) -> Op
         Answer::NotAsked => unreachable!(),
     };
     if !fits {
-        return Some("a code that doesn't fit the Rust's answer".into());
+        let whose = if thunks::is_struck(symbol) { "the papers'" } else { "the Rust's" };
+        return Some(format!("a code that doesn't fit {whose} answer"));
     }
     match reference.number {
         // what the papers say of thunks is all that there is, numbers too
@@ -515,8 +516,8 @@ fn difference(kind: &str, symbol: &[u8], reference: &Reference, line: &Result<Ve
         Answer::NotAsked => "not asked".into(),
     };
     let number = reference.number.map_or("none".into(), |k| k.to_string());
-    let whose = if thunks::is_struck(symbol) { "the papers: " } else { "the Rust:   " };
-    println!("    {whose} {rust} (number by the numbered copy: {number})");
+    let (whose, by) = if thunks::is_struck(symbol) { ("the papers: ", "the papers") } else { ("the Rust:   ", "the numbered copy") };
+    println!("    {whose} {rust} (number by {by}: {number})");
     println!("    the program: {}", line.as_ref().map_or("no line".into(), |l| shown(l)));
 }
 
