@@ -1,5 +1,7 @@
 //! Generators of symbols. A symbol is any bytes without a line feed.
 
+use crate::thunks::{CLONE, NON_VIRTUAL, VIRTUAL};
+
 // ---------------------------------------------------------------- chance
 
 /// A small generator of numbers (splitmix64), so that a seed gives the same symbols everywhere.
@@ -1341,9 +1343,9 @@ fn names_of_length(bytes: usize) -> Vec<String> {
 pub fn thunk_texts(totals: std::ops::RangeInclusive<usize>, clones: &[usize]) -> Vec<String> {
     let mut out = vec![];
     for total in totals {
-        for (offsets, label) in [("Th8_", "non-virtual thunk to "), ("Tv0_n24_", "virtual thunk to ")] {
+        for (offsets, label) in [("Th8_", NON_VIRTUAL), ("Tv0_n24_", VIRTUAL)] {
             for &clones in clones {
-                let name = total - label.len() - "transaction clone for ".len() * clones;
+                let name = total - label.len() - CLONE.len() * clones;
                 let made = names_of_length(name).into_iter();
                 out.extend(made.map(|rest| format!("_Z{}{offsets}{rest}", "GTt".repeat(clones))));
             }

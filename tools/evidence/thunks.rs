@@ -3,9 +3,9 @@
 
 /// Behind offsets no label is read.
 const LABELS: &[&str] = &["TV", "TT", "TI", "TS", "GTt", "GV", "Th", "Tv"];
-const NON_VIRTUAL: &str = "non-virtual thunk to ";
-const VIRTUAL: &str = "virtual thunk to ";
-const CLONE: &str = "transaction clone for ";
+pub const NON_VIRTUAL: &str = "non-virtual thunk to ";
+pub const VIRTUAL: &str = "virtual thunk to ";
+pub const CLONE: &str = "transaction clone for ";
 const MOST_SYMBOL: usize = 4096;
 const MOST_TEXT: usize = 16384;
 /// The Rust's `SLOT`: counted in a text, not printed.
