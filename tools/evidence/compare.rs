@@ -409,6 +409,20 @@ impl Counts {
     fn symbols(&self) -> usize {
         self.names + self.nones + self.overflows + self.too_large + self.not_asked
     }
+
+    fn add(&mut self, symbol: &[u8], answer: &Answer) {
+        self.bytes += symbol.len();
+        let struck = thunks::is_struck(symbol);
+        self.struck += struck as usize;
+        self.struck_names += (struck && matches!(answer, Answer::Name(..))) as usize;
+        match answer {
+            Answer::Name(..) => self.names += 1,
+            Answer::None => self.nones += 1,
+            Answer::Overflow => self.overflows += 1,
+            Answer::TooLarge => self.too_large += 1,
+            Answer::NotAsked => self.not_asked += 1,
+        }
+    }
 }
 
 struct Comparison {
@@ -471,17 +485,7 @@ impl Comparison {
         counts.listing += between.elapsed();
         self.batches += 1;
         for ((symbol, reference), line) in batch.iter().zip(&references).zip(&lines) {
-            counts.bytes += symbol.len();
-            let struck = thunks::is_struck(symbol);
-            counts.struck += struck as usize;
-            counts.struck_names += (struck && matches!(reference.answer, Answer::Name(..))) as usize;
-            match reference.answer {
-                Answer::Name(..) => counts.names += 1,
-                Answer::None => counts.nones += 1,
-                Answer::Overflow => counts.overflows += 1,
-                Answer::TooLarge => counts.too_large += 1,
-                Answer::NotAsked => counts.not_asked += 1,
-            }
+            counts.add(symbol, &reference.answer);
             let why = match line {
                 Err(why) => Some(why.clone()),
                 Ok(line) => {
@@ -643,6 +647,33 @@ fn distinct(symbols: impl Iterator<Item = Vec<u8>>) -> impl Iterator<Item = Vec<
     })
 }
 
+fn grammar_symbols(mut grammar: Grammar, count: usize) -> impl Iterator<Item = Vec<u8>> {
+    (0..count).map(move |_| grammar.any())
+}
+
+fn damaged_symbols(seed: u64, count: usize, real: &[Vec<u8>]) -> impl Iterator<Item = Vec<u8>> {
+    let (mut grammar, mut rng) = (Grammar::new(seed ^ 0x5eed), Rng::new(seed ^ 0xda3a));
+    (0..count).map(move |i| {
+        let mut one = || if i % 3 == 0 && !real.is_empty() { real[rng.below(real.len())].clone() } else { grammar.any() };
+        let (symbol, other) = (one(), one());
+        symbols::damaged(&mut rng, &symbol, &other)
+    })
+}
+
+fn high_symbols(seed: u64, count: usize) -> impl Iterator<Item = Vec<u8>> {
+    let (mut grammar, mut rng) = (Grammar::new(seed ^ 0x41f), Rng::new(seed ^ 0x80));
+    (0..count).map(move |_| {
+        let symbol = grammar.any();
+        symbols::high(&mut rng, &symbol)
+    })
+}
+
+/// Chains and open readings, and the same behind a thunk's offsets.
+fn chain_symbols(seed: u64) -> impl Iterator<Item = Vec<u8>> {
+    let plain: Vec<String> = symbols::long_chains().into_iter().chain(symbols::opened(&mut Rng::new(seed), 40)).collect();
+    plain.clone().into_iter().chain(symbols::thunked(plain.into_iter())).map(String::into_bytes)
+}
+
 /// Short thunks, those of the papers and near the limits, and so many generated ones.
 fn thunk_symbols(seed: u64, count: usize) -> impl Iterator<Item = Vec<u8>> {
     let papers = thunks::PAPER.iter().map(|(symbol, ..)| symbol.as_bytes().to_vec());
@@ -714,36 +745,63 @@ fn on_large_stack<T: Send + 'static>(run: impl FnOnce() -> T + Send + 'static) -
     std::thread::Builder::new().stack_size(1 << 30).spawn(run).unwrap().join().unwrap()
 }
 
-fn main() -> ExitCode {
+/// What a process that a comparison starts does, by its first word; whether this is one.
+fn started() -> bool {
     match std::env::args().nth(1).as_deref() {
-        Some("--answer") => {
-            answer_all(false);
-            return ExitCode::SUCCESS;
-        }
-        Some("--answer-carefully") => {
-            answer_all(true);
-            return ExitCode::SUCCESS;
-        }
+        Some("--answer") => answer_all(false),
+        Some("--answer-carefully") => answer_all(true),
         Some("--stand-in") => {
             let which: usize = std::env::args().nth(2).and_then(|n| n.parse().ok()).unwrap_or(0);
             on_large_stack(move || stand_in(if which == 0 { Mistake::No } else { thunks::MISTAKES[which - 1].0 }));
-            return ExitCode::SUCCESS;
         }
-        _ => {}
+        _ => return false,
     }
-    let o = options();
-    if o.selftest {
-        let sound = on_large_stack(move || selftest(o.seed, o.count.unwrap_or(20_000)));
-        return if sound { ExitCode::SUCCESS } else { ExitCode::FAILURE };
+    true
+}
+
+impl Comparison {
+    /// Compares one of `KINDS`.
+    fn chosen(&mut self, kind: &str, o: &Options, real: &[Vec<u8>]) {
+        let count = |usual: usize| o.count.unwrap_or(usual);
+        match kind {
+            "systematic" => self.kind(kind, distinct(symbols::systematic().into_iter()).take(count(usize::MAX))),
+            "short" => self.kind(kind, distinct(short(o.seed, o.count))),
+            "grammar" => self.kind(kind, distinct(grammar_symbols(Grammar::new(o.seed), count(1_000_000)))),
+            "grown" => self.kind(kind, distinct(grammar_symbols(Grammar::grown(o.seed), count(100_000)))),
+            "damaged" => self.kind(kind, distinct(damaged_symbols(o.seed, count(1_000_000), real))),
+            "high" => self.kind(kind, distinct(high_symbols(o.seed, count(20_000)))),
+            "limits" => {
+                for (family, made) in symbols::limits(&mut Rng::new(o.seed)) {
+                    self.kind(&format!("limits, {family}"), distinct(made.into_iter().map(String::into_bytes)));
+                }
+            }
+            "chains-small-stack" => {
+                self.listing.stack = Some(o.small_stack);
+                self.kind(&format!("chains and open readings, machine stack of {} KiB", o.small_stack), distinct(chain_symbols(o.seed)));
+                self.listing.stack = o.stack;
+            }
+            "thunks" => self.thunks(o.seed, count(1_000_000)),
+            _ => self.kind(kind, distinct(real.iter().cloned()).take(count(usize::MAX))),
+        }
     }
-    let mut comparison = Comparison {
-        listing: Listing { program: vec![o.list.clone()], stack: o.stack, seconds: o.seconds, failing: o.failing, failures: 0 },
-        numbers: o.numbers,
-        counts: vec![],
-        differences: 0,
-        batches: 0,
-        quiet: false,
-    };
+
+    fn report(&self, seed: u64) {
+        let total: usize = self.counts.iter().map(|(_, c)| c.symbols()).sum();
+        let mut codes: BTreeMap<u8, usize> = BTreeMap::new();
+        for (code, n) in self.counts.iter().flat_map(|(_, c)| &c.codes) {
+            *codes.entry(*code).or_default() += n;
+        }
+        let codes: Vec<String> = codes.iter().map(|(code, n)| format!("{code}: {n}")).collect();
+        let struck: usize = self.counts.iter().map(|(_, c)| c.struck).sum();
+        let differences = self.differences;
+        println!("seed {seed}: {total} symbols, of them struck as thunks {struck}, {differences} differences; codes {}", codes.join(", "));
+    }
+}
+
+/// Whether there is no difference.
+fn compared(o: &Options) -> bool {
+    let listing = Listing { program: vec![o.list.clone()], stack: o.stack, seconds: o.seconds, failing: o.failing.clone(), failures: 0 };
+    let mut comparison = Comparison { listing, numbers: o.numbers, counts: vec![], differences: 0, batches: 0, quiet: false };
     if let Some(file) = &o.symbols {
         comparison.kind("given", lines_of(file).into_iter());
     }
@@ -753,62 +811,17 @@ fn main() -> ExitCode {
     let real = o.real.as_deref().map(lines_of).unwrap_or_default();
     let all = o.kinds.is_empty() && o.symbols.is_none() && o.hex.is_empty();
     for kind in KINDS.iter().filter(|k| all || o.kinds.iter().any(|chosen| chosen == *k)) {
-        let count = |usual: usize| o.count.unwrap_or(usual);
-        match *kind {
-            "systematic" => comparison.kind(kind, distinct(symbols::systematic().into_iter()).take(count(usize::MAX))),
-            "short" => comparison.kind(kind, distinct(short(o.seed, o.count))),
-            "grammar" => {
-                let mut grammar = Grammar::new(o.seed);
-                comparison.kind(kind, distinct((0..count(1_000_000)).map(|_| grammar.any())));
-            }
-            "grown" => {
-                let mut grammar = Grammar::grown(o.seed);
-                comparison.kind(kind, distinct((0..count(100_000)).map(|_| grammar.any())));
-            }
-            "damaged" => {
-                let mut grammar = Grammar::new(o.seed ^ 0x5eed);
-                let mut rng = Rng::new(o.seed ^ 0xda3a);
-                let made = (0..count(1_000_000)).map(|i| {
-                    let mut one = || if i % 3 == 0 && !real.is_empty() { real[rng.below(real.len())].clone() } else { grammar.any() };
-                    let (symbol, other) = (one(), one());
-                    symbols::damaged(&mut rng, &symbol, &other)
-                });
-                comparison.kind(kind, distinct(made));
-            }
-            "high" => {
-                let mut grammar = Grammar::new(o.seed ^ 0x41f);
-                let mut rng = Rng::new(o.seed ^ 0x80);
-                let made = (0..count(20_000)).map(|_| {
-                    let symbol = grammar.any();
-                    symbols::high(&mut rng, &symbol)
-                });
-                comparison.kind(kind, distinct(made));
-            }
-            "limits" => {
-                for (family, made) in symbols::limits(&mut Rng::new(o.seed)) {
-                    comparison.kind(&format!("limits, {family}"), distinct(made.into_iter().map(String::into_bytes)));
-                }
-            }
-            "chains-small-stack" => {
-                comparison.listing.stack = Some(o.small_stack);
-                let plain: Vec<String> = symbols::long_chains().into_iter().chain(symbols::opened(&mut Rng::new(o.seed), 40)).collect();
-                let made = plain.clone().into_iter().chain(symbols::thunked(plain.into_iter()));
-                let kind = format!("chains and open readings, machine stack of {} KiB", o.small_stack);
-                comparison.kind(&kind, distinct(made.map(String::into_bytes)));
-                comparison.listing.stack = o.stack;
-            }
-            "thunks" => comparison.thunks(o.seed, count(1_000_000)),
-            _ => comparison.kind(kind, distinct(real.iter().cloned()).take(count(usize::MAX))),
-        }
+        comparison.chosen(kind, o, &real);
     }
-    let total: usize = comparison.counts.iter().map(|(_, c)| c.symbols()).sum();
-    let mut codes: BTreeMap<u8, usize> = BTreeMap::new();
-    for (code, n) in comparison.counts.iter().flat_map(|(_, c)| &c.codes) {
-        *codes.entry(*code).or_default() += n;
+    comparison.report(o.seed);
+    comparison.differences == 0
+}
+
+fn main() -> ExitCode {
+    if started() {
+        return ExitCode::SUCCESS;
     }
-    let codes: Vec<String> = codes.iter().map(|(code, n)| format!("{code}: {n}")).collect();
-    let struck: usize = comparison.counts.iter().map(|(_, c)| c.struck).sum();
-    let (seed, differences) = (o.seed, comparison.differences);
-    println!("seed {seed}: {total} symbols, of them struck as thunks {struck}, {differences} differences; codes {}", codes.join(", "));
-    if comparison.differences > 0 { ExitCode::FAILURE } else { ExitCode::SUCCESS }
+    let o = options();
+    let sound = if o.selftest { on_large_stack(move || selftest(o.seed, o.count.unwrap_or(20_000))) } else { compared(&o) };
+    if sound { ExitCode::SUCCESS } else { ExitCode::FAILURE }
 }
