@@ -316,6 +316,30 @@ fn below_limits(symbol: &[u8]) -> bool {
     symbol.len() <= if has(b"\x01") { 16 } else if has(b"F") { 18 } else if has(b"ST") { 32 } else { 40 }
 }
 
+/// What doesn't fit the Rust's answer, or the papers' of a thunk, if anything.
+fn unfit(symbol: &[u8], answer: &Answer, code: u8, name: &[u8]) -> Option<String> {
+    let limit = LIMITS.contains(&code);
+    if limit && matches!(answer, Answer::Name(..) | Answer::None) && below_limits(symbol) {
+        return Some("too short for a limit".into());
+    }
+    let fits = match answer {
+        Answer::Name(_, length) if code == 0 && *length > MOST_TEXT => return Some("the name has more than 16,384 bytes".into()),
+        Answer::Name(expected, _) if code == 0 && name != expected => return Some("another name".into()),
+        Answer::Name(..) => code == 0 || limit,
+        Answer::None => limit || NONE.contains(&code),
+        Answer::Overflow => {
+            let text = symbol.to_ascii_lowercase();
+            let has = |digits: &[u8]| text.windows(digits.len()).any(|w| w == digits);
+            let (s, t) = (has(b"3w5e11264sgsf_"), has(b"18446744073709551615_"));
+            limit || s && code == 7 || t && code == 4
+        }
+        Answer::TooLarge => limit,
+        Answer::NotAsked => unreachable!(),
+    };
+    let whose = if thunks::is_struck(symbol) { "the papers'" } else { "the Rust's" };
+    if fits { None } else { Some(format!("a code that doesn't fit {whose} answer")) }
+}
+
 /// What is wrong with a line, if anything. `numbers` asks for the very number too.
 fn wrong(symbol: &[u8], reference: &Reference, line: &[u8], numbers: bool) -> Option<String> {
     let (code, name) = match taken_apart(line) {
@@ -332,38 +356,8 @@ fn wrong(symbol: &[u8], reference: &Reference, line: &[u8], numbers: bool) -> Op
     if !symbol.starts_with(b"_Z") && !symbol.starts_with(b"__Z") {
         return must(3, "no _Z or __Z in front");
     }
-    let limit = LIMITS.contains(&code);
-    let fits = match &reference.answer {
-        Answer::Name(expected, length) => {
-            if code == 0 && *length > MOST_TEXT {
-                return Some("the name has more than 16,384 bytes".into());
-            }
-            if code == 0 && name != expected {
-                return Some("another name".into());
-            }
-            if limit && below_limits(symbol) {
-                return Some("too short for a limit".into());
-            }
-            code == 0 || limit
-        }
-        Answer::None => {
-            if limit && below_limits(symbol) {
-                return Some("too short for a limit".into());
-            }
-            limit || NONE.contains(&code)
-        }
-        Answer::Overflow => {
-            let text = symbol.to_ascii_lowercase();
-            let has = |digits: &[u8]| text.windows(digits.len()).any(|w| w == digits);
-            let (s, t) = (has(b"3w5e11264sgsf_"), has(b"18446744073709551615_"));
-            limit || s && code == 7 || t && code == 4
-        }
-        Answer::TooLarge => limit,
-        Answer::NotAsked => unreachable!(),
-    };
-    if !fits {
-        let whose = if thunks::is_struck(symbol) { "the papers'" } else { "the Rust's" };
-        return Some(format!("a code that doesn't fit {whose} answer"));
+    if let Some(why) = unfit(symbol, &reference.answer, code, name) {
+        return Some(why);
     }
     match reference.number {
         // what the papers say of thunks is all that there is, numbers too
