@@ -129,12 +129,14 @@ fn listed(number: u8, line: &[u8]) -> Vec<u8> {
     [format!("{number},{},", name.len()).as_bytes(), name, b"\n"].concat()
 }
 
-fn write(folder: &str, differences: &str, real: &str, seed: u64) {
+type Groups = Vec<(&'static str, Vec<Vec<u8>>)>;
+
+/// All symbols. The numbers by chance are drawn in this order.
+fn groups(differences: &str, real: &str, seed: u64) -> Groups {
     let mut rng = Rng::new(seed);
     let mut grammar = Grammar::new(seed);
-    let mut groups: Vec<(&str, Vec<Vec<u8>>)> = vec![];
     let bytes = |texts: Vec<String>| texts.into_iter().map(String::into_bytes).collect::<Vec<_>>();
-    groups.push(("document 01 and words", bytes(by_hand())));
+    let mut groups: Groups = vec![("document 01 and words", bytes(by_hand()))];
     groups.push(("docs/DIFFERENCES.md", lines_of(differences)));
     groups.push(("systematic", spread(&symbols::systematic(), 500)));
     for (family, made) in symbols::few_limits(&mut rng) {
@@ -143,8 +145,7 @@ fn write(folder: &str, differences: &str, real: &str, seed: u64) {
     groups.push(("grammar", (0..1300).map(|_| grammar.any()).collect()));
     let mut grown = Grammar::grown(seed);
     groups.push(("grown", (0..150).map(|_| grown.any()).filter(|s| s.len() < 2000).collect()));
-    let real = lines_of(real);
-    let short: Vec<Vec<u8>> = real.into_iter().filter(|s| s.len() <= 400).collect();
+    let short: Vec<Vec<u8>> = lines_of(real).into_iter().filter(|s| s.len() <= 400).collect();
     let from = rng.below(97);
     groups.push(("real", spread(&short[from.min(short.len())..], 500)));
     let made = (0..1000).map(|i| {
@@ -157,41 +158,63 @@ fn write(folder: &str, differences: &str, real: &str, seed: u64) {
     groups.push(("thunks", thunks_by_hand(seed)));
     // a last line without line feed
     groups.push(("the last", vec![b"_Z4lastv".to_vec()]));
+    groups
+}
 
-    let (mut given, mut names, mut codes) = (vec![], vec![], String::new());
-    let mut listing = b"code,bytes,name\n".to_vec();
+/// The four files, by lines.
+#[derive(Default)]
+struct Stored {
+    symbols: Vec<Vec<u8>>,
+    names: Vec<Vec<u8>>,
+    codes: Vec<u8>,
+    listing: Vec<u8>,
+}
+
+impl Stored {
+    fn add(&mut self, symbol: Vec<u8>) {
+        let (number, line) = answer(&symbol);
+        self.symbols.push(symbol);
+        self.listing.extend(listed(number, &line));
+        self.names.push(line);
+        self.codes.push(number);
+    }
+
+    fn write(&self, folder: &str) {
+        let file = |name: &str| std::path::Path::new(folder).join(name);
+        let ended = |lines: &[Vec<u8>]| lines.iter().flat_map(|line| [line, &b"\n"[..]].concat()).collect::<Vec<u8>>();
+        let codes: Vec<String> = self.codes.iter().map(|number| format!("{number}\n")).collect();
+        std::fs::write(file("stdin"), self.symbols.join(&b'\n')).unwrap();
+        std::fs::write(file("expected-names"), ended(&self.names)).unwrap();
+        std::fs::write(file("expected-codes"), codes.concat()).unwrap();
+        std::fs::write(file("stdout"), [b"code,bytes,name\n", &self.listing[..]].concat()).unwrap();
+    }
+}
+
+fn write(folder: &str, differences: &str, real: &str, seed: u64) {
+    let mut stored = Stored::default();
     let mut seen: HashSet<Vec<u8>> = HashSet::new();
-    let mut total: BTreeMap<u8, usize> = BTreeMap::new();
-    for (group, made) in groups {
-        let mut counts: BTreeMap<u8, usize> = BTreeMap::new();
+    for (group, made) in groups(differences, real, seed) {
+        let before = stored.codes.len();
         for symbol in made {
             assert!(!symbol.contains(&b'\n'));
-            if !seen.insert(symbol.clone()) {
-                continue;
+            if seen.insert(symbol.clone()) {
+                stored.add(symbol);
             }
-            let (number, line) = answer(&symbol);
-            *counts.entry(number).or_default() += 1;
-            *total.entry(number).or_default() += 1;
-            if !given.is_empty() || !names.is_empty() {
-                given.push(b'\n');
-            }
-            given.extend(symbol);
-            listing.extend(listed(number, &line));
-            names.extend(line);
-            names.push(b'\n');
-            codes += &format!("{number}\n");
         }
-        println!("{group}: {} symbols, {}", counts.values().sum::<usize>(), told(&counts));
+        println!("{group}: {} symbols, {}", stored.codes.len() - before, told(&counted(&stored.codes[before..])));
     }
-    println!("{} symbols, {} bytes; {}", seen.len(), given.len(), told(&total));
+    let total = counted(&stored.codes);
+    println!("{} symbols, {} bytes; {}", seen.len(), stored.symbols.join(&b'\n').len(), told(&total));
     for number in [0, 1, 2, 3, 4, 5, 7, 8, 9, 10, 11] {
         assert!(total.contains_key(&number), "no symbol has the number {number}");
     }
-    let file = |name: &str| std::path::Path::new(folder).join(name);
-    std::fs::write(file("stdin"), given).unwrap();
-    std::fs::write(file("expected-names"), names).unwrap();
-    std::fs::write(file("expected-codes"), codes).unwrap();
-    std::fs::write(file("stdout"), listing).unwrap();
+    stored.write(folder);
+}
+
+fn counted(codes: &[u8]) -> BTreeMap<u8, usize> {
+    let mut counts = BTreeMap::new();
+    codes.iter().for_each(|number| *counts.entry(*number).or_default() += 1);
+    counts
 }
 
 fn told(counts: &BTreeMap<u8, usize>) -> String {
