@@ -82,6 +82,8 @@ pub enum Mistake {
     Words,
     /// `N` is written around one part with arguments.
     Nested,
+    /// 36 in base 36 is one digit, the byte behind Z.
+    Digits,
 }
 
 // ---------------------------------------------------------------- the table
@@ -426,7 +428,7 @@ impl Writer<'_> {
         }
         let found: Vec<_> = self.table.places(tree).into_iter().map(|place| (0, place)).collect();
         if let Some((_, place)) = self.chosen(&found).filter(|(_, place)| !self.shorter_in_full(tree, *place)) {
-            self.out += &entry(place);
+            self.out += &self.reference(place);
             return;
         }
         match &**tree {
@@ -452,6 +454,10 @@ impl Writer<'_> {
         self.mistake == Mistake::Shortest && in_full < entry(place).len()
     }
 
+    fn reference(&self, place: usize) -> String {
+        if self.mistake == Mistake::Digits && place == 37 { "S[_".into() } else { entry(place) }
+    }
+
     /// Writes a reference to leading steps, if there is one and it is taken, and says how many they are.
     fn stretch(&mut self, steps: &[Step]) -> usize {
         let mut found = vec![];
@@ -461,7 +467,7 @@ impl Writer<'_> {
             found.extend(places.into_iter().map(|place| (n, place)));
         }
         let Some((n, place)) = self.chosen(&found) else { return 0 };
-        self.out += &entry(place);
+        self.out += &self.reference(place);
         n
     }
 
@@ -1155,11 +1161,15 @@ fn two_letters(i: usize) -> String {
     if i < 676 { format!("2{}{}", letter(i), letter(i / 26)) } else { format!("2{}{}", letter(i).to_ascii_uppercase(), letter((i - 676) / 26)) }
 }
 
+fn classes(n: usize) -> String {
+    (0..n).map(two_letters).collect()
+}
+
 /// About 1,024 entries, all different or equal, and about 32,768 bytes of them.
 pub fn full_tables(entries: std::ops::RangeInclusive<usize>, bytes: std::ops::RangeInclusive<usize>) -> Vec<String> {
     let mut out = vec![];
     for n in entries {
-        let all: String = (0..n).map(two_letters).collect();
+        let all = classes(n);
         out.push(format!("_Z1f{all}"));
         out.push(format!("_Z1f{all}S_{}", entry(n - 1)));
         out.push(format!("_Z1f{all}{}", entry(n)));
@@ -1182,6 +1192,13 @@ pub fn full_tables(entries: std::ops::RangeInclusive<usize>, bytes: std::ops::Ra
         out.push(format!("_ZN{}{}1cE{}", long_class(3250), times("1b", 9), long_class(total - 10 * 3250 - 3 * 45)));
     }
     out
+}
+
+/// A reference to each entry of a full table, 200 to a symbol; and 512 classes that all stand a second time in full.
+pub fn references() -> Vec<String> {
+    let places: Vec<usize> = (0..1024).collect();
+    let given = places.chunks(200).map(|some| format!("_Z1f{}{}", classes(1024), some.iter().map(|i| entry(*i)).collect::<String>()));
+    given.chain([format!("_Z1f{}{}", classes(512), classes(512))]).collect()
 }
 
 /// Texts of about 16,384 bytes and arguments of about 32,768.

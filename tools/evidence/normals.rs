@@ -42,6 +42,7 @@ const STAND_INS: &[(&str, &str)] = &[
     ("twice", "a nested class that ends in arguments entered twice"),
     ("words", "words such as int taken as names"),
     ("nested", "N around one part"),
+    ("digits", "36 in base 36 as one digit"),
     ("thunk-refused", "4 for thunks"),
     ("thunk-base", "the normal symbol of what stands behind a thunk's offsets"),
 ];
@@ -60,6 +61,7 @@ fn mistake(stand_in: &str) -> Mistake {
         "twice" => Mistake::Twice,
         "words" => Mistake::Words,
         "nested" => Mistake::Nested,
+        "digits" => Mistake::Digits,
         _ => Mistake::No,
     }
 }
@@ -544,6 +546,7 @@ fn limits(seed: u64, wide: usize) -> Vec<(&'static str, Vec<Vec<u8>>)> {
         ("catalogue symbols by arguments", bytes(catalogue::argument_counts(about(1024)))),
         ("catalogue symbols by open readings", bytes(catalogue::depths(about(96)))),
         ("catalogue symbols by entries", bytes(catalogue::full_tables(about(1024), about(32768)))),
+        ("catalogue symbols by references", bytes(catalogue::references())),
         ("catalogue symbols by texts", bytes(catalogue::long_texts(about(16384), about(32768)))),
         ("catalogue symbols by lengths", bytes(lengths(seed, about(4096), 40))),
     ];

@@ -123,6 +123,7 @@ fn limits(rng: &mut Rng) -> Vec<(&'static str, Vec<Vec<u8>>)> {
         ("arguments", bytes(catalogue::argument_counts(1024..=1025))),
         ("open readings", bytes(catalogue::depths(95..=97))),
         ("entries", bytes(catalogue::full_tables(1024..=1025, 32768..=32769))),
+        ("references", bytes(catalogue::references())),
         ("texts", bytes(catalogue::long_texts(16384..=16385, 32768..=32769))),
     ];
     for (family, made) in symbols::few_limits(rng) {

@@ -15,5 +15,6 @@ pub mod Parts
 pub mod Regions
 pub mod Rows
 pub mod Seeks
+pub mod SeqIds
 pub mod WrittenAt
 pub mod Carries

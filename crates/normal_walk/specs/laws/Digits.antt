@@ -181,7 +181,7 @@ unfolding base36 if_then_else_
 base36-one zero a h = refl
 base36-one (suc k) a h = rw (lt-ltb a 36 h) refl
 
-base36-fuel : (k m a : ℕ) → a ≤ k → a ≤ m → base36 k a ≡ base36 m a
+pub base36-fuel : (k m a : ℕ) → a ≤ k → a ≤ m → base36 k a ≡ base36 m a
 unfolding base36 if_then_else_
 base36-fuel zero m a h l = sym (base36-one m a (omega arith))
 base36-fuel (suc k) zero a h l = base36-one (suc k) a (omega arith)
@@ -192,7 +192,7 @@ base36-fuel (suc k) (suc m) a h l = go (λ g g′. base36-fuel k m (a / 36) g g�
     go ih true e = refl
     go ih false e = let z = ltb-false a 36 e in rw (ih (omega arith) (omega arith)) refl
 
-base36-snoc : (k a v : ℕ) → 1 ≤ a → v < 36 → a * 36 + v ≤ k → base36 k (a * 36 + v) ≡ base36 k a ++ (digit-of v ∷ [])
+pub base36-snoc : (k a v : ℕ) → 1 ≤ a → v < 36 → a * 36 + v ≤ k → base36 k (a * 36 + v) ≡ base36 k a ++ (digit-of v ∷ [])
 unfolding base36 if_then_else_
 base36-snoc zero a v h l g = absurd (omega arith)
 base36-snoc (suc k) a v h l g =
