@@ -35,11 +35,11 @@ normal-symbol s = normal-after s (demangle most-symbol-bytes s)
 
 -- it shares the work slices of the entry for names, and needs more of `ends`: four numbers for each node, and one for each entry of two tables,
 -- of all which a symbol has at most as many as bytes
-abbrev pub least-normal-ends : ℕ
-least-normal-ends = 6 * most-symbol-bytes
+abbrev pub least-numbers : ℕ
+least-numbers = 2 * most-symbol-bytes
 
 unfoldable pub normal-work-fits : Lent → Bool
-normal-work-fits l = leb least-text (l .text) && leb least-store (l .store) && leb least-normal-ends (l .ends)
+normal-work-fits l = leb least-text (l .text) && leb least-store (l .store) && leb least-numbers (l .ends)
 
 -- 14 is told after 1 to 3 and before the reading, 12 at the end
 unfoldable pub normal-answer : Lent → Text → Answer

@@ -5,3 +5,4 @@ pub mod Numbers
 pub mod Related
 pub mod Productions
 pub mod Equal
+pub mod Numbered

@@ -5,8 +5,8 @@ pub mod Answers
 pub mod Leads
 pub mod WrittenAt
 pub mod States
-pub mod Carries
 pub mod Seeks
 pub mod Rows
-pub mod Regions
+pub mod Chains
+pub mod Carries
 pub mod laws

@@ -1,15 +1,19 @@
--- Laws of the nodes in a slice, four numbers for each. Assumes nothing.
-use mathlib.Core.List.{List, [], _∷_}
-use Prim.Native.Nat.{ℕ, zero, suc, _+_, _-_}
-use lib.ListN.{drop, getD}
-use Rattle.normal_steps.specs.Carries.{Row}
-use Rattle.normal_steps.specs.laws.Carries.{row}
+-- The nodes in two slices, two numbers for each: its tag and the number below stand in e, the place of its word in the symbol in w.
+use mathlib.Core.List.{List, [], _∷_, _++_}
+use Prim.Native.Nat.{ℕ, zero, suc, _+_, _*_, _≤_, _<_}
+use lib.ListN.{length, getD}
+use Rattle.grammar.specs.Text.{Text}
+use Rattle.normal_nodes.specs.Nodes.{Node, node}
+use Rattle.normal_steps.specs.Parts.{part}
 
--- the node at a place
-abbrev pub row-at : List ℕ → ℕ → Row
-row-at l at = row (getD l at 0) (getD l (at + 1) 0) (getD l (at + 2) 0) (getD l (at + 3) 0)
+abbrev pub node-at : Text → Text → Text → ℕ → Node
+node-at s e w i = node (getD e (2 * i) 0) (getD e (2 * i + 1) 0) (part s (getD w (2 * i) 0) (getD w (2 * i + 1) 0))
 
 -- the first n nodes
-unfoldable pub rows-of : ℕ → List ℕ → List Row
-rows-of zero l = []
-rows-of (suc n) l = row-at l 0 ∷ rows-of n (drop 4 l)
+unfoldable pub nodes-of : Text → Text → Text → ℕ → List Node
+nodes-of s e w zero = []
+nodes-of s e w (suc n) = nodes-of s e w n ++ (node-at s e w n ∷ [])
+
+-- their words stand in the symbol
+abbrev pub Inside : Text → Text → ℕ → Type 0
+Inside s w n = (i : ℕ) → i < n → (getD w (2 * i) 0 ≤ getD w (2 * i + 1) 0) × (getD w (2 * i + 1) 0 ≤ length s)

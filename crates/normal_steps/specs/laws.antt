@@ -12,9 +12,10 @@ pub mod Steps
 pub mod LeafSteps
 pub mod Leads
 pub mod Parts
-pub mod Regions
 pub mod Rows
 pub mod Seeks
 pub mod SeqIds
 pub mod WrittenAt
-pub mod Carries
+pub mod Chains
+pub mod Tabled
+pub mod Found

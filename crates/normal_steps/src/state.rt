@@ -25,14 +25,12 @@ pub enum Told {
 }
 
 impl Writer {
-    // Where the parts of the slice `notes` begin, and its length.
-    pub const TABLE: usize = 4 * Parser::SYMBOL;
+    // Where the second half of a slice of numbers begins, and its length.
+    pub const MIDDLE: usize = Parser::SYMBOL;
 
-    pub const FIRSTS: usize = Writer::TABLE + Parser::SYMBOL;
+    pub const NUMBERS: usize = 2 * Parser::SYMBOL;
 
-    pub const NOTES: usize = Writer::FIRSTS + Parser::SYMBOL;
-
-    pub const OUT: usize = 16 * Parser::SYMBOL;
+    pub const OUT: usize = 4 * Parser::SYMBOL;
 
     // The number of the first node.
     pub const LEAST: usize = 256;

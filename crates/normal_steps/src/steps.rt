@@ -14,7 +14,8 @@ ghost use lib.Dec.{eqb};
 ghost use lib.ListN.{length};
 ghost use Rattle.grammar.specs.Text.{Text};
 ghost use Rattle.normal_nodes.specs.Nodes.{note-at-name, at-reference, a-bare, a-class, may-stand, signed-kind, entered, entered-nested};
-ghost use Rattle.normal_steps.specs.Carries.{Work, work, notes-to, Ready, ReadyOut, ReadyNotes, Room, Reads, Steps, Does, Copies, Closes, most-number};
+ghost use Rattle.normal_steps.specs.Carries.{Work, work, out-to, tables-to, ends-to, notes-to, Ready, ReadyOut, ReadyBoth, ReadyThree, ReadyNotes};
+ghost use Rattle.normal_steps.specs.Carries.{Numbered, Stretch, Room, Spare, Reads, Steps, Does, Copies, Closes, most-number};
 ghost use Rattle.normal_steps.specs.Carries.{at-literal, at-part, counts-arg, wraps};
 
 // The next byte is written, and taken.
@@ -28,16 +29,26 @@ pub fn copy_byte(s: &[u8], out: &mut [u8], p: Writer) -> Writer
 
 // E is written.
 pub fn close(out: &mut [u8], p: Writer) -> Writer
-    requires { ⌜ (Room 0 0 1 p) × ((s : Text) × ReadyOut s (now out) p) ⌝ }
+    requires { ⌜ (Spare 1 p) × ((s : Text) × ReadyOut s (now out) p) ⌝ }
     ensures { λ r. ⌜ Closes (now (out .entry)) (now (out .exit)) p r ⌝ }
 {
     memory::put_byte(out, p, b'E')
 }
 
 // <source-name>, a first part
-pub fn first_name(s: &[u8], out: &mut [u8], notes: &mut [u16], p: Writer) -> Told
-    requires { ⌜ Ready (now s) (work (now out) (now notes)) p ⌝ }
-    ensures { λ r. ⌜ Reads 2 (p .out) (note-at-name (p .out)) (now (s .entry)) (work (now (out .entry)) (now (notes .entry))) (work (now (out .exit)) (now (notes .exit))) p r ⌝ }
+pub fn first_name(
+    s: &[u8],
+    out: &mut [u8],
+    ends: &mut [u16],
+    words: &mut [u16],
+    tables: &mut [u16],
+    chains: &mut [u16],
+    p: Writer,
+) -> Told
+    requires { ⌜ Ready (now s) (work (now out) (now ends) (now words) (now tables) (now chains)) p ⌝ }
+    ensures { λ r. ⌜ Reads 2 (p .out) (note-at-name (p .out)) (now (s .entry))
+        (work (now (out .entry)) (now (ends .entry)) (now (words .entry)) (now (tables .entry)) (now (chains .entry)))
+        (work (now (out .exit)) (now (ends .exit)) (now (words .exit)) (now (tables .exit)) (now (chains .exit))) p r ⌝ }
 {
     let at = p.at;
     let Named::At(from, to) = words::source_name(s, at) else {
@@ -45,16 +56,28 @@ pub fn first_name(s: &[u8], out: &mut [u8], notes: &mut [u16], p: Writer) -> Tol
     };
     let start = p.out;
     let named = memory::put_name(out, p.moved(to), s, from, to);
-    let Told::Number(noted, u) = memory::note(s, notes, named, b'0' as usize, 0, from, to) else {
+    let Told::Number(noted, u) = memory::note(
+        s,
+        ends,
+        words,
+        tables,
+        chains,
+        named,
+        b'0' as usize,
+        0,
+        from,
+        to,
+    ) else {
         return Told::Bad;
     };
-    Told::Number(enter(out, notes, noted, u, start), u)
+    Told::Number(enter(out, tables, noted, u, start), u)
 }
 
 // [<seq-id>] _, behind S: an entry of the table
-pub fn first_reference(s: &[u8], out: &mut [u8], notes: &mut [u16], p: Writer) -> Told
-    requires { ⌜ Ready (now s) (work (now out) (now notes)) p ⌝ }
-    ensures { λ r. ⌜ Reads 1 (p .out) (at-reference (p .out)) (now (s .entry)) (work (now (out .entry)) (now (notes .entry))) (work (now (out .exit)) (now (notes .exit))) p r ⌝ }
+pub fn first_reference(s: &[u8], out: &mut [u8], tables: &[u16], p: Writer) -> Told
+    requires { ⌜ (Spare 4 p) × ReadyBoth (now s) (now out) (now tables) p ⌝ }
+    ensures { λ r. ⌜ ((ws : Work) → Reads 1 (p .out) (at-reference (p .out)) (now (s .entry)) (tables-to (out-to ws (now (out .entry))) (now (tables .entry)))
+        (tables-to (out-to ws (now (out .exit))) (now (tables .entry))) p r) ⌝ }
 {
     let at = p.at;
     let Referred::To(i, end) = marks::reference(s, at) else {
@@ -63,9 +86,9 @@ pub fn first_reference(s: &[u8], out: &mut [u8], notes: &mut [u16], p: Writer) -
     if p.table <= i {
         return Told::Bad;
     }
-    let t = memory::entry(notes, p, i);
+    let t = memory::entry(tables, p, i);
     let start = p.out;
-    Told::Number(memory::settle(out, notes, p.moved(end), t, start), t)
+    Told::Number(memory::settle(out, tables, p.moved(end), t, start), t)
 }
 
 // The number of a literal's kind and sign.
@@ -79,9 +102,19 @@ fn signed(kind: u8, minus: bool) -> usize
 }
 
 // A literal, behind L
-pub fn literal(s: &[u8], out: &mut [u8], notes: &mut [u16], p: Writer) -> Told
-    requires { ⌜ Ready (now s) (work (now out) (now notes)) p ⌝ }
-    ensures { λ r. ⌜ Reads 1 (p .out) at-literal (now (s .entry)) (work (now (out .entry)) (now (notes .entry))) (work (now (out .exit)) (now (notes .exit))) p r ⌝ }
+pub fn literal(
+    s: &[u8],
+    out: &mut [u8],
+    ends: &mut [u16],
+    words: &mut [u16],
+    tables: &mut [u16],
+    chains: &mut [u16],
+    p: Writer,
+) -> Told
+    requires { ⌜ Ready (now s) (work (now out) (now ends) (now words) (now tables) (now chains)) p ⌝ }
+    ensures { λ r. ⌜ Reads 1 (p .out) at-literal (now (s .entry))
+        (work (now (out .entry)) (now (ends .entry)) (now (words .entry)) (now (tables .entry)) (now (chains .entry)))
+        (work (now (out .exit)) (now (ends .exit)) (now (words .exit)) (now (tables .exit)) (now (chains .exit))) p r ⌝ }
 {
     let at = p.at;
     let Valued::To(to, kind, minus, from) = marks::literal(s, at) else {
@@ -91,7 +124,10 @@ pub fn literal(s: &[u8], out: &mut [u8], notes: &mut [u16], p: Writer) -> Told
     let written = memory::put_part(out, marked, s, at, to);
     memory::note(
         s,
-        notes,
+        ends,
+        words,
+        tables,
+        chains,
         written,
         b'L' as usize,
         signed(kind, minus),
@@ -101,24 +137,68 @@ pub fn literal(s: &[u8], out: &mut [u8], notes: &mut [u16], p: Writer) -> Told
 }
 
 // One more part behind what has the number t
-pub fn part(s: &[u8], out: &mut [u8], notes: &mut [u16], p: Writer, t: usize) -> Told
-    requires { ⌜ (t < most-number) × Ready (now s) (work (now out) (now notes)) p ⌝ }
-    ensures { λ r. ⌜ Reads 1 (p .out) (at-part t) (now (s .entry)) (work (now (out .entry)) (now (notes .entry))) (work (now (out .exit)) (now (notes .exit))) p r ⌝ }
+pub fn part(
+    s: &[u8],
+    out: &mut [u8],
+    ends: &mut [u16],
+    words: &mut [u16],
+    tables: &mut [u16],
+    chains: &mut [u16],
+    p: Writer,
+    t: usize,
+) -> Told
+    requires { ⌜ (t < most-number) × Ready (now s) (work (now out) (now ends) (now words) (now tables) (now chains)) p ⌝ }
+    ensures { λ r. ⌜ Reads 1 (p .out) (at-part t) (now (s .entry))
+        (work (now (out .entry)) (now (ends .entry)) (now (words .entry)) (now (tables .entry)) (now (chains .entry)))
+        (work (now (out .exit)) (now (ends .exit)) (now (words .exit)) (now (tables .exit)) (now (chains .exit))) p r ⌝ }
 {
     let at = p.at;
     let Named::At(from, to) = words::source_name(s, at) else {
         return Told::Bad;
     };
     let named = memory::put_name(out, p.moved(to), s, from, to);
-    memory::note(s, notes, named, b'N' as usize, t, from, to)
+    memory::note(
+        s,
+        ends,
+        words,
+        tables,
+        chains,
+        named,
+        b'N' as usize,
+        t,
+        from,
+        to,
+    )
 }
 
 // The argument x behind what has the number t
-pub fn arg(s: &[u8], notes: &mut [u16], p: Writer, t: usize, x: usize) -> Told
-    requires { ⌜ (t < most-number) × ((x < most-number) × ((Room 1 0 0 p) × ReadyNotes (now s) (now notes) p)) ⌝ }
-    ensures { λ r. ⌜ ((ws : Work) → Steps 1 0 0 (p .out) (counts-arg t x) (now (s .entry)) (notes-to ws (now (notes .entry))) (notes-to ws (now (notes .exit))) p r) ⌝ }
+pub fn arg(
+    s: &[u8],
+    ends: &mut [u16],
+    words: &mut [u16],
+    tables: &mut [u16],
+    chains: &mut [u16],
+    p: Writer,
+    t: usize,
+    x: usize,
+) -> Told
+    requires { ⌜ (t < most-number) × ((x < most-number) × ((Room 1 0 p) × ReadyNotes (now s) (now ends) (now words) (now tables) (now chains) p)) ⌝ }
+    ensures { λ r. ⌜ ((ws : Work) → Steps 1 0 0 (p .out) (counts-arg t x) (now (s .entry))
+        (notes-to ws (now (ends .entry)) (now (words .entry)) (now (tables .entry)) (now (chains .entry)))
+        (notes-to ws (now (ends .exit)) (now (words .exit)) (now (tables .exit)) (now (chains .exit))) p r) ⌝ }
 {
-    let Told::Number(noted, u) = memory::note(s, notes, p, x + Writer::LEAST, t, 0, 0) else {
+    let Told::Number(noted, u) = memory::note(
+        s,
+        ends,
+        words,
+        tables,
+        chains,
+        p,
+        x + Writer::LEAST,
+        t,
+        0,
+        0,
+    ) else {
         return Told::Bad;
     };
     let args = noted.args;
@@ -171,42 +251,67 @@ pub fn class(tag: usize) -> bool
 pub fn wrap(
     s: &[u8],
     out: &mut [u8],
-    notes: &mut [u16],
+    ends: &mut [u16],
+    words: &mut [u16],
+    tables: &mut [u16],
+    chains: &mut [u16],
     p: Writer,
     c: u8,
     t: usize,
     from: usize,
 ) -> Told
-    requires { ⌜ (t < most-number) × ((from ≤ p .out) × ((Room 1 1 5 p) × Ready (now s) (work (now out) (now notes)) p)) ⌝ }
-    ensures { λ r. ⌜ Steps 1 1 5 from (wraps c t from) (now (s .entry)) (work (now (out .entry)) (now (notes .entry))) (work (now (out .exit)) (now (notes .exit))) p r ⌝ }
+    requires { ⌜ (t < most-number) × ((Stretch from p) × ((Room 1 1 p) × Ready (now s) (work (now out) (now ends) (now words) (now tables) (now chains)) p)) ⌝ }
+    ensures { λ r. ⌜ Steps 1 1 5 from (wraps c t from) (now (s .entry))
+        (work (now (out .entry)) (now (ends .entry)) (now (words .entry)) (now (tables .entry)) (now (chains .entry)))
+        (work (now (out .exit)) (now (ends .exit)) (now (words .exit)) (now (tables .exit)) (now (chains .exit))) p r ⌝ }
 {
-    if !may_stand(c, memory::tag_of(notes, p, t)) {
+    if !may_stand(c, memory::tag_of(ends, p, t)) {
         return Told::Bad;
     }
-    let Told::Number(noted, u) = memory::note(s, notes, p, c as usize, t, 0, 0) else {
+    let Told::Number(noted, u) = memory::note(
+        s,
+        ends,
+        words,
+        tables,
+        chains,
+        p,
+        c as usize,
+        t,
+        0,
+        0,
+    ) else {
         return Told::Bad;
     };
-    Told::Number(enter(out, notes, noted, u, from), u)
+    Told::Number(enter(out, tables, noted, u, from), u)
 }
 
 // What has the number u enters the table.
-pub fn enter(out: &mut [u8], notes: &mut [u16], p: Writer, u: usize, from: usize) -> Writer
-    requires { ⌜ (u < most-number) × ((from ≤ p .out) × ((Room 0 1 5 p) × ((s : Text) × Ready s (work (now out) (now notes)) p))) ⌝ }
-    ensures { λ r. ⌜ ((s : Text) → Does 0 1 5 from (entered u from) s (work (now (out .entry)) (now (notes .entry))) (work (now (out .exit)) (now (notes .exit))) p r) ⌝ }
+pub fn enter(out: &mut [u8], tables: &mut [u16], p: Writer, u: usize, from: usize) -> Writer
+    requires { ⌜ (Numbered p u) × ((Stretch from p) × ((Room 0 1 p) × ((s : Text) × ReadyBoth s (now out) (now tables) p))) ⌝ }
+    ensures { λ r. ⌜ ((s : Text) (ws : Work) → Does 0 1 5 from (entered u from) s (tables-to (out-to ws (now (out .entry))) (now (tables .entry)))
+        (tables-to (out-to ws (now (out .exit))) (now (tables .exit))) p r) ⌝ }
 {
-    let settled = memory::settle(out, notes, p, u, from);
-    memory::push(notes, settled, u)
+    let settled = memory::settle(out, tables, p, u, from);
+    memory::push(tables, settled, u)
 }
 
 // A nested type enters the table, where the newest entry is another.
-pub fn enter_nested(out: &mut [u8], notes: &mut [u16], p: Writer, u: usize, from: usize) -> Writer
-    requires { ⌜ (u < most-number) × ((from ≤ p .out) × ((Room 0 1 5 p) × ((s : Text) × Ready s (work (now out) (now notes)) p))) ⌝ }
-    ensures { λ r. ⌜ ((s : Text) → Does 0 1 5 from (entered-nested u from) s (work (now (out .entry)) (now (notes .entry))) (work (now (out .exit)) (now (notes .exit))) p r) ⌝ }
+pub fn enter_nested(
+    out: &mut [u8],
+    ends: &[u16],
+    tables: &mut [u16],
+    p: Writer,
+    u: usize,
+    from: usize,
+) -> Writer
+    requires { ⌜ (Numbered p u) × ((Stretch from p) × ((Room 0 1 p) × ((s : Text) × ReadyThree s (now out) (now ends) (now tables) p))) ⌝ }
+    ensures { λ r. ⌜ ((s : Text) (ws : Work) → Does 0 1 5 from (entered-nested u from) s (tables-to (ends-to (out-to ws (now (out .entry))) (now (ends .entry))) (now (tables .entry)))
+        (tables-to (ends-to (out-to ws (now (out .exit))) (now (ends .entry))) (now (tables .exit))) p r) ⌝ }
 {
-    if memory::tag_of(notes, p, u) == b'N' as usize {
-        if memory::newest(notes, p, u) {
-            return memory::settle(out, notes, p, u, from);
+    if memory::tag_of(ends, p, u) == b'N' as usize {
+        if memory::newest(tables, p, u) {
+            return memory::settle(out, tables, p, u, from);
         }
     }
-    enter(out, notes, p, u, from)
+    enter(out, tables, p, u, from)
 }

@@ -91,9 +91,9 @@ pub fn write_reference(out: &mut [u8], at: usize, i: usize) -> usize
     end + 1
 }
 
-// How many digits a number has, four at most.
+// How many digits a number has, five at most.
 fn decimal_length(n: usize) -> usize
-    requires { ⌜ n < 10000 ⌝ }
+    requires { ⌜ n < 100000 ⌝ }
     ensures { λ r. ⌜ r ≡ length (decimal (suc n) n) ⌝ }
 {
     if n < 10 {
@@ -105,12 +105,15 @@ fn decimal_length(n: usize) -> usize
     if n < 1000 {
         return 3;
     }
-    4
+    if n < 10000 {
+        return 4;
+    }
+    5
 }
 
-// A number of at most four digits.
+// A number of at most five digits.
 fn write_decimal(out: &mut [u8], at: usize, n: usize) -> usize
-    requires { ⌜ (n < 10000) × (at + length (decimal (suc n) n) ≤ length (now out)) ⌝ }
+    requires { ⌜ (n < 100000) × (at + length (decimal (suc n) n) ≤ length (now out)) ⌝ }
     ensures { λ r. ⌜ WrittenAt (now (out .entry)) (now (out .exit)) at r (decimal (suc n) n) ⌝ }
 {
     let end = at + decimal_length(n);

@@ -14,9 +14,9 @@ use Rattle.normal_steps.specs.declared.state.Told.{Told}
 abbrev pub Leads : Lead → ℕ → Text → Work → Work → Writer → Told → Type 0
 Leads l c s ws ws' p r =
     (σ : Notes) → Carries s ws p σ → (m : ℕ) → length s ≤ suc m + p .at → (t : Text) → σ .rest ≡ c ∷ t
-    → Refines s (Spent 1 (p .out) p) ws' r
+    → Refines s (Spent 1 4 (p .out) p) ws' r
     (note-at-lead l c (length (σ .out)) t σ (λ τ. note-type m τ) (λ u τ. note-args m u τ) (λ from τ. note-parts m from τ))
 
 -- arguments, if there are any
 abbrev pub WithArgs : ℕ → ℕ → Text → Work → Work → Writer → Told → Type 0
-WithArgs t from = Fueled 0 from 0 (λ m. note-with-args t from (λ u τ. note-args m u τ))
+WithArgs t from = Fueled 0 4 from 0 (λ m. note-with-args t from (λ u τ. note-args m u τ))

@@ -2,15 +2,13 @@
 use mathlib.Core.Bool.{Bool, false}
 use mathlib.Core.List.{[]}
 use mathlib.Core.Option.{Option, none, some}
-use mathlib.Core.Path.{_≡_}
 use Prim.Native.Nat.{ℕ, _+_, _≤_}
 use lib.ListN.{length, drop}
 use Rattle.grammar.specs.Text.{Text}
-use Rattle.catalogue.specs.Answer.{least-normal-ends}
 use Rattle.catalogue.specs.Spelling.{name-bytes}
 use Rattle.normal_walk.specs.Walk.{name}
 use Rattle.normal_nodes.specs.Nodes.{Notes, notes, Got, got, bad, with, begun, note-at-scoped, at-function, note-at-end, note-parts, note-types}
-use Rattle.normal_steps.specs.Carries.{Work, out-to, Carries}
+use Rattle.normal_steps.specs.Carries.{Work, out-to, Sized, Carries}
 use Rattle.normal_steps.specs.declared.state.Writer.{Writer}
 use Rattle.normal_writer.specs.declared.symbol.Headed.{Headed}
 use Rattle.normal_writer.specs.declared.symbol.Headed.the-variants.{Name, Bad as no-name}
@@ -34,7 +32,7 @@ abbrev pub at-plain : Text → Got Bool
 at-plain t = with (name t) (λ n r. got false (begun (name-bytes n) r))
 
 abbrev pub Plain : Text → Text → Headed → Type 0
-Plain s o' r = (ws : Work) → length (ws .notes) ≡ least-normal-ends → Heads s (out-to ws o') r (at-plain (drop 2 s))
+Plain s o' r = (ws : Work) → Sized (ws .ends) (ws .words) (ws .tables) (ws .chains) → Heads s (out-to ws o') r (at-plain (drop 2 s))
 
 -- a nested name, behind the word w
 abbrev pub Scoped : Text → Bool → Text → Work → Headed → Type 0

@@ -7,18 +7,28 @@ use normal_steps::memory;
 use normal_steps::state::Told;
 use normal_steps::state::Writer;
 use normal_steps::steps;
-ghost use Prim.Native.Nat.{ℕ, _≤_, _<_};
+ghost use Prim.Native.Nat.{ℕ, _<_};
 ghost use lib.ListN.{length};
 ghost use Rattle.catalogue.specs.Tree.{Wrap};
 ghost use Rattle.catalogue.specs.Recogniser.{lead-wrap, lead-digit, lead-S, lead-N};
 ghost use Rattle.normal_nodes.specs.Nodes.{note-type, note-args, note-parts, note-more};
-ghost use Rattle.normal_steps.specs.Carries.{work, Ready, Fueled, most-number};
+ghost use Rattle.normal_steps.specs.Carries.{work, Ready, Stretch, Fueled, most-number};
 ghost use Rattle.normal_writer.specs.Cycle.{Leads, WithArgs};
 
 // <type>, <template-arg>
-pub fn ty(s: &[u8], out: &mut [u8], notes: &mut [u16], p: Writer) -> Told
-    requires { ⌜ Ready (now s) (work (now out) (now notes)) p ⌝ }
-    ensures { λ r. ⌜ Fueled 1 (p .out) 0 note-type (now (s .entry)) (work (now (out .entry)) (now (notes .entry))) (work (now (out .exit)) (now (notes .exit))) p r ⌝ }
+pub fn ty(
+    s: &[u8],
+    out: &mut [u8],
+    ends: &mut [u16],
+    words: &mut [u16],
+    tables: &mut [u16],
+    chains: &mut [u16],
+    p: Writer,
+) -> Told
+    requires { ⌜ Ready (now s) (work (now out) (now ends) (now words) (now tables) (now chains)) p ⌝ }
+    ensures { λ r. ⌜ Fueled 1 4 (p .out) 0 note-type (now (s .entry))
+        (work (now (out .entry)) (now (ends .entry)) (now (words .entry)) (now (tables .entry)) (now (chains .entry)))
+        (work (now (out .exit)) (now (ends .exit)) (now (words .exit)) (now (tables .exit)) (now (chains .exit))) p r ⌝ }
 {
     let at = p.at;
     if s.len() <= at {
@@ -27,84 +37,139 @@ pub fn ty(s: &[u8], out: &mut [u8], notes: &mut [u16], p: Writer) -> Told
     let c = s[at];
     match lead::lead_of(c) {
         Lead::Letter => Told::Number(steps::copy_byte(s, out, p), c as usize),
-        Lead::Wrap => wrap(s, out, notes, p, c),
-        Lead::Digit => named(s, out, notes, p),
-        Lead::S => referred(s, out, notes, p),
-        Lead::N => nested(s, out, notes, p),
-        Lead::L => steps::literal(s, out, notes, p.moved(at + 1)),
+        Lead::Wrap => wrap(s, out, ends, words, tables, chains, p, c),
+        Lead::Digit => named(s, out, ends, words, tables, chains, p),
+        Lead::S => referred(s, out, ends, words, tables, chains, p),
+        Lead::N => nested(s, out, ends, words, tables, chains, p),
+        Lead::L => steps::literal(s, out, ends, words, tables, chains, p.moved(at + 1)),
         Lead::None => Told::Bad,
     }
 }
 
 // P R O K V <type>
-fn wrap(s: &[u8], out: &mut [u8], notes: &mut [u16], p: Writer, c: u8) -> Told
-    requires { ⌜ (p .at < length (now s)) × Ready (now s) (work (now out) (now notes)) p ⌝ }
-    ensures { λ r. ⌜ ((q : Wrap) → Leads (lead-wrap q) c (now (s .entry)) (work (now (out .entry)) (now (notes .entry))) (work (now (out .exit)) (now (notes .exit))) p r) ⌝ }
+fn wrap(
+    s: &[u8],
+    out: &mut [u8],
+    ends: &mut [u16],
+    words: &mut [u16],
+    tables: &mut [u16],
+    chains: &mut [u16],
+    p: Writer,
+    c: u8,
+) -> Told
+    requires { ⌜ (p .at < length (now s)) × Ready (now s) (work (now out) (now ends) (now words) (now tables) (now chains)) p ⌝ }
+    ensures { λ r. ⌜ ((q : Wrap) → Leads (lead-wrap q) c (now (s .entry))
+        (work (now (out .entry)) (now (ends .entry)) (now (words .entry)) (now (tables .entry)) (now (chains .entry)))
+        (work (now (out .exit)) (now (ends .exit)) (now (words .exit)) (now (tables .exit)) (now (chains .exit))) p r) ⌝ }
 {
     let from = p.out;
     let behind = steps::copy_byte(s, out, p);
-    let Told::Number(next, t) = ty(s, out, notes, behind) else {
+    let Told::Number(next, t) = ty(s, out, ends, words, tables, chains, behind) else {
         return Told::Bad;
     };
-    steps::wrap(s, out, notes, next, c, t, from)
+    steps::wrap(s, out, ends, words, tables, chains, next, c, t, from)
 }
 
 // <source-name> [I <template-args> E]
-fn named(s: &[u8], out: &mut [u8], notes: &mut [u16], p: Writer) -> Told
-    requires { ⌜ (p .at < length (now s)) × Ready (now s) (work (now out) (now notes)) p ⌝ }
-    ensures { λ r. ⌜ ((c : ℕ) → Leads lead-digit c (now (s .entry)) (work (now (out .entry)) (now (notes .entry))) (work (now (out .exit)) (now (notes .exit))) p r) ⌝ }
+fn named(
+    s: &[u8],
+    out: &mut [u8],
+    ends: &mut [u16],
+    words: &mut [u16],
+    tables: &mut [u16],
+    chains: &mut [u16],
+    p: Writer,
+) -> Told
+    requires { ⌜ (p .at < length (now s)) × Ready (now s) (work (now out) (now ends) (now words) (now tables) (now chains)) p ⌝ }
+    ensures { λ r. ⌜ ((c : ℕ) → Leads lead-digit c (now (s .entry))
+        (work (now (out .entry)) (now (ends .entry)) (now (words .entry)) (now (tables .entry)) (now (chains .entry)))
+        (work (now (out .exit)) (now (ends .exit)) (now (words .exit)) (now (tables .exit)) (now (chains .exit))) p r) ⌝ }
 {
     let from = p.out;
-    let Told::Number(next, t) = steps::first_name(s, out, notes, p) else {
+    let Told::Number(next, t) = steps::first_name(s, out, ends, words, tables, chains, p) else {
         return Told::Bad;
     };
-    with_args(s, out, notes, next, t, from)
+    with_args(s, out, ends, words, tables, chains, next, t, from)
 }
 
 // S [<seq-id>] _ [I <template-args> E]
-fn referred(s: &[u8], out: &mut [u8], notes: &mut [u16], p: Writer) -> Told
-    requires { ⌜ (p .at < length (now s)) × Ready (now s) (work (now out) (now notes)) p ⌝ }
-    ensures { λ r. ⌜ ((c : ℕ) → Leads lead-S c (now (s .entry)) (work (now (out .entry)) (now (notes .entry))) (work (now (out .exit)) (now (notes .exit))) p r) ⌝ }
+fn referred(
+    s: &[u8],
+    out: &mut [u8],
+    ends: &mut [u16],
+    words: &mut [u16],
+    tables: &mut [u16],
+    chains: &mut [u16],
+    p: Writer,
+) -> Told
+    requires { ⌜ (p .at < length (now s)) × Ready (now s) (work (now out) (now ends) (now words) (now tables) (now chains)) p ⌝ }
+    ensures { λ r. ⌜ ((c : ℕ) → Leads lead-S c (now (s .entry))
+        (work (now (out .entry)) (now (ends .entry)) (now (words .entry)) (now (tables .entry)) (now (chains .entry)))
+        (work (now (out .exit)) (now (ends .exit)) (now (words .exit)) (now (tables .exit)) (now (chains .exit))) p r) ⌝ }
 {
     let from = p.out;
     let at = p.at;
-    let Told::Number(next, t) = steps::first_reference(s, out, notes, p.moved(at + 1)) else {
+    let Told::Number(next, t) = steps::first_reference(s, out, tables, p.moved(at + 1)) else {
         return Told::Bad;
     };
-    with_args(s, out, notes, next, t, from)
+    with_args(s, out, ends, words, tables, chains, next, t, from)
 }
 
 // [I <template-args> E], behind a class of one part
-fn with_args(s: &[u8], out: &mut [u8], notes: &mut [u16], p: Writer, t: usize, from: usize) -> Told
-    requires { ⌜ ((t < most-number) × (from ≤ p .out)) × Ready (now s) (work (now out) (now notes)) p ⌝ }
-    ensures { λ r. ⌜ WithArgs t from (now (s .entry)) (work (now (out .entry)) (now (notes .entry))) (work (now (out .exit)) (now (notes .exit))) p r ⌝ }
+fn with_args(
+    s: &[u8],
+    out: &mut [u8],
+    ends: &mut [u16],
+    words: &mut [u16],
+    tables: &mut [u16],
+    chains: &mut [u16],
+    p: Writer,
+    t: usize,
+    from: usize,
+) -> Told
+    requires { ⌜ ((t < most-number) × (Stretch from p)) × Ready (now s) (work (now out) (now ends) (now words) (now tables) (now chains)) p ⌝ }
+    ensures { λ r. ⌜ WithArgs t from (now (s .entry))
+        (work (now (out .entry)) (now (ends .entry)) (now (words .entry)) (now (tables .entry)) (now (chains .entry)))
+        (work (now (out .exit)) (now (ends .exit)) (now (words .exit)) (now (tables .exit)) (now (chains .exit))) p r ⌝ }
 {
     if !bytes::starts_with(s, p.at, b"I") {
         return Told::Number(p, t);
     }
-    if memory::tag_of(notes, p, t) != b'0' as usize {
+    if memory::tag_of(ends, p, t) != b'0' as usize {
         return Told::Bad;
     }
     let behind = steps::copy_byte(s, out, p);
-    let Told::Number(next, u) = args(s, out, notes, behind, t) else {
+    let Told::Number(next, u) = args(s, out, ends, words, tables, chains, behind, t) else {
         return Told::Bad;
     };
     let closed = steps::close(out, next);
-    Told::Number(steps::enter(out, notes, closed, u, from), u)
+    Told::Number(steps::enter(out, tables, closed, u, from), u)
 }
 
 // <template-arg>+ E, behind what has the number t
-pub fn args(s: &[u8], out: &mut [u8], notes: &mut [u16], p: Writer, t: usize) -> Told
-    requires { ⌜ (t < most-number) × Ready (now s) (work (now out) (now notes)) p ⌝ }
-    ensures { λ r. ⌜ Fueled 0 (p .out) 1 (λ m. note-args m t) (now (s .entry)) (work (now (out .entry)) (now (notes .entry))) (work (now (out .exit)) (now (notes .exit))) p r ⌝ }
+pub fn args(
+    s: &[u8],
+    out: &mut [u8],
+    ends: &mut [u16],
+    words: &mut [u16],
+    tables: &mut [u16],
+    chains: &mut [u16],
+    p: Writer,
+    t: usize,
+) -> Told
+    requires { ⌜ (t < most-number) × Ready (now s) (work (now out) (now ends) (now words) (now tables) (now chains)) p ⌝ }
+    ensures { λ r. ⌜ Fueled 0 5 (p .out) 1 (λ m. note-args m t) (now (s .entry))
+        (work (now (out .entry)) (now (ends .entry)) (now (words .entry)) (now (tables .entry)) (now (chains .entry)))
+        (work (now (out .exit)) (now (ends .exit)) (now (words .exit)) (now (tables .exit)) (now (chains .exit))) p r ⌝ }
 {
     let mut next = p;
     let mut of = t;
     loop {
-        let Told::Number(behind, x) = ty(s, out, notes, next) else {
+        let Told::Number(behind, x) = ty(s, out, ends, words, tables, chains, next) else {
             return Told::Bad;
         };
-        let Told::Number(counted, u) = steps::arg(s, notes, behind, of, x) else {
+        let Told::Number(counted, u) = steps::arg(s, ends, words, tables, chains, behind, of, x)
+        else {
             return Told::Bad;
         };
         let at = counted.at;
@@ -117,23 +182,43 @@ pub fn args(s: &[u8], out: &mut [u8], notes: &mut [u16], p: Writer, t: usize) ->
 }
 
 // N <parts> E
-fn nested(s: &[u8], out: &mut [u8], notes: &mut [u16], p: Writer) -> Told
-    requires { ⌜ (p .at < length (now s)) × Ready (now s) (work (now out) (now notes)) p ⌝ }
-    ensures { λ r. ⌜ ((c : ℕ) → Leads lead-N c (now (s .entry)) (work (now (out .entry)) (now (notes .entry))) (work (now (out .exit)) (now (notes .exit))) p r) ⌝ }
+fn nested(
+    s: &[u8],
+    out: &mut [u8],
+    ends: &mut [u16],
+    words: &mut [u16],
+    tables: &mut [u16],
+    chains: &mut [u16],
+    p: Writer,
+) -> Told
+    requires { ⌜ (p .at < length (now s)) × Ready (now s) (work (now out) (now ends) (now words) (now tables) (now chains)) p ⌝ }
+    ensures { λ r. ⌜ ((c : ℕ) → Leads lead-N c (now (s .entry))
+        (work (now (out .entry)) (now (ends .entry)) (now (words .entry)) (now (tables .entry)) (now (chains .entry)))
+        (work (now (out .exit)) (now (ends .exit)) (now (words .exit)) (now (tables .exit)) (now (chains .exit))) p r) ⌝ }
 {
     let from = p.out;
     let behind = steps::copy_byte(s, out, p);
-    let Told::Number(next, u) = parts(s, out, notes, behind) else {
+    let Told::Number(next, u) = parts(s, out, ends, words, tables, chains, behind) else {
         return Told::Bad;
     };
     let closed = steps::close(out, next);
-    Told::Number(steps::enter_nested(out, notes, closed, u, from), u)
+    Told::Number(steps::enter_nested(out, ends, tables, closed, u, from), u)
 }
 
 // <source-name> <more> or S [<seq-id>] _ <more>, behind N
-pub fn parts(s: &[u8], out: &mut [u8], notes: &mut [u16], p: Writer) -> Told
-    requires { ⌜ Ready (now s) (work (now out) (now notes)) p ⌝ }
-    ensures { λ r. ⌜ Fueled 1 (p .out) 0 (λ m. note-parts m (p .out)) (now (s .entry)) (work (now (out .entry)) (now (notes .entry))) (work (now (out .exit)) (now (notes .exit))) p r ⌝ }
+pub fn parts(
+    s: &[u8],
+    out: &mut [u8],
+    ends: &mut [u16],
+    words: &mut [u16],
+    tables: &mut [u16],
+    chains: &mut [u16],
+    p: Writer,
+) -> Told
+    requires { ⌜ Ready (now s) (work (now out) (now ends) (now words) (now tables) (now chains)) p ⌝ }
+    ensures { λ r. ⌜ Fueled 1 5 (p .out) 0 (λ m. note-parts m (p .out)) (now (s .entry))
+        (work (now (out .entry)) (now (ends .entry)) (now (words .entry)) (now (tables .entry)) (now (chains .entry)))
+        (work (now (out .exit)) (now (ends .exit)) (now (words .exit)) (now (tables .exit)) (now (chains .exit))) p r ⌝ }
 {
     let at = p.at;
     if s.len() <= at {
@@ -142,21 +227,33 @@ pub fn parts(s: &[u8], out: &mut [u8], notes: &mut [u16], p: Writer) -> Told
     let from = p.out;
     match lead::lead_of(s[at]) {
         Lead::Digit => {
-            let Told::Number(next, t) = steps::first_name(s, out, notes, p) else {
-                return Told::Bad;
-            };
-            more(s, out, notes, next, t, true, from)
-        }
-        Lead::S => {
-            let Told::Number(next, t) = steps::first_reference(s, out, notes, p.moved(at + 1))
+            let Told::Number(next, t) = steps::first_name(s, out, ends, words, tables, chains, p)
             else {
                 return Told::Bad;
             };
-            let tag = memory::tag_of(notes, next, t);
+            more(s, out, ends, words, tables, chains, next, t, true, from)
+        }
+        Lead::S => {
+            let Told::Number(next, t) = steps::first_reference(s, out, tables, p.moved(at + 1))
+            else {
+                return Told::Bad;
+            };
+            let tag = memory::tag_of(ends, next, t);
             if !steps::class(tag) {
                 return Told::Bad;
             }
-            more(s, out, notes, next, t, tag == b'0' as usize, from)
+            more(
+                s,
+                out,
+                ends,
+                words,
+                tables,
+                chains,
+                next,
+                t,
+                tag == b'0' as usize,
+                from,
+            )
         }
         _ => Told::Bad,
     }
@@ -167,37 +264,43 @@ pub fn parts(s: &[u8], out: &mut [u8], notes: &mut [u16], p: Writer) -> Told
 fn more(
     s: &[u8],
     out: &mut [u8],
-    notes: &mut [u16],
+    ends: &mut [u16],
+    words: &mut [u16],
+    tables: &mut [u16],
+    chains: &mut [u16],
     p: Writer,
     t: usize,
     lone: bool,
     from: usize,
 ) -> Told
-    requires { ⌜ ((t < most-number) × (from ≤ p .out)) × Ready (now s) (work (now out) (now notes)) p ⌝ }
-    ensures { λ r. ⌜ Fueled 1 from 1 (λ m. note-more m t lone from) (now (s .entry)) (work (now (out .entry)) (now (notes .entry))) (work (now (out .exit)) (now (notes .exit))) p r ⌝ }
+    requires { ⌜ ((t < most-number) × (Stretch from p)) × Ready (now s) (work (now out) (now ends) (now words) (now tables) (now chains)) p ⌝ }
+    ensures { λ r. ⌜ Fueled 1 5 from 1 (λ m. note-more m t lone from) (now (s .entry))
+        (work (now (out .entry)) (now (ends .entry)) (now (words .entry)) (now (tables .entry)) (now (chains .entry)))
+        (work (now (out .exit)) (now (ends .exit)) (now (words .exit)) (now (tables .exit)) (now (chains .exit))) p r ⌝ }
 {
     let mut next = p;
     let mut of = t;
     let mut alone = lone;
     loop {
         if !bytes::starts_with(s, next.at, b"I") {
-            let Told::Number(behind, u) = steps::part(s, out, notes, next, of) else {
+            let Told::Number(behind, u) = steps::part(s, out, ends, words, tables, chains, next, of)
+            else {
                 return Told::Bad;
             };
             let at = behind.at;
             if bytes::starts_with(s, at, b"E") {
                 return Told::Number(behind.moved(at + 1), u);
             }
-            next = steps::enter(out, notes, behind, u, from);
+            next = steps::enter(out, tables, behind, u, from);
             of = u;
             alone = false;
             continue;
         }
-        if !steps::bare(memory::tag_of(notes, next, of)) {
+        if !steps::bare(memory::tag_of(ends, next, of)) {
             return Told::Bad;
         }
         let within = steps::copy_byte(s, out, next);
-        let Told::Number(last, v) = args(s, out, notes, within, of) else {
+        let Told::Number(last, v) = args(s, out, ends, words, tables, chains, within, of) else {
             return Told::Bad;
         };
         let closed = steps::close(out, last);
@@ -208,7 +311,7 @@ fn more(
             }
             return Told::Number(closed.moved(end + 1), v);
         }
-        next = steps::enter(out, notes, closed, v, from);
+        next = steps::enter(out, tables, closed, v, from);
         of = v;
     }
 }

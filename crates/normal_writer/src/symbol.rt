@@ -12,11 +12,10 @@ ghost use Prim.Native.Nat.{_≤_};
 ghost use lib.ListN.{length};
 ghost use Rattle.grammar.specs.Limits.{most-symbol-bytes};
 ghost use Rattle.store.specs.Table.{Front};
-ghost use Rattle.catalogue.specs.Answer.{least-normal-ends};
 ghost use Rattle.normal_nodes.specs.Nodes.{note-symbol};
 ghost use Rattle.normal_steps.specs.Limits.{out-length};
 ghost use Rattle.normal_steps.specs.States.{begun-at};
-ghost use Rattle.normal_steps.specs.Carries.{work, Ready};
+ghost use Rattle.normal_steps.specs.Carries.{work, Sized, Ready};
 ghost use Rattle.normal_writer.specs.Writes.{Plain, Scoped, Functions, Types, Writes};
 
 // The normal symbol is written; or the symbol is outside the class.
@@ -54,46 +53,71 @@ fn plain(s: &[u8], out: &mut [u8]) -> Headed
 }
 
 // <parts> E behind N or NK, without arguments at the end
-fn scoped(s: &[u8], out: &mut [u8], notes: &mut [u16], word: &[u8], constant: bool) -> Headed
+fn scoped(
+    s: &[u8],
+    out: &mut [u8],
+    ends: &mut [u16],
+    words: &mut [u16],
+    tables: &mut [u16],
+    chains: &mut [u16],
+    word: &[u8],
+    constant: bool,
+) -> Headed
     requires { ⌜ ((length (now s) ≤ most-symbol-bytes) × ((2 ≤ length (now word)) × ((length (now word) ≤ 4) × (length (now word) ≤ length (now s)))))
-        × ((length (now out) ≡ out-length) × (length (now notes) ≡ least-normal-ends)) ⌝ }
-    ensures { λ r. ⌜ Scoped (now (word .entry)) constant (now (s .entry)) (work (now (out .exit)) (now (notes .exit))) r ⌝ }
+        × ((length (now out) ≡ out-length) × Sized (now ends) (now words) (now tables) (now chains)) ⌝ }
+    ensures { λ r. ⌜ Scoped (now (word .entry)) constant (now (s .entry)) (work (now (out .exit)) (now (ends .exit)) (now (words .exit)) (now (tables .exit)) (now (chains .exit))) r ⌝ }
 {
     let begun = begin(out, word);
-    let Told::Number(next, u) = cycle::parts(s, out, notes, begun) else {
+    let Told::Number(next, u) = cycle::parts(s, out, ends, words, tables, chains, begun) else {
         return Headed::Bad;
     };
-    if !steps::bare(memory::tag_of(notes, next, u)) {
+    if !steps::bare(memory::tag_of(ends, next, u)) {
         return Headed::Bad;
     }
     Headed::Name(steps::close(out, next), constant)
 }
 
 // <name> ::= <source-name> | N [K] <parts> E
-fn function(s: &[u8], out: &mut [u8], notes: &mut [u16]) -> Headed
-    requires { ⌜ (length (now s) ≤ most-symbol-bytes) × ((length (now out) ≡ out-length) × (length (now notes) ≡ least-normal-ends)) ⌝ }
-    ensures { λ r. ⌜ Functions (now (s .entry)) (work (now (out .exit)) (now (notes .exit))) r ⌝ }
+fn function(
+    s: &[u8],
+    out: &mut [u8],
+    ends: &mut [u16],
+    words: &mut [u16],
+    tables: &mut [u16],
+    chains: &mut [u16],
+) -> Headed
+    requires { ⌜ (length (now s) ≤ most-symbol-bytes) × ((length (now out) ≡ out-length) × Sized (now ends) (now words) (now tables) (now chains)) ⌝ }
+    ensures { λ r. ⌜ Functions (now (s .entry)) (work (now (out .exit)) (now (ends .exit)) (now (words .exit)) (now (tables .exit)) (now (chains .exit))) r ⌝ }
 {
     if !bytes::starts_with(s, 2, b"N") {
         return plain(s, out);
     }
     if bytes::starts_with(s, 3, b"K") {
-        return scoped(s, out, notes, b"_ZNK", true);
+        return scoped(s, out, ends, words, tables, chains, b"_ZNK", true);
     }
-    scoped(s, out, notes, b"_ZN", false)
+    scoped(s, out, ends, words, tables, chains, b"_ZN", false)
 }
 
 // <type>+ to the end
-fn types(s: &[u8], out: &mut [u8], notes: &mut [u16], p: Writer) -> Finished
-    requires { ⌜ Ready (now s) (work (now out) (now notes)) p ⌝ }
-    ensures { λ r. ⌜ Types (now (s .entry)) (work (now (out .entry)) (now (notes .entry))) (work (now (out .exit)) (now (notes .exit))) p r ⌝ }
+fn types(
+    s: &[u8],
+    out: &mut [u8],
+    ends: &mut [u16],
+    words: &mut [u16],
+    tables: &mut [u16],
+    chains: &mut [u16],
+    p: Writer,
+) -> Finished
+    requires { ⌜ Ready (now s) (work (now out) (now ends) (now words) (now tables) (now chains)) p ⌝ }
+    ensures { λ r. ⌜ Types (now (s .entry)) (work (now (out .entry)) (now (ends .entry)) (now (words .entry)) (now (tables .entry)) (now (chains .entry)))
+        (work (now (out .exit)) (now (ends .exit)) (now (words .exit)) (now (tables .exit)) (now (chains .exit))) p r ⌝ }
 {
     let mut next = p;
     while next.at < s.len() {
-        let Told::Number(q, t) = cycle::ty(s, out, notes, next) else {
+        let Told::Number(q, t) = cycle::ty(s, out, ends, words, tables, chains, next) else {
             return Finished::Bad;
         };
-        if memory::tag_of(notes, q, t) == b'L' as usize {
+        if memory::tag_of(ends, q, t) == b'L' as usize {
             return Finished::Bad;
         }
         next = q;
@@ -102,14 +126,21 @@ fn types(s: &[u8], out: &mut [u8], notes: &mut [u16], p: Writer) -> Finished
 }
 
 // <encoding> ::= <name> [<type>+]; at most 1,024 arguments
-pub fn write_symbol(s: &[u8], out: &mut [u8], notes: &mut [u16]) -> Finished
-    requires { ⌜ (length (now s) ≤ most-symbol-bytes) × ((length (now out) ≡ out-length) × (length (now notes) ≡ least-normal-ends)) ⌝ }
-    ensures { λ r. ⌜ Writes (now (s .entry)) (work (now (out .exit)) (now (notes .exit))) r (note-symbol (now (s .entry))) ⌝ }
+pub fn write_symbol(
+    s: &[u8],
+    out: &mut [u8],
+    ends: &mut [u16],
+    words: &mut [u16],
+    tables: &mut [u16],
+    chains: &mut [u16],
+) -> Finished
+    requires { ⌜ (length (now s) ≤ most-symbol-bytes) × ((length (now out) ≡ out-length) × Sized (now ends) (now words) (now tables) (now chains)) ⌝ }
+    ensures { λ r. ⌜ Writes (now (s .entry)) (work (now (out .exit)) (now (ends .exit)) (now (words .exit)) (now (tables .exit)) (now (chains .exit))) r (note-symbol (now (s .entry))) ⌝ }
 {
     if !bytes::starts_with(s, 0, b"_Z") {
         return Finished::Bad;
     }
-    let Headed::Name(p, constant) = function(s, out, notes) else {
+    let Headed::Name(p, constant) = function(s, out, ends, words, tables, chains) else {
         return Finished::Bad;
     };
     if constant {
@@ -117,7 +148,7 @@ pub fn write_symbol(s: &[u8], out: &mut [u8], notes: &mut [u16]) -> Finished
             return Finished::Bad;
         }
     }
-    let Finished::Symbol(q) = types(s, out, notes, p) else {
+    let Finished::Symbol(q) = types(s, out, ends, words, tables, chains, p) else {
         return Finished::Bad;
     };
     if catalogue::ARGUMENTS < q.args {

@@ -1,17 +1,16 @@
 -- Laws of the table, and of the table without later doubles. Assumes nothing.
-use mathlib.Core.Bool.{true, false}
+use mathlib.Core.Bool.{false}
 use mathlib.Core.List.{List, [], _∷_, _++_}
 use mathlib.Core.Option.{Option, none, some}
 use mathlib.Core.Path.{_≡_, refl, ap, _∙_}
 use Prim.Native.Nat.{ℕ, zero, suc, _+_, _-_, _≤_, _<_}
 use native.Mathlib.Omega.{arith}
-use borrow.Author.Tests.{ltb-true, lt-ltb}
+use borrow.Author.Tests.{ne-eqb}
 use lib.Dec.{eqb}
 use lib.ListN.{length, getD, getElem?, length-append}
-use Rattle.catalogue.specs.Bytes.{all, and-left, and-right, and-both}
-use Rattle.catalogue.specs.laws.Bytes.{all-append}
-use Rattle.normal_nodes.specs.Nodes.{with-new, table-place, add, note-add-all, firsts, note-last-is}
-use Rattle.normal_steps.specs.Carries.{most-number, small}
+use Rattle.grammar.specs.Text.{if_then_else_}
+use Rattle.normal_nodes.specs.Nodes.{least-number, later, seek-by, with-new, table-place, add, note-add-all, firsts, note-last-is}
+use Rattle.normal_steps.specs.Carries.{AllNumbered}
 
 -- ---------------------------------------------------------------- one entry more
 
@@ -54,15 +53,43 @@ some-at [] i h = absurd (omega arith)
 some-at (d ∷ ds) zero h = refl
 some-at (d ∷ ds) (suc i) h = some-at ds i (omega arith)
 
-pub small-at : (ds : List ℕ) (i : ℕ) → all small ds ≡ true → i < length ds → getD ds i 0 < most-number
-unfolding small
-small-at [] i e h = absurd (omega arith)
-small-at (d ∷ ds) zero e h = ltb-true d most-number (and-left (small d) (all small ds) e)
-small-at (d ∷ ds) (suc i) e h = small-at ds i (and-right (small d) (all small ds) e) (omega arith)
+-- ---------------------------------------------------------------- numbers of nodes
 
-pub small-more : (ds : List ℕ) (d : ℕ) → all small ds ≡ true → d < most-number → all small (ds ++ (d ∷ [])) ≡ true
-unfolding small
-small-more ds d e h = all-append small ds (d ∷ []) e (and-both (small d) true (lt-ltb d most-number h) refl)
+module _ (n : ℕ) where
+  pub numbered-more : (ds : List ℕ) (d : ℕ) → AllNumbered n ds → (least-number ≤ d) × (d < least-number + n) → AllNumbered n (ds ++ (d ∷ []))
+  unfolding AllNumbered
+  numbered-more [] d h b = (b, tt)
+  numbered-more (e ∷ ds) d h b = (h .0, numbered-more ds d (h .1) b)
+
+  pub numbered-up : (ds : List ℕ) → AllNumbered n ds → AllNumbered (suc n) ds
+  unfolding AllNumbered
+  numbered-up [] h = tt
+  numbered-up (e ∷ ds) h = ((h .0 .0, omega (arith, h .0 .1)), numbered-up ds (h .1))
+
+  pub numbered-at : (ds : List ℕ) (i : ℕ) → AllNumbered n ds → i < length ds → (least-number ≤ getD ds i 0) × (getD ds i 0 < least-number + n)
+  unfolding AllNumbered
+  numbered-at [] i h l = absurd (omega arith)
+  numbered-at (d ∷ ds) zero h l = h .0
+  numbered-at (d ∷ ds) (suc i) h l = numbered-at ds i (h .1) (omega arith)
+
+  numbered-all : (ds es : List ℕ) → AllNumbered n ds → AllNumbered n es → AllNumbered n (note-add-all ds es)
+  unfolding note-add-all add AllNumbered
+  numbered-all ds [] h k = h
+  numbered-all ds (e ∷ es) h k = numbered-all (add e ds) es (one (table-place e ds)) (k .1)
+    where
+      one : (o : Option ℕ) → AllNumbered n (with-new o e ds)
+      one none = numbered-more ds e h (k .0)
+      one (some i) = h
+
+  -- the next node's number is none of them
+  absent : (ds : List ℕ) → AllNumbered n ds → seek-by (eqb (least-number + n)) ds ≡ none
+  unfolding AllNumbered seek-by if_then_else_
+  absent [] h = refl
+  absent (d ∷ ds) h = rw (ne-eqb (least-number + n) d (λ q. omega (arith, h .0 .1))) (ap later (absent ds (h .1)))
+
+  pub new-absent : (ds : List ℕ) → AllNumbered n ds → table-place (least-number + n) (firsts ds) ≡ none
+  unfolding table-place AllNumbered
+  new-absent ds h = absent (firsts ds) (numbered-all [] ds tt h)
 
 -- ---------------------------------------------------------------- the newest
 

@@ -24,10 +24,10 @@ use Rattle.normal_steps.specs.laws.Parts.{part-length}
 use Rattle.normal_steps.specs.Answers.{NameAt, NameIs, RefAt, RefIs, Value, LitIs}
 use Rattle.normal_steps.specs.laws.Leaves.{no-entry, entry-told}
 use Rattle.normal_steps.specs.States.{moved-to}
-use Rattle.normal_steps.specs.Carries.{Work, out-to, Carries, Room, Puts, notes-node, at-literal, Passed}
+use Rattle.normal_steps.specs.Carries.{Work, out-to, Carries, Room, Stretch, Puts, notes-node, at-literal, Passed}
 use Rattle.normal_steps.specs.laws.Slices.{out-size}
 use Rattle.normal_steps.specs.laws.Moves.{put-moved}
-use Rattle.normal_steps.specs.laws.Limits.{passed-none, passed-more, room-for}
+use Rattle.normal_steps.specs.laws.Limits.{passed-none, passed-more, room-for, stretch-for}
 use Rattle.normal_steps.specs.laws.Steps.{with-some}
 use Rattle.normal_steps.specs.declared.state.Writer.{Writer}
 use Rattle.normal_steps.specs.declared.words.Named.{Named}
@@ -72,8 +72,11 @@ module _ {s : Text} {at from to : ℕ} (x : NameAt s at from to) where
       pub name-held : Carries s (out-to ws o') r (put (name-of s from to) (go-to (drop to s) σ))
       name-held = let z = name-size in put-moved h (name-of s from to) e y (omega arith) (x .inside) (omega arith)
 
-      pub name-room : Room 1 1 5 r
-      name-room = let z = name-size in room-for h name-wrote (omega arith) (omega arith)
+      pub name-room : Room 1 1 r
+      name-room = let z = name-size in room-for h name-wrote (omega arith)
+
+      pub name-stretch : Stretch (p .out) r
+      name-stretch = let z = name-size in stretch-for h name-wrote (omega arith) (omega arith)
 
 -- ---------------------------------------------------------------- references
 
@@ -167,5 +170,5 @@ module _ {s : Text} {ws : Work} {p : Writer} {σ : Notes} (h : Carries s ws p σ
           let w = passed-more 1 (passed-none p e) (y .0) in
           z .1 s ws marked literal-marked (omega (arith, part-length s (p .at) to (x .inside), x .some))
 
-      pub literal-room : Room 1 1 5 u
-      literal-room = room-for h literal-wrote (omega (arith, x .some)) (omega (arith, x .some))
+      pub literal-room : Room 1 1 u
+      literal-room = room-for h literal-wrote (omega (arith, x .some))

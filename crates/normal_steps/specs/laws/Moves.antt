@@ -13,7 +13,7 @@ use Rattle.catalogue.specs.Recogniser.{if-next}
 use Rattle.normal_nodes.specs.Nodes.{Notes, put, go-to, counted}
 use Rattle.normal_steps.specs.laws.Tests.{next-not}
 use Rattle.normal_steps.specs.States.{moved-to, counted-to}
-use Rattle.normal_steps.specs.Carries.{Work, out-to, Carries, Ready, ReadyOut, ReadyNotes, Copies, Puts}
+use Rattle.normal_steps.specs.Carries.{Work, out-to, Carries, Ready, ReadyOut, ReadyEnds, ReadyTables, ReadyBoth, ReadyThree, ReadyNotes, Copies, Puts}
 use Rattle.normal_steps.specs.declared.state.Writer.{Writer}
 
 -- what a method hands back holds what its equation says
@@ -26,14 +26,11 @@ module _ {s : Text} {ws : Work} {p : Writer} {σ : Notes} (h : Carries s ws p σ
     source = h .source;
     place = k;
     rest = refl;
-    rows = h .rows;
-    inside = h .inside;
     nodes-are = h .nodes-are;
-    notes-are = h .notes-are;
-    nodes-count = h .nodes-count;
+    found = h .found;
+    tabled = h .tabled;
     table-count = h .table-count;
     firsts-count = h .firsts-count;
-    numbers = h .numbers;
     out-is = h .out-is;
     out-count = h .out-count;
     args-count = h .args-count;
@@ -48,14 +45,11 @@ module _ {s : Text} {ws : Work} {p : Writer} {σ : Notes} (h : Carries s ws p σ
     source = h .source;
     place = h .place;
     rest = h .rest;
-    rows = h .rows;
-    inside = h .inside;
     nodes-are = h .nodes-are;
-    notes-are = h .notes-are;
-    nodes-count = h .nodes-count;
+    found = h .found;
+    tabled = h .tabled;
     table-count = h .table-count;
     firsts-count = h .firsts-count;
-    numbers = h .numbers;
     out-is = h .out-is;
     out-count = h .out-count;
     args-count = omega arith;
@@ -95,7 +89,7 @@ module _ {s : Text} {ws : Work} {p : Writer} {σ : Notes} (h : Carries s ws p σ
 
   -- a text is written at another place
   pub put-moved : (w : Text) {o' : Text} {q r : Writer} {to : ℕ} → q ≡ moved-to p to → Puts w (ws .out) o' q r
-      → p .at ≤ to → to ≤ length s → p .out + length w ≤ 16 * to → Carries s (out-to ws o') r (put w (go-to (drop to s) σ))
+      → p .at ≤ to → to ≤ length s → p .out + length w + 1 ≤ 4 * to → Carries s (out-to ws o') r (put w (go-to (drop to s) σ))
   put-moved w {o'} {q} {r} {to} e x l k b =
       x .1 s ws (go-to (drop to s) σ) (by-state e (holds-moved to l k)) (omega (arith, ap (λ (x : Writer). x .at) e, ap (λ (x : Writer). x .out) e))
 
@@ -106,11 +100,23 @@ module _ {s : Text} {ws : Work} {p : Writer} where
   pub copied-ready : {o' : Text} {q : Writer} → Copies s (ws .out) o' p q → p .at < length s → Ready s ws p → Ready s (out-to ws o') q
   copied-ready k l (σ, h) = (_, k .1 ws σ h _ _ (first-byte h l))
 
-  -- one slice alone is lent
+  -- some slices alone are lent
   pub ready-out : Ready s ws p → ReadyOut s (ws .out) p
   ready-out w = (ws, w)
 
-  pub ready-notes : Ready s ws p → ReadyNotes s (ws .notes) p
+  pub ready-ends : Ready s ws p → ReadyEnds s (ws .ends) p
+  ready-ends w = (ws, w)
+
+  pub ready-tables : Ready s ws p → ReadyTables s (ws .tables) p
+  ready-tables w = (ws, w)
+
+  pub ready-both : Ready s ws p → ReadyBoth s (ws .out) (ws .tables) p
+  ready-both w = (ws, w)
+
+  pub ready-three : Ready s ws p → ReadyThree s (ws .out) (ws .ends) (ws .tables) p
+  ready-three w = (ws, w)
+
+  pub ready-notes : Ready s ws p → ReadyNotes s (ws .ends) (ws .words) (ws .tables) (ws .chains) p
   ready-notes w = (ws, w)
 
 abbrev pub work-of : {s : Text} {ws : Work} {p : Writer} {σ : Notes} → Carries s ws p σ → Work

@@ -1,13 +1,11 @@
 -- Laws of Seeks.antt. Assumes nothing.
-use mathlib.Core.Bool.{Bool, true, false}
+use mathlib.Core.Bool.{Bool, true, false, true≢false}
 use mathlib.Core.List.{List, [], _∷_, _++_}
 use mathlib.Core.Option.{Option, none, some, Option·none-ne-some}
 use mathlib.Core.Path.{_≡_, refl, sym, ap, _∙_}
-use Prim.Native.Nat.{ℕ, suc, _+_, _-_, _≤_, _<_}
-use native.Mathlib.Numerals.{add-one}
+use Prim.Native.Nat.{ℕ, zero, suc, _<_}
 use native.Mathlib.Omega.{arith}
-use lib.ListN.{length, take, drop, getD}
-use lib.Seq.{length-take-le, take-suc, take-add, drop-cons}
+use lib.ListN.{length, getElem?}
 use Rattle.grammar.specs.Text.{if_then_else_}
 use Rattle.normal_nodes.specs.Nodes.{later, seek-by}
 use Rattle.normal_steps.specs.Seeks.{Sought}
@@ -21,7 +19,7 @@ module _ {A : Type 0} (p : A → Bool) where
   unfolding seek-by
   seek-empty = refl
 
-  seek-here : (us : List A) (x : A) (ws : List A) → seek-by p us ≡ none → p x ≡ true → seek-by p (us ++ (x ∷ ws)) ≡ some (length us)
+  pub seek-here : (us : List A) (x : A) (ws : List A) → seek-by p us ≡ none → p x ≡ true → seek-by p (us ++ (x ∷ ws)) ≡ some (length us)
   unfolding seek-by if_then_else_
   seek-here [] x ws e t = rw t refl
   seek-here (u ∷ us) x ws e t = go (p u) e (λ f. seek-here us x ws f t)
@@ -42,27 +40,46 @@ module _ {A : Type 0} (p : A → Bool) where
       go true f g = absurd (Option·none-ne-some 0 (sym f))
       go false f g = ap later (g (none-later (seek-by p us) f))
 
-  pub sought-here : (us : List A) (x : A) (ws xs : List A) (n i : ℕ) → xs ≡ us ++ (x ∷ ws) → length us ≡ i → i < n → seek-by p us ≡ none → p x ≡ true
-      → Sought p xs n i
-  sought-here us x ws xs n i e l h f t = record {
-    found = λ _. ap (seek-by p) e ∙ seek-here us x ws f t ∙ ap some l;
-    missing = λ m. absurd (omega arith);
-  }
+  -- what was found is found where more stands behind it
+  seek-kept : (us ws : List A) (i : ℕ) → seek-by p us ≡ some i → seek-by p (us ++ ws) ≡ some i
+  unfolding seek-by if_then_else_
+  seek-kept [] ws i e = absurd (Option·none-ne-some i e)
+  seek-kept (u ∷ us) ws i e = go (p u) (seek-by p us) (λ j f. seek-kept us ws j f) e
+    where
+      go : (q : Bool) (o : Option ℕ) → ((j : ℕ) → o ≡ some j → seek-by p (us ++ ws) ≡ some j) → (if q then some 0 else later o) ≡ some i
+          → (if q then some 0 else later (seek-by p (us ++ ws))) ≡ some i
+      go true o f g = g
+      go false none f g = absurd (Option·none-ne-some i g)
+      go false (some j) f g = ap later (f j refl) ∙ g
+
+  -- one more that does not pass leaves the place
+  pub seek-skip : (us : List A) (x : A) → p x ≡ false → seek-by p (us ++ (x ∷ [])) ≡ seek-by p us
+  seek-skip us x t = go (seek-by p us) refl
+    where
+      go : (o : Option ℕ) → seek-by p us ≡ o → seek-by p (us ++ (x ∷ [])) ≡ o
+      go none e = seek-past us x e t
+      go (some i) e = seek-kept us (x ∷ []) i e
+
+  pub seek-longer : (us : List A) (x : A) (i : ℕ) → seek-by p us ≡ some i → seek-by p (us ++ (x ∷ [])) ≡ some i
+  seek-longer us x i e = seek-kept us (x ∷ []) i e
+
+  -- where none was found, none passes
+  pub none-passes : (xs : List A) (k : ℕ) (x : A) → seek-by p xs ≡ none → getElem? xs k ≡ some x → p x ≡ true → ⊥
+  unfolding seek-by if_then_else_
+  none-passes [] k x e f t = Option·none-ne-some x f
+  none-passes (y ∷ xs) zero x e f t = let g : y ≡ x = cc in go (p y) (ap p g ∙ t) e
+    where
+      go : (q : Bool) → q ≡ true → (if q then some 0 else later (seek-by p xs)) ≡ none → ⊥
+      go true g h = Option·none-ne-some 0 (sym h)
+      go false g h = true≢false (sym g)
+  none-passes (y ∷ xs) (suc k) x e f t = go (p y) (λ g. none-passes xs k x g f t) e
+    where
+      go : (q : Bool) → (seek-by p xs ≡ none → ⊥) → (if q then some 0 else later (seek-by p xs)) ≡ none → ⊥
+      go true g h = Option·none-ne-some 0 (sym h)
+      go false g h = g (none-later (seek-by p xs) h)
+
+  pub sought-at : (xs : List A) (n i : ℕ) → i < n → seek-by p xs ≡ some i → Sought p xs n i
+  sought-at xs n i l e = record { found = λ _. e; missing = λ m. absurd (omega arith) }
 
   pub sought-nowhere : (xs : List A) (n : ℕ) → seek-by p xs ≡ none → Sought p xs n n
   sought-nowhere xs n e = record { found = λ h. absurd (omega arith); missing = λ _. e }
-
--- ---------------------------------------------------------------- among the first numbers of a list
-
-module _ (p : ℕ → Bool) (xs : List ℕ) (i n : ℕ) (h : i < n) (l : n ≤ length xs) (e : seek-by p (take i xs) ≡ none) where
-  first-split : take n xs ≡ take i xs ++ (getD xs i 0 ∷ take (n - suc i) (drop (suc i) xs))
-  first-split =
-      ap (λ (k : ℕ). take k xs) {x = n} {y = i + suc (n - suc i)} (omega arith)
-      ∙ take-add i (suc (n - suc i)) xs
-      ∙ ap (λ (t : List ℕ). take i xs ++ take (suc (n - suc i)) t) (drop-cons xs i 0 (omega arith))
-
-  pub first-here : p (getD xs i 0) ≡ true → Sought p (take n xs) n i
-  first-here t = sought-here p (take i xs) (getD xs i 0) (take (n - suc i) (drop (suc i) xs)) (take n xs) n i first-split (length-take-le i xs (omega arith)) h e t
-
-  pub first-past : p (getD xs i 0) ≡ false → seek-by p (take (i + 1) xs) ≡ none
-  first-past t = ap (λ (k : ℕ). seek-by p (take k xs)) (add-one i) ∙ ap (seek-by p) (take-suc xs i 0 (omega arith)) ∙ seek-past p (take i xs) (getD xs i 0) e t

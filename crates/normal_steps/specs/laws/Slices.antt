@@ -3,7 +3,7 @@ use mathlib.Core.Bool.{false}
 use mathlib.Core.List.{List, [], _∷_, _++_}
 use mathlib.Core.Option.{some}
 use mathlib.Core.Path.{_≡_, refl, sym, ap, subst, _∙_}
-use Prim.Native.Nat.{ℕ, _+_, _-_, _*_, _≤_, _<_}
+use Prim.Native.Nat.{ℕ, suc, _+_, _-_, _*_, _≤_, _<_}
 use native.Mathlib.Omega.{arith}
 use borrow.Author.Tests.{lt-ltb, le-ltb}
 use lib.Dec.{eqb}
@@ -12,32 +12,36 @@ use lib.Seq.{paste, take-length}
 use Rattle.grammar.specs.Text.{Text, if_then_else_, choose}
 use Rattle.grammar.specs.Limits.{most-symbol-bytes}
 use Rattle.store.specs.Table.{Front}
-use Rattle.store.specs.laws.Fronts.{front-most, front-take}
-use Rattle.catalogue.specs.Answer.{least-normal-ends}
-use Rattle.normal_nodes.specs.Nodes.{Node, Notes, notes, put, pushed, firsts, tag-of, note-last-is}
-use Rattle.normal_steps.specs.Limits.{table-start, firsts-start, out-length}
+use Rattle.catalogue.specs.Answer.{least-numbers}
+use Rattle.normal_nodes.specs.Nodes.{Node, Notes, notes, put, noted, pushed, firsts, number-of, tag-of, note-last-is}
+use Rattle.normal_nodes.specs.laws.Numbered.{NumberIn, number-in}
+use Rattle.normal_steps.specs.Limits.{out-length}
 use Rattle.normal_steps.specs.declared.state.Writer.{Writer}
 use Rattle.normal_steps.specs.States.{written-to, noted-to, entered-to}
 use Rattle.normal_steps.specs.WrittenAt.{WrittenAt}
-use Rattle.normal_steps.specs.Carries.{Row, node-in, nodes-in, flat, Noting, Work, out-to, notes-to, most-number, Carries, Puts}
-use Rattle.normal_steps.specs.laws.Rows.{length-flat, nodes-more, inside-more, tag-at, no-tag}
-use Rattle.normal_steps.specs.laws.Regions.{front-wrote, first-front, second-at, regions-size}
-use Rattle.normal_steps.specs.laws.Entries.{some-at, small-at, small-more, last-none, last-at}
+use Rattle.normal_steps.specs.Rows.{node-at, nodes-of}
+use Rattle.normal_steps.specs.Chains.{Findable}
+use Rattle.normal_steps.specs.Carries.{Work, out-to, tables-to, notes-to, Tabled, Numbered, Carries, Puts}
+use Rattle.normal_steps.specs.laws.WrittenAt.{front-wrote}
+use Rattle.normal_steps.specs.laws.Rows.{length-nodes, nodes-at}
+use Rattle.normal_steps.specs.laws.Leaves.{no-entry}
+use Rattle.normal_steps.specs.laws.Entries.{some-at, numbered-at, firsts-length, last-none, last-at}
 
 module _ {s : Text} {ws : Work} {p : Writer} {σ : Notes} (h : Carries s ws p σ) where
   -- ---------------------------------------------------------------- sizes
 
-  pub flat-size : length (flat (h .rows)) ≡ 4 * p .nodes
-  flat-size = omega (arith, length-flat (h .rows), h .nodes-count)
-
-  pub firsts-most : length (firsts (σ .table)) ≤ most-symbol-bytes
-  firsts-most = front-most (h .notes-are .third)
-
   pub out-size : length (ws .out) ≡ out-length
   out-size = h .out-is .size
 
-  pub notes-size : length (ws .notes) ≡ least-normal-ends
-  notes-size = regions-size (h .notes-are)
+  pub firsts-most : p .firsts ≤ p .table
+  firsts-most = omega (arith, h .firsts-count, h .table-count, firsts-length (σ .table))
+
+  pub count-nodes : length (σ .nodes) ≡ p .nodes
+  count-nodes = ap length (h .nodes-are) ∙ length-nodes s (ws .ends) (ws .words) (p .nodes)
+
+  -- the number of one of the nodes, by the state
+  pub numbered : {d : ℕ} → NumberIn d (σ .nodes) → Numbered p d
+  numbered b = (b .0, omega (arith, b .1, count-nodes))
 
   -- ---------------------------------------------------------------- what is read
 
@@ -45,55 +49,47 @@ module _ {s : Text} {ws : Work} {p : Writer} {σ : Notes} (h : Carries s ws p σ
   unfolding tag-of if_then_else_
   tag-low d l = rw (lt-ltb d 256 l) refl
 
-  tag-by : (d : ℕ) → 256 ≤ d → tag-of (σ .nodes) d ≡ choose (getElem? (nodes-in s (h .rows)) (d - 256)) (λ x. x .tag) 0
+  tag-by : (d : ℕ) → 256 ≤ d → tag-of (σ .nodes) d ≡ choose (getElem? (nodes-of s (ws .ends) (ws .words) (p .nodes)) (d - 256)) (λ x. x .tag) 0
   unfolding tag-of if_then_else_
   tag-by d l = rw (le-ltb d 256 l) (ap (λ (ns : List Node). choose (getElem? ns (d - 256)) (λ x. x .tag) 0) (h .nodes-are))
 
   pub tag-none : (d : ℕ) → 256 ≤ d → p .nodes ≤ d - 256 → 0 ≡ tag-of (σ .nodes) d
-  tag-none d l m = no-tag s (h .rows) (d - 256) (omega (arith, h .nodes-count)) ∙ sym (tag-by d l)
+  unfolding choose
+  tag-none d l m =
+      sym (tag-by d l ∙ rw (no-entry (nodes-of s (ws .ends) (ws .words) (p .nodes)) (d - 256) (omega (arith, length-nodes s (ws .ends) (ws .words) (p .nodes)))) refl)
 
-  pub tag-here : (d : ℕ) → 256 ≤ d → d - 256 < p .nodes → getD (ws .notes) (4 * (d - 256)) 0 ≡ tag-of (σ .nodes) d
-  tag-here d l m =
-      ap (λ (t : Text). getD t (4 * (d - 256)) 0) (first-front (h .notes-are) .is)
-      ∙ tag-at s (h .rows) (first-front (h .notes-are) .rest) (d - 256) (omega (arith, h .nodes-count))
-      ∙ sym (tag-by d l)
+  pub tag-here : (d : ℕ) → 256 ≤ d → d - 256 < p .nodes → getD (ws .ends) (2 * (d - 256)) 0 ≡ tag-of (σ .nodes) d
+  unfolding choose
+  tag-here d l m = sym (tag-by d l ∙ rw (nodes-at s (ws .ends) (ws .words) (p .nodes) (d - 256) m) refl)
 
-  in-table : (i : ℕ) → i < p .table → getD (ws .notes) (table-start + i) 0 ≡ getD (σ .table) i 0
-  in-table i l = second-at (h .notes-are) i (omega (arith, h .table-count))
-
-  pub entry-is : (i : ℕ) → i < p .table → (getElem? (σ .table) i ≡ some (getD (ws .notes) (table-start + i) 0)) × (getD (ws .notes) (table-start + i) 0 < most-number)
+  pub entry-is : (i : ℕ) → i < p .table → (getElem? (σ .table) i ≡ some (getD (ws .tables) i 0)) × Numbered p (getD (ws .tables) i 0)
   entry-is i l =
-      let e = in-table i l in
       let b : i < length (σ .table) = omega (arith, h .table-count) in
-      (some-at (σ .table) i b ∙ ap some (sym e), omega (arith, e, small-at (σ .table) i (h .numbers) b))
+      let e = h .tabled .is i b in
+      let k = numbered-at (p .nodes) (σ .table) i (h .tabled .numbers) b in
+      (some-at (σ .table) i b ∙ ap some (sym e), (omega (arith, e, k .0), omega (arith, e, k .1)))
 
   pub newest-none : (d : ℕ) → p .table ≡ 0 → false ≡ note-last-is d (σ .table)
   newest-none d e = last-none d (σ .table) (omega (arith, h .table-count))
 
-  pub newest-is : (d : ℕ) → 0 < p .table → eqb d (getD (ws .notes) (table-start + (p .table - 1)) 0) ≡ note-last-is d (σ .table)
+  pub newest-is : (d : ℕ) → 0 < p .table → eqb d (getD (ws .tables) (p .table - 1) 0) ≡ note-last-is d (σ .table)
   newest-is d l =
-      ap (eqb d) (in-table (p .table - 1) (omega arith) ∙ ap (λ (k : ℕ). getD (σ .table) (k - 1) 0) (h .table-count))
+      ap (eqb d) (h .tabled .is (p .table - 1) (omega (arith, h .table-count)) ∙ ap (λ (k : ℕ). getD (σ .table) (k - 1) 0) (h .table-count))
       ∙ last-at d (σ .table) (omega (arith, h .table-count))
-
-  pub firsts-here : take (p .firsts) (drop firsts-start (ws .notes)) ≡ firsts (σ .table)
-  firsts-here = ap (λ (k : ℕ). take k (drop firsts-start (ws .notes))) (h .firsts-count) ∙ front-take (h .notes-are .third)
 
   -- ---------------------------------------------------------------- what is kept when something changes
 
-  pub with-out : (w o' : Text) (k : ℕ) → Front out-length w o' → k ≡ length w → k ≤ 16 * p .at
+  pub with-out : (w o' : Text) (k : ℕ) → Front out-length w o' → k ≡ length w → k + 1 ≤ 4 * p .at
       → Carries s (out-to ws o') (written-to p k) (notes w (σ .nodes) (σ .table) (σ .args) (σ .rest))
   with-out w o' k e f l = record {
     source = h .source;
     place = h .place;
     rest = h .rest;
-    rows = h .rows;
-    inside = h .inside;
     nodes-are = h .nodes-are;
-    notes-are = h .notes-are;
-    nodes-count = h .nodes-count;
+    found = h .found;
+    tabled = h .tabled;
     table-count = h .table-count;
     firsts-count = h .firsts-count;
-    numbers = h .numbers;
     out-is = e;
     out-count = f;
     args-count = h .args-count;
@@ -103,20 +99,17 @@ module _ {s : Text} {ws : Work} {p : Writer} {σ : Notes} (h : Carries s ws p σ
     short = l;
   }
 
-  pub with-entry : (d k m : ℕ) (n' : Text) → d < most-number → k ≡ p .table + 1 → k ≤ p .at → m ≡ length (firsts (σ .table ++ (d ∷ [])))
-      → Noting (h .rows) (σ .table ++ (d ∷ [])) n' → Carries s (notes-to ws n') (entered-to p k m) (pushed d σ)
-  with-entry d k m n' b c l f e = record {
+  pub with-entry : (d k m : ℕ) (t' : Text) → k ≡ p .table + 1 → k ≤ p .at → m ≡ length (firsts (σ .table ++ (d ∷ [])))
+      → Tabled (p .nodes) (σ .table ++ (d ∷ [])) t' → Carries s (tables-to ws t') (entered-to p k m) (pushed d σ)
+  with-entry d k m t' c l f e = record {
     source = h .source;
     place = h .place;
     rest = h .rest;
-    rows = h .rows;
-    inside = h .inside;
     nodes-are = h .nodes-are;
-    notes-are = e;
-    nodes-count = h .nodes-count;
+    found = h .found;
+    tabled = e;
     table-count = omega (arith, h .table-count, length-append (σ .table) (d ∷ []));
     firsts-count = f;
-    numbers = small-more (σ .table) d (h .numbers) b;
     out-is = h .out-is;
     out-count = h .out-count;
     args-count = h .args-count;
@@ -126,21 +119,17 @@ module _ {s : Text} {ws : Work} {p : Writer} {σ : Notes} (h : Carries s ws p σ
     short = h .short;
   }
 
-  pub with-row : (x : Row) (k : ℕ) (n' : Text) → (x .from ≤ x .to) × (x .to ≤ length s) → k ≡ p .nodes + 1 → k ≤ p .at
-      → Noting (h .rows ++ (x ∷ [])) (σ .table) n'
-      → Carries s (notes-to ws n') (noted-to p k) (notes (σ .out) (σ .nodes ++ (node-in s x ∷ [])) (σ .table) (σ .args) (σ .rest))
-  with-row x k n' b c l e = record {
+  pub with-node : (ns : List Node) (e' w' t' c' : Text) → ns ≡ nodes-of s e' w' (suc (p .nodes)) → Findable s e' w' c' (suc (p .nodes)) → Tabled (suc (p .nodes)) (σ .table) t'
+      → suc (p .nodes) ≤ p .at → Carries s (notes-to ws e' w' t' c') (noted-to p (suc (p .nodes))) (notes (σ .out) ns (σ .table) (σ .args) (σ .rest))
+  with-node ns e' w' t' c' n f t l = record {
     source = h .source;
     place = h .place;
     rest = h .rest;
-    rows = h .rows ++ (x ∷ []);
-    inside = inside-more s (h .rows) x (h .inside) b;
-    nodes-are = ap (λ (ns : List Node). ns ++ (node-in s x ∷ [])) (h .nodes-are) ∙ sym (nodes-more s (h .rows) x);
-    notes-are = e;
-    nodes-count = omega (arith, h .nodes-count, length-append (h .rows) (x ∷ []));
+    nodes-are = n;
+    found = f;
+    tabled = t;
     table-count = h .table-count;
     firsts-count = h .firsts-count;
-    numbers = h .numbers;
     out-is = h .out-is;
     out-count = h .out-count;
     args-count = h .args-count;
@@ -162,3 +151,7 @@ puts-by {w} {o} {o'} {p} {r} {k} e q = (
       (with-out h (σ .out ++ w) o' k (front-wrote (h .out-is) (h .out-count) (omega (arith, h .out-count, h .place, h .source)) q)
       (omega (arith, q .end, h .out-count, length-append (σ .out) w)) (omega (arith, q .end))),
 )
+
+-- a node that was noted has its number
+pub numbered-note : {s : Text} {ws : Work} {p : Writer} (x : Node) (σ : Notes) {d : ℕ} → Carries s ws p (noted x σ) → d ≡ number-of x (σ .nodes) → Numbered p d
+numbered-note x σ h e = numbered h (subst (λ (k : ℕ). NumberIn k (noted x σ .nodes)) (sym e) (number-in x (σ .nodes)))

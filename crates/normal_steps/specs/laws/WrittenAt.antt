@@ -1,14 +1,16 @@
 -- Laws of WrittenAt.antt. Assumes nothing.
 use mathlib.Core.Path.{_≡_, refl, sym, ap, ap₂, subst, _∙_}
-use mathlib.Core.List.{[], _∷_, _++_, append-assoc}
+use mathlib.Core.List.{List, [], _∷_, _++_, append-assoc}
 use Prim.Native.Nat.{ℕ, zero, suc, _+_, _-_, _/_, _%_, _^_, _≤_, _<_}
 use native.Mathlib.Omega.{arith}
 use lib.ListN.{length, take, drop, set, length-append}
-use lib.Seq.{sets-eq, take-at, drop-at, drop-drop, length-take-le}
+use lib.Seq.{sets-eq, take-at, take-length, drop-at, drop-drop, length-take-le}
 use Rattle.grammar.specs.Text.{Text, decimal}
 use Rattle.grammar.specs.laws.Text.{decimal-last, decimal-more}
 use Rattle.grammar.specs.Numbers.{Decimal}
 use Rattle.grammar.specs.laws.Decimals.{decimal-enough}
+use Rattle.store.specs.Table.{Front}
+use Rattle.store.specs.laws.Fronts.{front-paste}
 use Rattle.normal_steps.specs.WrittenAt.{WrittenAt}
 
 pub wrote-as : {out out' v w : Text} {at r : ℕ} → v ≡ w → WrittenAt out out' at r v → WrittenAt out out' at r w
@@ -25,14 +27,6 @@ module _ (out : Text) (at a : ℕ) where
     wrote-two h =
         let e : at + 1 ≡ suc at = omega arith in
         record { is = ap (λ (j : ℕ). set (set out at a) j b) e ∙ sets-eq (a ∷ b ∷ []) out at h; end = refl }
-
-    pub wrote-four : (c d : ℕ) → at + 4 ≤ length out
-        → WrittenAt out (set (set (set (set out at a) (at + 1) b) (at + 2) c) (at + 3) d) at (at + 4) (a ∷ b ∷ c ∷ d ∷ [])
-    wrote-four c d h =
-        let e : at + 1 ≡ suc at = omega arith in
-        let f : at + 2 ≡ suc (suc at) = omega arith in
-        let g : at + 3 ≡ suc (suc (suc at)) = omega arith in
-        record { is = rw (e, f, g) (sets-eq (a ∷ b ∷ c ∷ d ∷ []) out at h); end = refl }
 
 -- one text behind another
 pub wrote-both : {o o' o'' v w : Text} {at m r : ℕ} → at + length v ≤ length o → WrittenAt o o' at m v → WrittenAt o' o'' m r w → WrittenAt o o'' at r (v ++ w)
@@ -60,10 +54,15 @@ wrote-both {o} {o'} {o''} {v} {w} {at} {m} {r} h p q =
 pub wrote-behind : {o o' v : Text} {at m : ℕ} (x : ℕ) → length o' ≡ length o → m < length o' → WrittenAt o o' at m v → WrittenAt o (set o' m x) at (m + 1) (v ++ (x ∷ []))
 wrote-behind {o} {o'} {v} {at} {m} x e h w = wrote-both (omega (arith, e, w .end)) w (wrote-one o' m x (omega arith))
 
+-- a text is written behind what is used
+pub front-wrote : {n : ℕ} {w t o o' : List ℕ} {at r : ℕ} → Front n w o → at ≡ length w → length w + length t ≤ n → WrittenAt o o' at r t → Front n (w ++ t) o'
+front-wrote {t = t} {o = o} h f l q =
+    front-paste h t l (q .is ∙ ap₂ (λ (k : ℕ) (u : List ℕ). take k o ++ u ++ drop (k + length t) o) f (sym (take-length t)))
+
 -- ---------------------------------------------------------------- decimal
 
-pub decimal-one : (n : ℕ) → n < 10 → decimal (suc n) n ≡ (48 + n) ∷ []
-decimal-one n h = decimal-last (suc n) n h (omega arith)
+pub decimal-one : (n : ℕ) → n < 10 → length (decimal (suc n) n) ≡ 1
+decimal-one n h = ap length (decimal-last (suc n) n h (omega arith))
 
 two-digits : (k n : ℕ) → 2 ≤ k → 10 ≤ n → n < 100 → decimal k n ≡ (48 + n / 10) ∷ (48 + n % 10) ∷ []
 two-digits k n m l h =
@@ -73,27 +72,36 @@ three-digits : (k n : ℕ) → 3 ≤ k → 100 ≤ n → n < 1000 → decimal k 
 three-digits k n m l h =
     decimal-more k n (omega arith) (omega arith) ∙ ap (λ (t : Text). t ++ ((48 + n % 10) ∷ [])) (two-digits (k - 1) (n / 10) (omega arith) (omega arith) (omega arith))
 
+four-digits : (k n : ℕ) → 4 ≤ k → 1000 ≤ n → n < 10000
+    → decimal k n ≡ (48 + n / 10 / 10 / 10) ∷ (48 + n / 10 / 10 % 10) ∷ (48 + n / 10 % 10) ∷ (48 + n % 10) ∷ []
+four-digits k n m l h =
+    decimal-more k n (omega arith) (omega arith) ∙ ap (λ (t : Text). t ++ ((48 + n % 10) ∷ [])) (three-digits (k - 1) (n / 10) (omega arith) (omega arith) (omega arith))
+
 module _ (n : ℕ) where
-  pub decimal-two : 10 ≤ n → n < 100 → decimal (suc n) n ≡ (48 + n / 10) ∷ (48 + n % 10) ∷ []
-  decimal-two l h = two-digits (suc n) n (omega arith) l h
+  pub decimal-two : 10 ≤ n → n < 100 → length (decimal (suc n) n) ≡ 2
+  decimal-two l h = ap length (two-digits (suc n) n (omega arith) l h)
 
-  pub decimal-three : 100 ≤ n → n < 1000 → decimal (suc n) n ≡ (48 + n / 10 / 10) ∷ (48 + n / 10 % 10) ∷ (48 + n % 10) ∷ []
-  decimal-three l h = three-digits (suc n) n (omega arith) l h
+  pub decimal-three : 100 ≤ n → n < 1000 → length (decimal (suc n) n) ≡ 3
+  decimal-three l h = ap length (three-digits (suc n) n (omega arith) l h)
 
-  pub decimal-four : 1000 ≤ n → n < 10000
-      → decimal (suc n) n ≡ (48 + n / 10 / 10 / 10) ∷ (48 + n / 10 / 10 % 10) ∷ (48 + n / 10 % 10) ∷ (48 + n % 10) ∷ []
-  decimal-four l h =
-      decimal-more (suc n) n (omega arith) (omega arith) ∙ ap (λ (t : Text). t ++ ((48 + n % 10) ∷ [])) (three-digits (suc n - 1) (n / 10) (omega arith) (omega arith) (omega arith))
+  pub decimal-four : 1000 ≤ n → n < 10000 → length (decimal (suc n) n) ≡ 4
+  decimal-four l h = ap length (four-digits (suc n) n (omega arith) l h)
+
+  pub decimal-five : 10000 ≤ n → n < 100000 → length (decimal (suc n) n) ≡ 5
+  decimal-five l h =
+      ap length
+      (decimal-more (suc n) n (omega arith) (omega arith)
+      ∙ ap (λ (t : Text). t ++ ((48 + n % 10) ∷ [])) (four-digits (suc n - 1) (n / 10) (omega arith) (omega arith) (omega arith)))
 
 below-power : (n : ℕ) → n < 10 ^ suc n
 below-power zero = omega arith
 below-power (suc n) = let h = below-power n in omega arith
 
-pub decimal-as : (n : ℕ) → n < 10000 → decimal 20 n ≡ decimal (suc n) n
+pub decimal-as : (n : ℕ) → n < 100000 → decimal 20 n ≡ decimal (suc n) n
 decimal-as n h =
     let l : n < 100000000000000000000 = omega arith in decimal-enough 20 (suc n) n (omega arith) (omega arith) l (below-power n)
 
-pub wrote-decimal : {out out' : Text} {at n end r : ℕ} → n < 10000 → end ≡ at + length (decimal (suc n) n) → Decimal n end out out' r
+pub wrote-decimal : {out out' : Text} {at n end r : ℕ} → n < 100000 → end ≡ at + length (decimal (suc n) n) → Decimal n end out out' r
     → WrittenAt out out' at end (decimal (suc n) n)
 wrote-decimal {out} {out'} {at} {n} {end} {r} h f w =
     let e = decimal-as n h in

@@ -13,7 +13,6 @@ use Rattle.grammar.specs.laws.Text.{starts-nothing}
 use Rattle.grammar.specs.Limits.{most-symbol-bytes}
 use Rattle.store.specs.Table.{Front}
 use Rattle.catalogue.specs.Class.{most-arguments}
-use Rattle.catalogue.specs.Answer.{least-normal-ends}
 use Rattle.catalogue.specs.Spelling.{name-bytes}
 use Rattle.catalogue.specs.Recogniser.{Rd, stop, if-next}
 use Rattle.normal_walk.specs.Walk.{name}
@@ -25,11 +24,13 @@ use Rattle.grammar.specs.laws.Places.{rest-some, rest-none}
 use Rattle.normal_steps.specs.laws.Tests.{next-here, next-not}
 use Rattle.normal_steps.specs.States.{begun-at, moved-to}
 use Rattle.normal_steps.specs.laws.Told.{Answered, answered, refused}
-use Rattle.normal_steps.specs.laws.Limits.{spent-room}
 use Rattle.normal_steps.specs.laws.LeafSteps.{name-size}
 use Rattle.normal_steps.specs.Answers.{NameAt}
-use Rattle.normal_steps.specs.laws.Regions.{regions-none}
-use Rattle.normal_steps.specs.Carries.{nodes-in, flat, Inside, Work, out-to, Carries, Ready, Spent, Room, Refines, Fueled, Puts, Tag, Closes, closed}
+use Rattle.normal_steps.specs.laws.Found.{found-nothing}
+use Rattle.normal_steps.specs.laws.Tabled.{tabled-nothing}
+use Rattle.normal_steps.specs.Rows.{nodes-of}
+use Rattle.normal_steps.specs.Carries.{Work, out-to, Sized, Carries, Ready, Spent, Spare, Refines, Fueled, Puts, Tag, Closes, closed}
+use Rattle.normal_writer.specs.laws.Loops.{Same, same-now}
 use Rattle.normal_writer.specs.Writes.{Writes, writes, outside, Heads, heads, nameless, Scoped, Plain, Functions, at-plain, Ended, ended, broken, Types}
 use Rattle.normal_steps.specs.declared.state.Writer.{Writer}
 use Rattle.normal_steps.specs.declared.state.Told.{Told}
@@ -42,21 +43,18 @@ use Rattle.normal_writer.specs.declared.symbol.Finished.the-variants.{Sy
 -- ---------------------------------------------------------------- the start
 
 -- nothing is noted, and w is written
-pub begun-holds : (s w : Text) (at : ℕ) {ws : Work} {p : Writer} → p ≡ begun-at at (length w) → length s ≤ most-symbol-bytes → at ≤ length s → length w ≤ 16 * at
-    → Front out-length w (ws .out) → length (ws .notes) ≡ least-normal-ends → Carries s ws p (notes w [] [] 0 (drop at s))
-unfolding nodes-in flat Inside note-add-all
+pub begun-holds : (s w : Text) (at : ℕ) {ws : Work} {p : Writer} → p ≡ begun-at at (length w) → length s ≤ most-symbol-bytes → at ≤ length s → length w + 1 ≤ 4 * at
+    → Front out-length w (ws .out) → Sized (ws .ends) (ws .words) (ws .tables) (ws .chains) → Carries s ws p (notes w [] [] 0 (drop at s))
+unfolding nodes-of note-add-all
 begun-holds s w at {ws} {p} e l h k o z = subst (λ (q : Writer). Carries s ws q (notes w [] [] 0 (drop at s))) (sym e) (record {
   source = l;
   place = h;
   rest = refl;
-  rows = [];
-  inside = tt;
   nodes-are = refl;
-  notes-are = regions-none z;
-  nodes-count = refl;
+  found = found-nothing z;
+  tabled = tabled-nothing (z .tables);
   table-count = refl;
   firsts-count = refl;
-  numbers = refl;
   out-is = o;
   out-count = refl;
   args-count = refl;
@@ -105,19 +103,19 @@ pub record Started (s w : Text) (ws : Work) (p : Writer) : Type 0 where
   pub two : 2 ≤ length w
   pub fits : length w ≤ length s
   pub out-is : Front out-length w (ws .out)
-  pub notes-size : length (ws .notes) ≡ least-normal-ends
+  pub sizes : Sized (ws .ends) (ws .words) (ws .tables) (ws .chains)
 
 pub begun-by : (s w : Text) (ws : Work) {o : Text} {p : Writer}
-    → (length s ≤ most-symbol-bytes) × ((2 ≤ length w) × ((length w ≤ 4) × (length w ≤ length s))) → length (ws .notes) ≡ least-normal-ends
+    → (length s ≤ most-symbol-bytes) × ((2 ≤ length w) × ((length w ≤ 4) × (length w ≤ length s))) → Sized (ws .ends) (ws .words) (ws .tables) (ws .chains)
     → (p ≡ begun-at (length w) (length w)) × Front out-length w o → Started s w (out-to ws o) p
-begun-by s w ws h z k = record { is = k .0; source = h .0; two = h .1 .0; fits = h .1 .1 .1; out-is = k .1; notes-size = z }
+begun-by s w ws h z k = record { is = k .0; source = h .0; two = h .1 .0; fits = h .1 .1 .1; out-is = k .1; sizes = z }
 
 abbrev pub first : Text → Text → Notes
 first s w = notes w [] [] 0 (drop (length w) s)
 
 module _ {s w : Text} {ws : Work} {p : Writer} (b : Started s w ws p) where
   pub scoped-holds : Carries s ws p (first s w)
-  scoped-holds = begun-holds s w (length w) (b .is) (b .source) (b .fits) (omega arith) (b .out-is) (b .notes-size)
+  scoped-holds = begun-holds s w (length w) (b .is) (b .source) (b .fits) (omega (arith, b .two)) (b .out-is) (b .sizes)
 
   at-is : p .at ≡ length w
   at-is = ap (λ (x : Writer). x .at) (b .is)
@@ -125,26 +123,26 @@ module _ {s w : Text} {ws : Work} {p : Writer} (b : Started s w ws p) where
   end-is : p .out ≡ length w
   end-is = ap (λ (x : Writer). x .out) (b .is)
 
-  module _ {ws' : Work} {r : Told} (f : Fueled 1 (p .out) 0 (λ m. note-parts m (p .out)) s ws ws' p r) where
-    by-size : (m : ℕ) → length s ≤ m + length w → Refines s (Spent 1 (p .out) p) ws' r (note-parts m (length w) (first s w))
+  module _ {ws' : Work} {r : Told} (f : Fueled 1 5 (p .out) 0 (λ m. note-parts m (p .out)) s ws ws' p r) where
+    by-size : (m : ℕ) → length s ≤ m + length w → Refines s (Spent 1 5 (p .out) p) ws' r (note-parts m (length w) (first s w))
     by-size m k =
         let a = at-is in
-        subst (λ (j : ℕ). Refines s (Spent 1 (p .out) p) ws' r (note-parts m j (first s w))) end-is (f (first s w) scoped-holds m (omega arith))
+        subst (λ (j : ℕ). Refines s (Spent 1 5 (p .out) p) ws' r (note-parts m j (first s w))) end-is (f (first s w) scoped-holds m (omega arith))
 
     pub scoped-none : (c : Bool) → r ≡ Bad → Scoped w c s ws' no-name
     scoped-none c g m k = heads-by (ap (note-at-scoped c) (refused g (by-size m k))) nameless
 
     module _ {q : Writer} {u : ℕ} (g : r ≡ Number q u) where
-      pub scoped-told : (m : ℕ) → length s ≤ m + length w → Answered s (Spent 1 (p .out) p) ws' q u (note-parts m (length w) (first s w))
+      pub scoped-told : (m : ℕ) → length s ≤ m + length w → Answered s (Spent 1 5 (p .out) p) ws' q u (note-parts m (length w) (first s w))
       scoped-told m k = answered g (by-size m k)
 
-      pub scoped-ready : Answered s (Spent 1 (p .out) p) ws' q u (note-parts (length s) (length w) (first s w))
+      pub scoped-ready : Answered s (Spent 1 5 (p .out) p) ws' q u (note-parts (length s) (length w) (first s w))
       scoped-ready = scoped-told (length s) (omega arith)
 
-      pub scoped-room : Room 0 0 1 q
-      scoped-room = spent-room scoped-holds (scoped-ready .limits) (omega arith) (omega arith) (omega arith)
+      pub scoped-room : Spare 1 q
+      scoped-room = omega (arith, scoped-ready .limits .out)
 
-      module _ (c : Bool) {v : ℕ} {y : Bool} (d : Tag (ws' .notes) q u v) (x : y ≡ a-bare v) where
+      module _ (c : Bool) {v : ℕ} {y : Bool} (d : Tag (ws' .ends) q u v) (x : y ≡ a-bare v) where
         by-tag : (m : ℕ) (k : length s ≤ m + length w)
             → note-at-scoped c (note-parts m (length w) (first s w)) ≡ when y (got c (closed (scoped-told m k .state)))
         by-tag m k =
@@ -174,7 +172,7 @@ module _ (m : ℕ) where
   nested t = if-next 75 t constant (other t)
 
 module _ (s : Text) {ws : Work} {r : Headed} where
-  pub function-plain : starts (drop 2 s) (78 ∷ []) ≡ false → length (ws .notes) ≡ least-normal-ends → Plain s (ws .out) r → Functions s ws r
+  pub function-plain : starts (drop 2 s) (78 ∷ []) ≡ false → Sized (ws .ends) (ws .words) (ws .tables) (ws .chains) → Plain s (ws .out) r → Functions s ws r
   function-plain h z f m k = heads-by (next-not 78 (nested m) (at-plain (drop 2 s)) (drop 2 s) h) (f ws z)
 
   module _ (h : starts (drop 2 s) (78 ∷ []) ≡ true) where
@@ -215,18 +213,18 @@ module _ {s : Text} {ws : Work} {p : Writer} {g : Got (Unit {0})} (a : Goes s ws
       ∙ ap (λ (t : Text). note-at-end (a .state) t (λ ρ. note-types (a .fuel) ρ)) (a .holds .rest ∙ rest-some s (p .at) here)
       ∙ ap (λ (m : ℕ). note-types m (a .state)) {x = a .fuel} {y = suc less} (omega (arith, a .enough))
 
-  module _ {ws' : Work} {r : Told} (f : Fueled 1 (p .out) 0 note-type s ws ws' p r) where
-    typed : Refines s (Spent 1 (p .out) p) ws' r (note-type less (a .state))
+  module _ {ws' : Work} {r : Told} (f : Fueled 1 4 (p .out) 0 note-type s ws ws' p r) where
+    typed : Refines s (Spent 1 4 (p .out) p) ws' r (note-type less (a .state))
     typed = f (a .state) (a .holds) less (omega (arith, a .enough))
 
     pub turn-none : r ≡ Bad → g ≡ bad
     turn-none e = step ∙ ap (λ (x : Got ℕ). next x (λ t τ. when (not (a-lit (tag-of (τ .nodes) t))) (note-at-end τ (τ .rest) (λ ρ. note-types less ρ)))) (refused e typed)
 
     module _ {q : Writer} {t : ℕ} (e : r ≡ Number q t) where
-      pub turn-told : Answered s (Spent 1 (p .out) p) ws' q t (note-type less (a .state))
+      pub turn-told : Answered s (Spent 1 4 (p .out) p) ws' q t (note-type less (a .state))
       turn-told = answered e typed
 
-      module _ {v : ℕ} (d : Tag (ws' .notes) q t v) where
+      module _ {v : ℕ} (d : Tag (ws' .ends) q t v) where
         abbrev after : Notes
         after = turn-told .state
 
@@ -251,12 +249,11 @@ module _ {s : Text} {ws : Work} {p : Writer} {g : Got (Unit {0})} (a : Goes s ws
 
 -- the turns of the loop so far, from the slices ws and the state p
 pub record Turned (s : Text) (ws ws' : Work) (p q : Writer) : Type 0 where
-  pub out-kept : length (ws' .out) ≡ length (ws .out)
-  pub notes-kept : length (ws' .notes) ≡ length (ws .notes)
+  pub same : Same ws' ws
   pub goes : (σ : Notes) → Carries s ws p σ → (m : ℕ) → length s + 1 ≤ m + p .at → Goes s ws' q (note-at-end σ (σ .rest) (λ ρ. note-types m ρ))
 
 pub turned-none : {s : Text} {ws : Work} {p : Writer} → Turned s ws ws p p
-turned-none = record { out-kept = refl; notes-kept = refl; goes = λ σ h m l. record { state = σ; fuel = m; holds = h; enough = l; is = refl } }
+turned-none = record { same = same-now; goes = λ σ h m l. record { state = σ; fuel = m; holds = h; enough = l; is = refl } }
 
 -- where the first state is ready, so is this one
 pub turned-from : {s : Text} {ws ws' : Work} {p q : Writer} → Turned s ws ws' p q → (y : Ready s ws p)

@@ -2,7 +2,7 @@
 use mathlib.Core.Bool.{Bool, true, false}
 use mathlib.Core.List.{[], _∷_}
 use mathlib.Core.Path.{_≡_, refl, sym, ap, _∙_, subst}
-use Prim.Native.Nat.{ℕ, zero, suc, _+_, _≤_, _<_}
+use Prim.Native.Nat.{ℕ, zero, suc, _+_, _*_, _≤_, _<_}
 use native.Mathlib.Omega.{arith}
 use lib.Dec.{eqb}
 use lib.ListN.{length, drop, getD}
@@ -11,17 +11,19 @@ use Rattle.catalogue.specs.Tree.{Letter, Wrap}
 use Rattle.catalogue.specs.Recogniser.{if-next, Lead, lead-letter, lead-wrap, lead-L, lead-none, lead}
 use Rattle.normal_nodes.specs.Nodes.{Notes, Noter, Got, got, next, when, put, go-to, entered, note-at-lead, note-at-name, at-reference, note-with-args}
 use Rattle.normal_nodes.specs.Nodes.{note-type, note-args, note-parts}
+use Rattle.normal_nodes.specs.laws.Numbered.{TellsNode}
 use Rattle.normal_steps.specs.States.{moved-to}
-use Rattle.normal_steps.specs.Carries.{Work, out-to, notes-to, Carries, Ready, ReadyOut, ReadyNotes, Room, Spent, Tag}
+use Rattle.normal_steps.specs.Carries.{Work, out-to, tables-to, notes-to, Carries, Ready, ReadyOut, ReadyNotes, Numbered, Stretch, Room, Spare, Spent, Tag}
 use Rattle.normal_steps.specs.Carries.{Refines, tells, refuses, Reads, Fueled, Steps, Does, Copies, Closes, most-number, at-literal, counts-arg, wraps, closed}
 use Rattle.normal_writer.specs.Cycle.{Leads, WithArgs}
 use Rattle.normal_steps.specs.laws.Told.{Answered, answered, refused, by, within}
 use Rattle.normal_steps.specs.laws.Steps.{on-got, on-bad}
 use Rattle.normal_steps.specs.laws.Moves.{first-byte, no-byte, byte-is, byte-not, holds-next, ready-out, ready-notes}
 use Rattle.normal_steps.specs.laws.Tests.{byte-next}
-use Rattle.normal_steps.specs.laws.Limits.{spent-less, spent-spent, passed-spent, passed-none, spent-took, took-more, spent-nothing, spent-moved, spent-stands, spent-room}
+use Rattle.normal_steps.specs.laws.Limits.{spent-less, spent-spent, passed-spent, passed-none, spent-took, spent-closed, spent-nothing, spent-moved, spent-stands, spent-room}
+use Rattle.normal_steps.specs.laws.Slices.{numbered}
 use Rattle.normal_writer.specs.laws.FirstBytes.{type-none, type-some}
-use Rattle.normal_writer.specs.laws.Loops.{SoFar, one-more}
+use Rattle.normal_writer.specs.laws.Loops.{Same, SoFar, one-more}
 use Rattle.normal_steps.specs.declared.state.Writer.{Writer}
 use Rattle.normal_steps.specs.declared.state.Told.{Told}
 use Rattle.normal_steps.specs.declared.state.Told.the-variants.{Number, Bad}
@@ -29,30 +31,37 @@ use Rattle.normal_steps.specs.declared.state.Told.the-variants.{Number, Bad}
 -- ---------------------------------------------------------------- a reading with fuel, once
 
 -- what is known behind a member's answer, whatever the fuel
-pub fueled : {s : Text} {ws ws' : Work} {k b : ℕ} {f : ℕ → Noter ℕ} {p q : Writer} {d : ℕ} {r : Told} (e : ℕ) → r ≡ Number q d → Fueled k b e f s ws ws' p r
-    → (w : Ready s ws p) → Answered s (Spent k b p) ws' q d (f (length s + e) (w .0))
+pub fueled : {s : Text} {ws ws' : Work} {k c b : ℕ} {f : ℕ → Noter ℕ} {p q : Writer} {d : ℕ} {r : Told} (e : ℕ) → r ≡ Number q d → Fueled k c b e f s ws ws' p r
+    → (w : Ready s ws p) → Answered s (Spent k c b p) ws' q d (f (length s + e) (w .0))
 fueled {s} e i u (σ, h) = answered i (u σ h (length s + e) (omega arith))
 
 -- ---------------------------------------------------------------- wrap
 
 module _ {s : Text} {ws ws₂ : Work} {o₁ : Text} {p p₁ : Writer} {r₁ : Told}
-    (k : Copies s (ws .out) o₁ p p₁) (u : Fueled 1 (p₁ .out) 0 note-type s (out-to ws o₁) ws₂ p₁ r₁) where
+    (k : Copies s (ws .out) o₁ p p₁) (u : Fueled 1 4 (p₁ .out) 0 note-type s (out-to ws o₁) ws₂ p₁ r₁) where
   pub wrap-refused : (q : Wrap) (c : ℕ) → r₁ ≡ Bad → Leads (lead-wrap q) c s ws ws₂ p Bad
   wrap-refused q c e σ h m l t i = by (on-bad _ (refused e (u _ (k .1 ws σ h c t i) m (omega (arith, k .0))))) refuses
 
   module _ {p₂ : Writer} {d : ℕ} (e : r₁ ≡ Number p₂ d) where
     pub wrap-next : p .at < length s → Ready s ws p
-        → (d < most-number) × ((p .out ≤ p₂ .out) × ((Room 1 1 5 p₂) × Ready s ws₂ p₂))
+        → (d < most-number) × ((Stretch (p .out) p₂) × ((Room 1 1 p₂) × Ready s ws₂ p₂))
     wrap-next l (σ, h) =
         let w = fueled 0 e u (_, k .1 ws σ h _ _ (first-byte h l)) in
-        (w .small, (omega (arith, w .limits, k .0), (spent-room h (passed-spent (k .0) (omega arith) (w .limits)) (omega arith) (omega arith) (omega arith), (w .state, w .holds))))
+        (
+          w .small,
+          (
+            record { stands = omega (arith, w .limits .stands, k .0); fits = omega (arith, h .short, w .limits .at, k .0); spare = w .limits .out },
+            (spent-room h (passed-spent (k .0) (w .limits)) (omega arith) (omega arith), (w .state, w .holds)),
+          ),
+        )
 
     pub wrap-answer : {ws₃ : Work} {r : Told} (q : Wrap) (c : ℕ) → Steps 1 1 5 (p .out) (wraps c d (p .out)) s ws₂ ws₃ p₂ r
         → Leads (lead-wrap q) c s ws ws₃ p r
     wrap-answer q c v σ h m l t i =
         let w = answered e (u _ (k .1 ws σ h c t i) m (omega (arith, k .0))) in
         by (on-got _ (w .is) ∙ ap (λ (from : ℕ). wraps c d from (w .state)) (sym (h .out-count)))
-        (within (λ x y. spent-took (passed-spent (k .0) (omega arith) (w .limits)) y (omega arith) (omega arith) (omega arith)) (v (w .state) (w .holds)))
+        (within (λ x y. spent-took (passed-spent (k .0) (w .limits)) y (omega arith) (omega arith) (omega (arith, w .limits .out, w .limits .at, h .short, k .0)))
+        (v (w .state) (w .holds)))
 
 -- ---------------------------------------------------------------- a first part, and what follows it
 
@@ -65,7 +74,7 @@ by-reference from t σ = at-reference from (go-to t σ)
 
 -- it was read, two bytes or more
 abbrev pub Behind : Writer → Writer → Type 0
-Behind p q = (p .at + 2 ≤ q .at) × Spent 1 (p .out) p q
+Behind p q = (p .at + 2 ≤ q .at) × Spent 1 4 (p .out) p q
 
 abbrev pub FirstPart : (ℕ → Text → Noter ℕ) → Text → Work → Work → Writer → Told → Type 0
 FirstPart f s ws ws' p r =
@@ -75,7 +84,7 @@ FirstPart f s ws ws' p r =
 abbrev pub Classed : (ℕ → Text → Noter ℕ) → Text → Work → Work → Writer → Told → Type 0
 Classed f s ws ws' p r =
     (c : ℕ) (σ : Notes) → Carries s ws p σ → (m : ℕ) → length s ≤ suc m + p .at → (t : Text) → σ .rest ≡ c ∷ t
-    → Refines s (Spent 1 (p .out) p) ws' r (next (f (length (σ .out)) t σ) (λ d τ. note-with-args d (length (σ .out)) (λ v ρ. note-args m v ρ) τ))
+    → Refines s (Spent 1 4 (p .out) p) ws' r (next (f (length (σ .out)) t σ) (λ d τ. note-with-args d (length (σ .out)) (λ v ρ. note-args m v ρ) τ))
 
 module _ {s : Text} {ws ws₁ : Work} {p : Writer} {r₁ : Told} where
   pub first-named : Reads 2 (p .out) (note-at-name (p .out)) s ws ws₁ p r₁ → FirstPart by-name s ws ws₁ p r₁
@@ -87,7 +96,7 @@ module _ {s : Text} {ws ws₁ : Work} {p : Writer} {r₁ : Told} where
     where
       go : Reads 1 (p .out) (at-reference (p .out)) s ws ws₁ (moved-to p (p .at + 1)) r₁
           → Refines s (Behind p) ws₁ r₁ (at-reference (p .out) (go-to t σ))
-      go v = within (λ x (y, z). (omega arith, spent-less (omega arith) (passed-spent (passed-none p refl) (omega arith) z))) (v (go-to t σ) (holds-next h e refl))
+      go v = within (λ x (y, z). (omega arith, spent-less (omega arith) (passed-spent (passed-none p refl) z))) (v (go-to t σ) (holds-next h e refl))
 
   module _ (f : ℕ → Text → Noter ℕ) (u : FirstPart f s ws ws₁ p r₁) where
     class-at : (m : ℕ) (σ : Notes) (t : Text) → Carries s ws p σ
@@ -112,48 +121,54 @@ module _ {s : Text} {ws ws₁ : Work} {p : Writer} {r₁ : Told} where
 
 -- I and arguments, behind what has the number t
 module _ {s : Text} {ws ws₂ : Work} {o₁ : Text} {p p₁ : Writer} (t : ℕ) {r₁ : Told} (i : starts (drop (p .at) s) (73 ∷ []) ≡ true)
-    (k : Copies s (ws .out) o₁ p p₁) (u : Fueled 0 (p₁ .out) 1 (λ m. note-args m t) s (out-to ws o₁) ws₂ p₁ r₁) where
+    (k : Copies s (ws .out) o₁ p p₁) (u : Fueled 0 5 (p₁ .out) 1 (λ m. note-args m t) s (out-to ws o₁) ws₂ p₁ r₁) where
   pub args-from : {σ : Notes} → Carries s ws p σ → (m : ℕ) → length s ≤ m + p .at
-      → Refines s (Spent 0 (p₁ .out) p₁) ws₂ r₁ (note-args m t (put (73 ∷ []) (go-to (drop (p .at + 1) s) σ)))
+      → Refines s (Spent 0 5 (p₁ .out) p₁) ws₂ r₁ (note-args m t (put (73 ∷ []) (go-to (drop (p .at + 1) s) σ)))
   args-from {σ} h m l = u _ (k .1 ws σ h _ _ (byte-is h 73 i)) m (omega (arith, k .0))
 
   pub args-at : {σ : Notes} → Carries s ws p σ → (m : ℕ) → length s ≤ m + p .at
-      → Refines s (Spent 1 (p .out) p) ws₂ r₁ (note-args m t (put (73 ∷ []) (go-to (drop (p .at + 1) s) σ)))
-  args-at h m l = within (λ x y. spent-stands (omega (arith, k .0)) (passed-spent (k .0) (omega arith) y)) (args-from h m l)
+      → Refines s (Spent 1 5 (p .out) p) ws₂ r₁ (note-args m t (put (73 ∷ []) (go-to (drop (p .at + 1) s) σ)))
+  args-at h m l = within (λ x y. spent-stands (omega (arith, k .0)) (passed-spent (k .0) y)) (args-from h m l)
 
   module _ {p₂ : Writer} {d : ℕ} (e : r₁ ≡ Number p₂ d) where
-    pub args-told : (w : Ready s ws p) → Answered s (Spent 1 (p .out) p) ws₂ p₂ d (note-args (length s) t (put (73 ∷ []) (go-to (drop (p .at + 1) s) (w .0))))
+    pub args-told : (w : Ready s ws p) → Answered s (Spent 1 5 (p .out) p) ws₂ p₂ d (note-args (length s) t (put (73 ∷ []) (go-to (drop (p .at + 1) s) (w .0))))
     args-told (σ, h) = answered e (args-at h (length s) (omega arith))
 
 -- E was written behind them
 pub record Enclosed (s : Text) (ws : Work) (from : ℕ) (p q : Writer) (d : ℕ) : Type 0 where
   pub at : p .at + 1 ≤ q .at
   pub small : d < most-number
-  pub stands : from ≤ q .out
-  pub room : Room 0 1 5 q
+  pub numbered : Numbered q d
+  pub stretch : Stretch from q
+  pub room : Room 0 1 q
   pub ready : Ready s ws q
 
-module _ {s : Text} {ws ws₂ : Work} {p p₂ : Writer} {d b : ℕ} {g : Got ℕ} {σ : Notes} (h : Carries s ws p σ) (w : Answered s (Spent 1 b p) ws₂ p₂ d g) where
-  pub close-next : (Room 0 0 1 p₂) × ((s : Text) × ReadyOut s (ws₂ .out) p₂)
-  close-next = (spent-room h (w .limits) (omega arith) (omega arith) (omega arith), (_, ready-out (w .state, w .holds)))
+module _ {s : Text} {ws ws₂ : Work} {p p₂ : Writer} {d k : ℕ} {g : Got ℕ} {σ : Notes} (h : Carries s ws p σ) (w : Answered s (Spent (suc k) 5 (p .out) p) ws₂ p₂ d g) where
+  pub close-next : (Spare 1 p₂) × ((s : Text) × ReadyOut s (ws₂ .out) p₂)
+  close-next = (omega (arith, w .limits .out), (_, ready-out (w .state, w .holds)))
 
-  pub closed-next : {from : ℕ} {o₃ : Text} {p₃ : Writer} → from ≤ b → Closes (ws₂ .out) o₃ p₂ p₃ → Enclosed s (out-to ws₂ o₃) from p p₃ d
-  closed-next l v =
+  pub closed-next : {from : ℕ} {o₃ : Text} {p₃ : Writer} → TellsNode g → from ≤ p .out → from + 9 ≤ 4 * p₂ .at → Closes (ws₂ .out) o₃ p₂ p₃ → Enclosed s (out-to ws₂ o₃) from p p₃ d
+  closed-next n l m v =
       let a = v s ws₂ (w .state) (w .holds) in
       let x = a .limits in
       let y = w .limits in
+      let b = numbered (w .holds) (subst TellsNode (w .is) n) in
       record {
         at = omega arith;
         small = w .small;
-        stands = omega arith;
+        numbered = (b .0, omega (arith, b .1, x .more));
+        stretch = record { stands = omega (arith, y .stands, x .stands); fits = omega (arith, m, x .at); spare = omega (arith, y .out, x .out, x .at) };
         room = record {
           nodes = omega (arith, h .few-nodes);
           table = omega (arith, h .few-entries);
-          out = omega (arith, h .short);
           args = omega (arith, h .few-args);
         };
         ready = (_, a .holds);
       }
+
+-- what was read enters the table
+abbrev pub Enters : ℕ → ℕ → Text → Text → Text → Text → Writer → Writer → Type 0
+Enters d from o t o' t' p p' = (s : Text) (ws : Work) → Does 0 1 5 from (entered d from) s (tables-to (out-to ws o) t) (tables-to (out-to ws o') t') p p'
 
 -- ---------------------------------------------------------------- with_args
 
@@ -161,10 +176,10 @@ abbrev enclosed : ℕ → ℕ → ℕ → Text → Noter ℕ
 enclosed m t from r σ = next (note-args m t (put (73 ∷ []) (go-to r σ))) (λ u τ. got u (entered u from (closed τ)))
 
 module _ {s : Text} {ws : Work} {p : Writer} (t from : ℕ) where
-  pub without-args : starts (drop (p .at) s) (73 ∷ []) ≡ false → t < most-number → from ≤ p .out → WithArgs t from s ws ws p (Number p t)
+  pub without-args : starts (drop (p .at) s) (73 ∷ []) ≡ false → t < most-number → Stretch from p → WithArgs t from s ws ws p (Number p t)
   without-args e l b σ h m f = by (byte-not h 73 _ _ e) (tells h (spent-nothing b) l)
 
-  module _ (i : starts (drop (p .at) s) (73 ∷ []) ≡ true) {tag : ℕ} (g : Tag (ws .notes) p t tag) where
+  module _ (i : starts (drop (p .at) s) (73 ∷ []) ≡ true) {tag : ℕ} (g : Tag (ws .ends) p t tag) where
     with-args-at : {σ : Notes} (m : ℕ) → Carries s ws p σ → {b : Bool} → eqb tag 48 ≡ b → note-with-args t from (λ v ρ. note-args m v ρ) σ ≡ when b (enclosed m t from (drop (p .at + 1) s) σ)
     with-args-at {σ} m h {b} e =
         byte-next _ _ (byte-is h 73 i)
@@ -175,18 +190,18 @@ module _ {s : Text} {ws : Work} {p : Writer} (t from : ℕ) where
     args-barred e σ h m f = by (with-args-at m h e) refuses
 
     module _ (z : eqb tag 48 ≡ true) {o₁ : Text} {ws₂ : Work} {p₁ : Writer} {r₁ : Told}
-        (k : Copies s (ws .out) o₁ p p₁) (u : Fueled 0 (p₁ .out) 1 (λ m. note-args m t) s (out-to ws o₁) ws₂ p₁ r₁) where
+        (k : Copies s (ws .out) o₁ p p₁) (u : Fueled 0 5 (p₁ .out) 1 (λ m. note-args m t) s (out-to ws o₁) ws₂ p₁ r₁) where
       pub args-refused : r₁ ≡ Bad → WithArgs t from s ws ws₂ p Bad
       args-refused e σ h m f = by (with-args-at m h z ∙ on-bad _ (refused e (args-at t i k u h m (omega arith)))) refuses
 
-      pub args-answer : {p₂ p₃ p₄ : Writer} {d : ℕ} {o₃ : Text} {ws₄ : Work} → r₁ ≡ Number p₂ d → Closes (ws₂ .out) o₃ p₂ p₃
-          → ((s : Text) → Does 0 1 5 from (entered d from) s (out-to ws₂ o₃) ws₄ p₃ p₄) → WithArgs t from s ws ws₄ p (Number p₄ d)
-      args-answer e v w σ h m f =
+      pub args-answer : {p₂ p₃ p₄ : Writer} {d : ℕ} {o₃ o₄ t₄ : Text} → Stretch from p → r₁ ≡ Number p₂ d → Closes (ws₂ .out) o₃ p₂ p₃
+          → Enters d from o₃ (ws₂ .tables) o₄ t₄ p₃ p₄ → WithArgs t from s ws (tables-to (out-to ws₂ o₄) t₄) p (Number p₄ d)
+      args-answer n e v w σ h m f =
           let a = answered e (args-at t i k u h m (omega arith)) in
           let b = v s ws₂ (a .state) (a .holds) in
-          let c = w s (closed (a .state)) (b .holds) in
+          let c = w s ws₂ (closed (a .state)) (b .holds) in
           by (with-args-at m h z ∙ on-got _ (a .is))
-          (tells (c .holds) (spent-took (a .limits) (took-more _ (b .limits) (c .limits) (omega arith)) (omega arith) (omega arith) (omega arith)) (a .small))
+          (tells (c .holds) (spent-closed (a .limits) (b .limits) (c .limits) (omega (arith, n .fits, a .limits .at))) (a .small))
 
 -- ---------------------------------------------------------------- args
 
@@ -194,7 +209,7 @@ abbrev behind-arg : ℕ → ℕ → Noter ℕ
 behind-arg m d ρ = if-next 69 (ρ .rest) (λ r. got d (go-to r ρ)) (note-args m d ρ)
 
 abbrev pub ArgsFrom : ℕ → Text → Work → Writer → Work → Told → Type 0
-ArgsFrom t s ws p ws' r = Fueled 0 (p .out) 1 (λ m. note-args m t) s ws ws' p r
+ArgsFrom t s ws p ws' r = Fueled 0 5 (p .out) 1 (λ m. note-args m t) s ws ws' p r
 
 -- of the loop
 abbrev pub ArgsSoFar : Text → Work → Writer → ℕ → Work → Writer → ℕ → Type 0
@@ -204,18 +219,22 @@ args-by : (m t : ℕ) (σ : Notes) → note-args (suc m) t σ ≡ next (note-typ
 unfolding note-args
 args-by m t σ = refl
 
-module _ {s : Text} {ws ws₁ : Work} {p : Writer} {r₁ : Told} (t : ℕ) (u : Fueled 1 (p .out) 0 note-type s ws ws₁ p r₁) where
-  pub arg-refused : r₁ ≡ Bad → Fueled 0 (p .out) 1 (λ m. note-args m t) s ws ws₁ p Bad
+module _ {s : Text} {ws ws₁ : Work} {p : Writer} {r₁ : Told} (t : ℕ) (u : Fueled 1 4 (p .out) 0 note-type s ws ws₁ p r₁) where
+  pub arg-refused : r₁ ≡ Bad → Fueled 0 5 (p .out) 1 (λ m. note-args m t) s ws ws₁ p Bad
   arg-refused e σ h zero l = absurd (omega (arith, h .place))
   arg-refused e σ h (suc m) l = by (args-by m t σ ∙ on-bad _ (refused e (u σ h m (omega arith)))) refuses
 
   module _ {q : Writer} {x : ℕ} (e : r₁ ≡ Number q x) where
-    pub arg-next : t < most-number → Ready s ws p → (t < most-number) × ((x < most-number) × ((Room 1 0 0 q) × ReadyNotes s (ws₁ .notes) q))
+    pub arg-next : t < most-number → Ready s ws p → (t < most-number) × ((x < most-number) × ((Room 1 0 q) × ReadyNotes s (ws₁ .ends) (ws₁ .words) (ws₁ .tables) (ws₁ .chains) q))
     arg-next l (σ, h) =
-        let w = fueled 0 e u (σ, h) in (l, (w .small, (spent-room h (w .limits) (omega arith) (omega arith) (omega arith), ready-notes (w .state, w .holds))))
+        let w = fueled 0 e u (σ, h) in (l, (w .small, (spent-room h (w .limits) (omega arith) (omega arith), ready-notes (w .state, w .holds))))
 
-    module _ {n₂ : Text} {r₂ : Told} (v : (ws : Work) → Steps 1 0 0 (q .out) (counts-arg t x) s (notes-to ws (ws₁ .notes)) (notes-to ws n₂) q r₂) where
-      pub count-refused : r₂ ≡ Bad → Fueled 0 (p .out) 1 (λ m. note-args m t) s ws (notes-to ws₁ n₂) p Bad
+    module _ {e₂ w₂ t₂ c₂ : Text} {r₂ : Told}
+        (v : (ws : Work) → Steps 1 0 0 (q .out) (counts-arg t x) s (notes-to ws (ws₁ .ends) (ws₁ .words) (ws₁ .tables) (ws₁ .chains)) (notes-to ws e₂ w₂ t₂ c₂) q r₂) where
+      abbrev ws₂ : Work
+      ws₂ = notes-to ws₁ e₂ w₂ t₂ c₂
+
+      pub count-refused : r₂ ≡ Bad → Fueled 0 5 (p .out) 1 (λ m. note-args m t) s ws ws₂ p Bad
       count-refused i σ h zero l = absurd (omega (arith, h .place))
       count-refused i σ h (suc m) l =
           let w = answered e (u σ h m (omega arith)) in
@@ -223,14 +242,14 @@ module _ {s : Text} {ws ws₁ : Work} {p : Writer} {r₁ : Told} (t : ℕ) (u : 
 
       module _ {q₂ : Writer} {d : ℕ} (i : r₂ ≡ Number q₂ d) where
         abbrev Counted : Notes → Type 0
-        Counted σ = (τ : Notes) × ((Carries s (notes-to ws₁ n₂) q₂ τ) × ((Spent 0 (p .out) p q₂) × ((p .at + 1 ≤ q₂ .at) × (d < most-number))))
+        Counted σ = (τ : Notes) × ((Carries s ws₂ q₂ τ) × ((Spent 0 4 (p .out) p q₂) × ((p .at + 1 ≤ q₂ .at) × (d < most-number))))
 
         counted-at : {σ : Notes} → Carries s ws p σ → (m : ℕ) → length s ≤ m + p .at
             → (c : Counted σ) × (note-args (suc m) t σ ≡ behind-arg m d (c .0))
         counted-at {σ} h m l =
             let w = answered e (u σ h m (omega arith)) in
             let a = answered i (v ws₁ (w .state) (w .holds)) in (
-              (a .state, (a .holds, (spent-stands (omega (arith, w .limits, a .limits)) (spent-took (w .limits) (a .limits) (omega arith) (omega arith) (omega arith)), (omega (arith, w .limits, a .limits), a .small)))),
+              (a .state, (a .holds, (spent-stands (omega (arith, w .limits, a .limits)) (spent-took (w .limits) (a .limits) (omega arith) (omega arith) (omega (arith, w .limits .out))), (omega (arith, w .limits, a .limits), a .small)))),
               args-by m t σ ∙ on-got (λ x τ. next (counts-arg t x τ) (behind-arg m)) (w .is) ∙ on-got (behind-arg m) (a .is),
             )
 
@@ -238,32 +257,32 @@ module _ {s : Text} {ws ws₁ : Work} {p : Writer} {r₁ : Told} (t : ℕ) (u : 
         counted-next (σ, h) = counted-at h (length s) (omega arith) .0
 
         pub args-end : {z : Writer} → starts (drop (q₂ .at) s) (69 ∷ []) ≡ true → z ≡ moved-to q₂ (q₂ .at + 1)
-            → Fueled 0 (p .out) 1 (λ m. note-args m t) s ws (notes-to ws₁ n₂) p (Number z d)
+            → Fueled 0 5 (p .out) 1 (λ m. note-args m t) s ws ws₂ p (Number z d)
         args-end j g σ h zero l = absurd (omega (arith, h .place))
         args-end j g σ h (suc m) l =
             let ((τ, (k, (b, (a, y)))), f) = counted-at h m (omega arith) in
             by (f ∙ byte-next _ _ (byte-is k 69 j)) (tells (holds-next k (byte-is k 69 j) g) (spent-moved g b) y)
 
         args-more : {ws₃ : Work} {r : Told} → starts (drop (q₂ .at) s) (69 ∷ []) ≡ false
-            → Fueled 0 (q₂ .out) 1 (λ m. note-args m d) s (notes-to ws₁ n₂) ws₃ q₂ r → Fueled 0 (p .out) 1 (λ m. note-args m t) s ws ws₃ p r
+            → Fueled 0 5 (q₂ .out) 1 (λ m. note-args m d) s ws₂ ws₃ q₂ r → Fueled 0 5 (p .out) 1 (λ m. note-args m t) s ws ws₃ p r
         args-more j g σ h zero l = absurd (omega (arith, h .place))
         args-more j g σ h (suc m) l =
             let ((τ, (k, (b, (a, y)))), f) = counted-at h m (omega arith) in
             by (f ∙ byte-not k 69 _ _ j) (within (λ x z. spent-stands (b .stands) (spent-spent b z)) (g τ k m (omega arith)))
 
-        pub args-again : {F : Work → Told → Type 0} {ws₀ : Work} {p₀ : Writer} → starts (drop (q₂ .at) s) (69 ∷ []) ≡ false → length (ws₁ .out) ≡ length (ws .out) → length n₂ ≡ length (ws .notes)
-            → SoFar F s ws₀ p₀ (ArgsFrom t s ws p) ws p t → SoFar F s ws₀ p₀ (ArgsFrom d s (notes-to ws₁ n₂) q₂) (notes-to ws₁ n₂) q₂ d
-        args-again j x y w =
-            let (τ, (h, (v, (l, k)))) = counted-next (w .ready) in one-more w x y (omega (arith, l)) k (τ, h) (λ ws' r z. args-more j z)
+        pub args-again : {F : Work → Told → Type 0} {ws₀ : Work} {p₀ : Writer} → starts (drop (q₂ .at) s) (69 ∷ []) ≡ false → Same ws₂ ws
+            → SoFar F s ws₀ p₀ (ArgsFrom t s ws p) ws p t → SoFar F s ws₀ p₀ (ArgsFrom d s ws₂ q₂) ws₂ q₂ d
+        args-again j x w =
+            let (τ, (h, (v, (l, k)))) = counted-next (w .ready) in one-more w x (omega (arith, l)) k (τ, h) (λ ws' r z. args-more j z)
 
 -- ---------------------------------------------------------------- ty
 
 module _ {s : Text} {ws : Work} {p : Writer} where
-  pub type-end : length s ≤ p .at → Fueled 1 (p .out) 0 note-type s ws ws p Bad
+  pub type-end : length s ≤ p .at → Fueled 1 4 (p .out) 0 note-type s ws ws p Bad
   type-end l σ h m f = by (type-none σ m (no-byte h l)) refuses
 
   pub type-by : {ws' : Work} {r : Told} {l : Lead} → p .at < length s → lead (getD s (p .at) 0) ≡ l → Leads l (getD s (p .at) 0) s ws ws' p r
-      → Fueled 1 (p .out) 0 note-type s ws ws' p r
+      → Fueled 1 4 (p .out) 0 note-type s ws ws' p r
   type-by i e u σ h zero f = absurd (omega arith)
   type-by {l = l} i e u σ h (suc m) f =
       by (type-some σ m (first-byte h i) ∙ ap (λ (x : Lead). note-at-lead x (getD s (p .at) 0) (length (σ .out)) (drop (p .at + 1) s) σ (λ τ. note-type m τ) (λ v τ. note-args m v τ) (λ from τ. note-parts m from τ)) e)
@@ -271,14 +290,14 @@ module _ {s : Text} {ws : Work} {p : Writer} where
 
   pub letter-answer : {o' : Text} {q : Writer} (l : Letter) (c : ℕ) → c < most-number → Copies s (ws .out) o' p q → Leads (lead-letter l) c s ws (out-to ws o') p (Number q c)
   letter-answer l c y k σ h m f t e =
-      tells (k .1 ws σ h c t e) (let v = k .0 in record { at = omega arith; nodes = omega arith; table = omega arith; out = omega arith; args = omega arith; stands = omega arith }) y
+      tells (k .1 ws σ h c t e) (let v = k .0 in record { at = omega arith; nodes = omega arith; table = omega arith; args = omega arith; out = omega (arith, h .short, v .at, v .out); stands = omega arith }) y
 
   pub literal-answer : {ws' : Work} {q : Writer} {r : Told} (c : ℕ) → q ≡ moved-to p (p .at + 1) → Reads 1 (q .out) at-literal s ws ws' q r
       → Leads lead-L c s ws ws' p r
   literal-answer {ws'} {q} {r} c i u σ h m f t e = go (subst (λ (x : Writer). Reads 1 (x .out) at-literal s ws ws' x r) i u)
     where
-      go : Reads 1 (p .out) at-literal s ws ws' (moved-to p (p .at + 1)) r → Refines s (Spent 1 (p .out) p) ws' r (at-literal (go-to t σ))
-      go v = within (λ x (y, z). spent-less (omega arith) (passed-spent (passed-none p refl) (omega arith) z)) (v (go-to t σ) (holds-next h e refl))
+      go : Reads 1 (p .out) at-literal s ws ws' (moved-to p (p .at + 1)) r → Refines s (Spent 1 4 (p .out) p) ws' r (at-literal (go-to t σ))
+      go v = within (λ x (y, z). spent-less (omega arith) (passed-spent (passed-none p refl) z)) (v (go-to t σ) (holds-next h e refl))
 
   pub none-answer : (c : ℕ) → Leads lead-none c s ws ws p Bad
   none-answer c σ h m f t e = refuses

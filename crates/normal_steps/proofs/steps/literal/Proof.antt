@@ -15,14 +15,14 @@ use Rattle.normal_steps.proofs.steps.literal.Tie as tie
 
 returns : tie.Need-returns
 returns c σ h =
-    let a = c .before .before .before .before .before .before .args in
+    let a = c .before .before .before .before .before .before .before .before .before .args in
     let e = no-literal-at (a .s .now) (a .p .at) (c .before .before .literal .ensures) (c .enum-told .given .1) in
     by (with-none _ (ap literal (h .rest) ∙ e)) refuses
 
 put-byte-requires : tie.Need-put-byte-requires
 put-byte-requires c κs =
-    let a = c .before .before .before .before .before .before .before .before .before .args in
-    let h = c .before .before .before .before .before .before .before .before .before .pre .1 in
+    let a = c .before .before .before .before .before .before .before .before .before .before .before .before .args in
+    let h = c .before .before .before .before .before .before .before .before .before .before .before .before .pre .1 in
     let x = literal-at (a .s .now) (a .p .at) (c .before .before .before .before .before .literal .ensures) (c .before .before .before .to .given .1) in
     let v = x .0 in
     let w = passed-none (a .p) (c .moved .ensures) in
@@ -30,8 +30,8 @@ put-byte-requires c κs =
 
 put-part-requires : tie.Need-put-part-requires
 put-part-requires c κs =
-    let a = c .before .before .before .before .before .before .before .before .before .before .before .before .before .args in
-    let h = c .before .before .before .before .before .before .before .before .before .before .before .before .before .pre .1 in
+    let a = c .before .before .before .before .before .before .before .before .before .before .before .before .before .before .before .before .args in
+    let h = c .before .before .before .before .before .before .before .before .before .before .before .before .before .before .before .before .pre .1 in
     let x = literal-at (a .s .now) (a .p .at) (c .before .before .before .before .before .before .before .before .before .literal .ensures) (c .before .before .before .before .before .before .before .to .given .1) in
     let v = x .0 in
     let y = c .before .before .before .put-byte .ensures in
@@ -41,20 +41,20 @@ put-part-requires c κs =
 
 sub-note : tie.Need-sub-note
 sub-note c =
-    let a = c .before .before .before .before .before .before .before .before .before .before .before .before .before .before .before .before .before .before .args in
-    let x = literal-at (a .s .now) (a .p .at) (c .before .before .before .before .before .before .before .before .before .before .before .before .before .before .literal .ensures) (c .before .before .before .before .before .before .before .before .before .before .before .before .to .given .1) in
+    let a = c .before .before .before .before .before .before .before .before .before .before .before .before .before .before .before .before .before .before .before .before .before .before .before .before .args in
+    let x = literal-at (a .s .now) (a .p .at) (c .before .before .before .before .before .before .before .before .before .before .before .before .before .before .before .before .before .literal .ensures) (c .before .before .before .before .before .before .before .before .before .before .before .before .before .before .before .to .given .1) in
     omega (arith, x .0 .some)
 
 note-requires : tie.Need-note-requires
 note-requires c κs =
-    let a = c .before .before .before .before .before .before .before .before .before .before .before .before .before .before .before .before .before .before .args in
-    let h = c .before .before .before .before .before .before .before .before .before .before .before .before .before .before .before .before .before .before .pre .1 in
-    let x = literal-at (a .s .now) (a .p .at) (c .before .before .before .before .before .before .before .before .before .before .before .before .before .before .literal .ensures) (c .before .before .before .before .before .before .before .before .before .before .before .before .to .given .1) in
+    let a = c .before .before .before .before .before .before .before .before .before .before .before .before .before .before .before .before .before .before .before .before .before .before .before .before .args in
+    let h = c .before .before .before .before .before .before .before .before .before .before .before .before .before .before .before .before .before .before .before .before .before .before .before .before .pre .1 in
+    let x = literal-at (a .s .now) (a .p .at) (c .before .before .before .before .before .before .before .before .before .before .before .before .before .before .before .before .before .literal .ensures) (c .before .before .before .before .before .before .before .before .before .before .before .before .before .before .before .to .given .1) in
     let v = x .0 in
-    let e = c .before .before .before .before .before .before .before .before .before .moved .ensures in
-    let y = c .before .before .before .before .before .before .before .before .put-byte .ensures in
-    let z = c .before .before .before .before .put-part .ensures in
-    let k = signed-below _ (c .before .before .before .before .before .before .before .before .before .before .before .before .to .given .0 .1 .1 .0) (literal-kind h v (x .1)) in (
+    let e = c .before .before .before .before .before .before .before .before .before .before .before .before .moved .ensures in
+    let y = c .before .before .before .before .before .before .before .before .before .before .before .put-byte .ensures in
+    let z = c .before .before .before .before .before .before .before .put-part .ensures in
+    let k = signed-below _ (c .before .before .before .before .before .before .before .before .before .before .before .before .before .before .before .to .given .0 .1 .1 .0) (literal-kind h v (x .1)) in (
       (omega arith, omega (arith, c .signed .ensures)),
       (
         (omega (arith, v .some), omega (arith, v .inside)),
@@ -64,18 +64,18 @@ note-requires c κs =
 
 returns-2 : tie.Need-returns-2
 returns-2 c σ h =
-    let a = c .before .before .before .before .before .before .before .before .before .before .before .before .before .before .before .before .before .before .before .before .before .args in
-    let x = literal-at (a .s .now) (a .p .at) (c .before .before .before .before .before .before .before .before .before .before .before .before .before .before .before .before .before .literal .ensures) (c .before .before .before .before .before .before .before .before .before .before .before .before .before .before .before .to .given .1) in
+    let a = c .before .before .before .before .before .before .before .before .before .before .before .before .before .before .before .before .before .before .before .before .before .before .before .before .before .before .before .before .before .before .before .before .before .args in
+    let x = literal-at (a .s .now) (a .p .at) (c .before .before .before .before .before .before .before .before .before .before .before .before .before .before .before .before .before .before .before .before .before .before .before .before .before .before .literal .ensures) (c .before .before .before .before .before .before .before .before .before .before .before .before .before .before .before .before .before .before .before .before .before .before .before .before .to .given .1) in
     let v = x .0 in
-    let e = c .before .before .before .before .before .before .before .before .before .before .before .before .moved .ensures in
-    let y = c .before .before .before .before .before .before .before .before .before .before .before .put-byte .ensures in
-    let z = c .before .before .before .before .before .before .before .put-part .ensures in
+    let e = c .before .before .before .before .before .before .before .before .before .before .before .before .before .before .before .before .before .before .before .before .before .moved .ensures in
+    let y = c .before .before .before .before .before .before .before .before .before .before .before .before .before .before .before .before .before .before .before .before .put-byte .ensures in
+    let z = c .before .before .before .before .before .before .before .before .before .before .before .before .before .before .before .before .put-part .ensures in
     let w = literal-wrote h v (x .1) e y z in
     let k = v .some in
     let j = x .1 in
-    by (literal-is h v (x .1) _ (c .before .before .before .signed .ensures))
-    (within (λ q l. let g = l .at in (omega arith, spent w l (omega arith) (omega arith) (omega arith) (omega arith)))
-    (c .before .before .note .ensures (work-of (literal-held h v (x .1) e y z)) _ (literal-held h v (x .1) e y z)))
+    by (literal-is h v (x .1) _ (c .before .before .before .before .before .before .before .before .before .signed .ensures))
+    (within (λ q l. let g = l .at in (omega arith, spent w l (omega arith) (omega arith) (omega arith) (omega (arith, h .short, w .out))))
+    (c .before .before .before .before .before .before .before .before .note .ensures (work-of (literal-held h v (x .1) e y z)) _ (literal-held h v (x .1) e y z)))
 
 pub literal-spec : {M : Type 1} → statement M
 literal-spec =
@@ -92,6 +92,9 @@ literal-spec =
     (λ c κs. search needs)
     sub-note
     note-requires
+    (λ c. search needs)
+    (λ c. search needs)
+    (λ c. search needs)
     (λ c. search needs)
     (λ c. search needs)
     returns-2)

@@ -1,4 +1,4 @@
--- `normal_steps::write::write_decimal` writes a number of at most four digits. Assumes nothing.
+-- `normal_steps::write::write_decimal` writes a number of at most five digits. Assumes nothing.
 use mathlib.Core.Path.{ap}
 use Prim.Native.Nat.{ℕ, _+_}
 use native.Mathlib.Omega.{arith}
