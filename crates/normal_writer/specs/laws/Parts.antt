@@ -13,7 +13,7 @@ use Rattle.normal_walk.specs.Walk.{name}
 use Rattle.normal_nodes.specs.Nodes.{Notes, Noter, Got, got, next, when, with, put, go-to, entered, entered-nested, tag-of, a-bare, a-class, at-reference, sub-node}
 use Rattle.normal_nodes.specs.Nodes.{note-at-parts, note-at-more, note-end-or, note-args, note-parts, note-more}
 use Rattle.grammar.specs.laws.Places.{starts-byte}
-use Rattle.normal_nodes.specs.laws.Numbered.{TellsNode, with-tells, number-in}
+use Rattle.normal_nodes.specs.laws.Numbered.{TellsNode, with-tells, number-in, parts-tell}
 use Rattle.normal_steps.specs.States.{moved-to}
 use Rattle.normal_steps.specs.Leads.{class}
 use Rattle.normal_steps.specs.Carries.{Work, out-to, ends-to, tables-to, Carries, Ready, Stretch, Spent, Refines, tells, refuses, Reads, Fueled, Does, Copies, Closes, Tag, most-number, at-part, closed}
@@ -26,7 +26,7 @@ use Rattle.normal_steps.specs.laws.Limits.{spent-less, spent-spent, spent-stand
 use Rattle.normal_steps.specs.laws.Slices.{numbered}
 use Rattle.normal_steps.specs.laws.Limits.{spent-nothing, spent-room}
 use Rattle.normal_writer.specs.laws.FirstBytes.{parts-none, parts-some, more-some}
-use Rattle.normal_writer.specs.laws.Types.{by-name, by-reference, Behind, FirstPart, args-from, Enclosed, Enters}
+use Rattle.normal_writer.specs.laws.Types.{by-name, by-reference, Behind, FirstPart, args-from, Enclosed, closed-next, Enters}
 use Rattle.normal_writer.specs.laws.Loops.{Same, SoFar, nothing-yet, one-more}
 use Rattle.normal_steps.specs.declared.lead.Lead.the-variants.{Digit, S}
 use Rattle.normal_steps.specs.declared.state.Writer.{Writer}
@@ -51,6 +51,12 @@ module _ {s : Text} {ws ws₂ : Work} {o₁ : Text} {p p₁ : Writer} {r₁ : To
     pub nested-told : p .at < length s → (w : Ready s ws p)
         → Answered s (Spent 2 5 (p .out) p) ws₂ p₂ d (note-parts (length s) (suc (length (w .0 .out))) (put (getD s (p .at) 0 ∷ []) (go-to (drop (p .at + 1) s) (w .0))))
     nested-told l (σ, h) = answered e (nested-at h (length s) (omega arith) _ _ (first-byte h l))
+
+    pub nested-closed : {o₃ : Text} {p₃ : Writer} → p .at < length s → Ready s ws p → Closes (ws₂ .out) o₃ p₂ p₃ → Enclosed s (out-to ws₂ o₃) (p .out) p p₃ d
+    nested-closed l (σ, h) v =
+        let w = nested-told l (σ, h) in
+        closed-next h w (parts-tell (length s) (suc (length (σ .out))) (put (getD s (p .at) 0 ∷ []) (go-to (drop (p .at + 1) s) σ))) (omega arith)
+        (omega (arith, h .short, w .limits .at)) v
 
     pub nested-answer : {o₃ o₄ t₄ : Text} {p₃ p₄ : Writer} → Closes (ws₂ .out) o₃ p₂ p₃
         → ((s : Text) (ws : Work) → Does 0 1 5 (p .out) (entered-nested d (p .out)) s (tables-to (ends-to (out-to ws o₃) (ws₂ .ends)) (ws₂ .tables))

@@ -11,16 +11,16 @@ use Rattle.catalogue.specs.Tree.{Letter, Wrap}
 use Rattle.catalogue.specs.Recogniser.{if-next, Lead, lead-letter, lead-wrap, lead-L, lead-none, lead}
 use Rattle.normal_nodes.specs.Nodes.{Notes, Noter, Got, got, next, when, put, go-to, entered, note-at-lead, note-at-name, at-reference, note-with-args}
 use Rattle.normal_nodes.specs.Nodes.{note-type, note-args, note-parts}
-use Rattle.normal_nodes.specs.laws.Numbered.{TellsNode}
+use Rattle.normal_nodes.specs.laws.Numbered.{TellsNode, args-tell}
 use Rattle.normal_steps.specs.States.{moved-to}
-use Rattle.normal_steps.specs.Carries.{Work, out-to, tables-to, notes-to, Carries, Ready, ReadyOut, ReadyNotes, Numbered, Stretch, Room, Spare, Spent, Tag}
+use Rattle.normal_steps.specs.Carries.{Work, out-to, tables-to, notes-to, Carries, Ready, ReadyOut, ReadyBoth, ReadyNotes, Numbered, Stretch, Room, Spare, Spent, Tag}
 use Rattle.normal_steps.specs.Carries.{Refines, tells, refuses, Reads, Fueled, Steps, Does, Copies, Closes, most-number, at-literal, counts-arg, wraps, closed}
 use Rattle.normal_writer.specs.Cycle.{Leads, WithArgs}
 use Rattle.normal_steps.specs.laws.Told.{Answered, answered, refused, by, within}
 use Rattle.normal_steps.specs.laws.Steps.{on-got, on-bad}
-use Rattle.normal_steps.specs.laws.Moves.{first-byte, no-byte, byte-is, byte-not, holds-next, ready-out, ready-notes}
+use Rattle.normal_steps.specs.laws.Moves.{first-byte, no-byte, byte-is, byte-not, holds-next, moved-ready, ready-out, ready-both, ready-notes}
 use Rattle.normal_steps.specs.laws.Tests.{byte-next}
-use Rattle.normal_steps.specs.laws.Limits.{spent-less, spent-spent, passed-spent, passed-none, spent-took, spent-closed, spent-nothing, spent-moved, spent-stands, spent-room}
+use Rattle.normal_steps.specs.laws.Limits.{spent-less, spent-spent, passed-spent, passed-none, spent-took, spent-closed, spent-nothing, spent-moved, spent-stands, spent-stretch, spent-room}
 use Rattle.normal_steps.specs.laws.Slices.{numbered}
 use Rattle.normal_writer.specs.laws.FirstBytes.{type-none, type-some}
 use Rattle.normal_writer.specs.laws.Loops.{Same, SoFar, one-more}
@@ -46,8 +46,7 @@ module _ {s : Text} {ws ws₂ : Work} {o₁ : Text} {p p₁ : Writer} {r₁ : To
     pub wrap-next : p .at < length s → Ready s ws p
         → (d < most-number) × ((Stretch (p .out) p₂) × ((Room 1 1 p₂) × Ready s ws₂ p₂))
     wrap-next l (σ, h) =
-        let w = fueled 0 e u (_, k .1 ws σ h _ _ (first-byte h l)) in
-        (
+        let w = fueled 0 e u (_, k .1 ws σ h _ _ (first-byte h l)) in (
           w .small,
           (
             record { stands = omega (arith, w .limits .stands, k .0); fits = omega (arith, h .short, w .limits .at, k .0); spare = w .limits .out },
@@ -86,18 +85,28 @@ Classed f s ws ws' p r =
     (c : ℕ) (σ : Notes) → Carries s ws p σ → (m : ℕ) → length s ≤ suc m + p .at → (t : Text) → σ .rest ≡ c ∷ t
     → Refines s (Spent 1 4 (p .out) p) ws' r (next (f (length (σ .out)) t σ) (λ d τ. note-with-args d (length (σ .out)) (λ v ρ. note-args m v ρ) τ))
 
-module _ {s : Text} {ws ws₁ : Work} {p : Writer} {r₁ : Told} where
-  pub first-named : Reads 2 (p .out) (note-at-name (p .out)) s ws ws₁ p r₁ → FirstPart by-name s ws ws₁ p r₁
+module _ {s : Text} {ws : Work} {p : Writer} where
+  pub first-named : {ws₁ : Work} {r₁ : Told} → Reads 2 (p .out) (note-at-name (p .out)) s ws ws₁ p r₁ → FirstPart by-name s ws ws₁ p r₁
   first-named u σ h c t e = u σ h
 
-  pub first-referred : {q : Writer} → q ≡ moved-to p (p .at + 1) → Reads 1 (q .out) (at-reference (q .out)) s ws ws₁ q r₁
-      → FirstPart by-reference s ws ws₁ p r₁
-  first-referred {q} i u σ h c t e = go (subst (λ (x : Writer). Reads 1 (x .out) (at-reference (x .out)) s ws ws₁ x r₁) i u)
+  pub first-referred : {o₁ : Text} {q : Writer} {r₁ : Told} → q ≡ moved-to p (p .at + 1)
+      → ((ws' : Work) → Reads 1 (q .out) (at-reference (q .out)) s (tables-to (out-to ws' (ws .out)) (ws .tables)) (tables-to (out-to ws' o₁) (ws .tables)) q r₁)
+      → FirstPart by-reference s ws (out-to ws o₁) p r₁
+  first-referred {o₁} {q} {r₁} i u σ h c t e = go (subst (λ (x : Writer). Reads 1 (x .out) (at-reference (x .out)) s ws (out-to ws o₁) x r₁) i (u ws))
     where
-      go : Reads 1 (p .out) (at-reference (p .out)) s ws ws₁ (moved-to p (p .at + 1)) r₁
-          → Refines s (Behind p) ws₁ r₁ (at-reference (p .out) (go-to t σ))
+      go : Reads 1 (p .out) (at-reference (p .out)) s ws (out-to ws o₁) (moved-to p (p .at + 1)) r₁
+          → Refines s (Behind p) (out-to ws o₁) r₁ (at-reference (p .out) (go-to t σ))
       go v = within (λ x (y, z). (omega arith, spent-less (omega arith) (passed-spent (passed-none p refl) z))) (v (go-to t σ) (holds-next h e refl))
 
+  pub first-stretch : {q : Writer} → Ready s ws p → Behind p q → Stretch (p .out) q
+  first-stretch (σ, h) (l, v) = spent-stretch h v l (omega arith)
+
+  -- S was read, and nothing written for it
+  pub referred-ready : {q : Writer} → q ≡ moved-to p (p .at + 1) → p .at < length s → Ready s ws p → (Spare 4 q) × ReadyBoth s (ws .out) (ws .tables) q
+  referred-ready e l (σ, h) =
+      (omega (arith, h .short, ap (λ (x : Writer). x .at) e, ap (λ (x : Writer). x .out) e), ready-both (moved-ready e l (σ, h)))
+
+module _ {s : Text} {ws ws₁ : Work} {p : Writer} {r₁ : Told} where
   module _ (f : ℕ → Text → Noter ℕ) (u : FirstPart f s ws ws₁ p r₁) where
     class-at : (m : ℕ) (σ : Notes) (t : Text) → Carries s ws p σ
         → next (f (length (σ .out)) t σ) (λ d τ. note-with-args d (length (σ .out)) (λ v ρ. note-args m v ρ) τ)
@@ -165,6 +174,13 @@ module _ {s : Text} {ws ws₂ : Work} {p p₂ : Writer} {d k : ℕ} {g : Got ℕ
         };
         ready = (_, a .holds);
       }
+
+module _ {s : Text} {ws ws₂ : Work} {o₁ : Text} {p p₁ : Writer} (t : ℕ) {r₁ : Told} (i : starts (drop (p .at) s) (73 ∷ []) ≡ true)
+    (k : Copies s (ws .out) o₁ p p₁) (u : Fueled 0 5 (p₁ .out) 1 (λ m. note-args m t) s (out-to ws o₁) ws₂ p₁ r₁) {p₂ : Writer} {d : ℕ} (e : r₁ ≡ Number p₂ d) where
+  pub args-closed : {from : ℕ} {o₃ : Text} {p₃ : Writer} → Ready s ws p → Stretch from p → Closes (ws₂ .out) o₃ p₂ p₃ → Enclosed s (out-to ws₂ o₃) from p p₃ d
+  args-closed (σ, h) l v =
+      let w = args-told t i k u e (σ, h) in
+      closed-next h w (args-tell (length s) t (put (73 ∷ []) (go-to (drop (p .at + 1) s) σ))) (l .stands) (omega (arith, l .fits, w .limits .at)) v
 
 -- what was read enters the table
 abbrev pub Enters : ℕ → ℕ → Text → Text → Text → Text → Writer → Writer → Type 0

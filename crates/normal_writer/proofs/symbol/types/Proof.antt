@@ -3,7 +3,7 @@
 use Prim.Native.Nat.{_-_}
 use lib.ListN.{length}
 use Rattle.normal_steps.specs.Carries.{work}
-use Rattle.normal_steps.specs.laws.Moves.{ready-notes}
+use Rattle.normal_steps.specs.laws.Moves.{ready-ends}
 use Rattle.normal_writer.specs.laws.Symbols.{Turned, turned-none, turned-from, turn-none, turn-told, turn-lit, turn-more, goes-ended, ends-broken}
 use borrow.Author.Needs.{needs}
 use native.Mathlib.Omega.{arith}
@@ -11,82 +11,101 @@ use Rattle.normal_writer.proofs.symbol.types.Statement.{statement}
 use Rattle.normal_writer.proofs.symbol.types.Tie as tie
 
 abbrev Inv-loop : tie.InvT-loop
-Inv-loop s out₀ notes₀ next₀ out notes next = Turned s (work out₀ notes₀) (work out notes) next₀ next
+Inv-loop s out₀ ends₀ words₀ tables₀ chains₀ next₀ out ends words tables chains next =
+    Turned s (work out₀ ends₀ words₀ tables₀ chains₀) (work out ends words tables chains) next₀ next
 
 abbrev μ-loop : tie.MeasureT-loop
-μ-loop s out₀ notes₀ next₀ out notes next = length s - next .at
+μ-loop s out₀ ends₀ words₀ tables₀ chains₀ next₀ out ends words tables chains next = length s - next .at
 
 -- Stages: places that later facts cite. Each function goes from one to the one before it.
 abbrev before-ty : tie.After-ty Inv-loop μ-loop → tie.Start Inv-loop μ-loop
-before-ty c = c .before .before .before .before .before .before .before .before .before
+before-ty c = c .before .before .before .before .before .before .before .before .before .before .before .before .before .before .before
 
 loop-holds : tie.Need-loop-holds Inv-loop μ-loop
 loop-holds c = turned-none
 
 ty-requires : tie.Need-ty-requires Inv-loop μ-loop
 ty-requires c κs =
-    let at-start = c .before .before .before .before .before .before .before .before in
-    let y = turned-from (c .before .before .before .before .loop .inv) (at-start .pre) in (y .state, y .holds)
-
-same-length : tie.Need-same-length Inv-loop μ-loop
-same-length c =
-    let at-ty = c .before .before .before .before .before .before in
-    omega (arith, at-ty .before .before .before .before .before .loop .inv .out-kept, at-ty .ty .kept)
-
-same-length-2 : tie.Need-same-length-2 Inv-loop μ-loop
-same-length-2 c =
-    let at-ty = c .before .before .before .before .before .before in
-    omega (arith, at-ty .before .before .before .before .before .loop .inv .notes-kept, at-ty .ty .kept)
+    let at-start = c .before .before .before .before .before .before .before .before .before .before .before .before .before .before in
+    let y = turned-from (c .before .before .before .before .before .before .before .loop .inv) (at-start .pre) in (y .state, y .holds)
 
 returns : tie.Need-returns Inv-loop μ-loop
 returns c σ h m k =
-    let at-ty = c .before .before .before .before .before .before in
-    ends-broken (turn-none (at-ty .before .before .before .before .before .loop .inv .goes σ h m k) (at-ty .before .before .before .if1 .taken) (at-ty .ty .ensures) (c .enum-told .given .1))
+    let at-ty = c .before .before .before .before .before .before .before .before .before .before .before .before in
+    ends-broken (turn-none (at-ty .before .before .before .before .before .before .before .before .loop .inv .goes σ h m k) (at-ty .before .before .before .before .before .before .if1 .taken) (at-ty .ty .ensures) (c .enum-told .given .1))
 
 tag-of-requires : tie.Need-tag-of-requires Inv-loop μ-loop
 tag-of-requires c κs =
-    let at-ty = c .before .before .before .before .before .before .before .before in let at-start = before-ty at-ty in
-    let t = turn-told (turned-from (at-ty .before .before .before .before .before .loop .inv) (at-start .pre)) (at-ty .before .before .before .if1 .taken) (at-ty .ty .ensures) (c .before .before .q .given .1) in
-    (_, ready-notes (t .state, t .holds))
-
-same-length-3 : tie.Need-same-length-3 Inv-loop μ-loop
-same-length-3 c =
-    let at-ty = c .before .before .before .before .before .before .before .before .before .before in
-    omega (arith, at-ty .before .before .before .before .before .loop .inv .out-kept, at-ty .ty .kept)
-
-same-length-4 : tie.Need-same-length-4 Inv-loop μ-loop
-same-length-4 c =
-    let at-ty = c .before .before .before .before .before .before .before .before .before .before in
-    omega (arith, at-ty .before .before .before .before .before .loop .inv .notes-kept, at-ty .ty .kept)
+    let at-ty = c .before .before .before .before .before .before .before .before .before .before .before .before .before .before in let at-start = before-ty at-ty in
+    let t = turn-told (turned-from (at-ty .before .before .before .before .before .before .before .before .loop .inv) (at-start .pre)) (at-ty .before .before .before .before .before .before .if1 .taken) (at-ty .ty .ensures) (c .before .before .q .given .1) in
+    (_, ready-ends (t .state, t .holds))
 
 returns-2 : tie.Need-returns-2 Inv-loop μ-loop
 returns-2 c σ h m k =
-    let at-ty = c .before .before .before .before .before .before .before .before .before .before in
-    ends-broken (turn-lit (at-ty .before .before .before .before .before .loop .inv .goes σ h m k) (at-ty .before .before .before .if1 .taken) (at-ty .ty .ensures) (c .before .before .before .before .q .given .1) (c .before .tag-of .ensures) (c .if2 .taken))
+    let at-ty = c .before .before .before .before .before .before .before .before .before .before .before .before .before .before .before .before in
+    ends-broken (turn-lit (at-ty .before .before .before .before .before .before .before .before .loop .inv .goes σ h m k) (at-ty .before .before .before .before .before .before .if1 .taken) (at-ty .ty .ensures) (c .before .before .before .before .q .given .1) (c .before .tag-of .ensures) (c .if2 .taken))
 
 loop-less : tie.Need-loop-less Inv-loop μ-loop
 loop-less c =
-    let at-ty = c .before .before .before .before .before .before .before .before .before .before in let at-start = before-ty at-ty in
-    let t = turn-told (turned-from (at-ty .before .before .before .before .before .loop .inv) (at-start .pre)) (at-ty .before .before .before .if1 .taken) (at-ty .ty .ensures) (c .before .before .before .before .q .given .1) in
-    omega (arith, t .limits .at, at-ty .before .before .before .if1 .taken)
+    let at-ty = c .before .before .before .before .before .before .before .before .before .before .before .before .before .before .before .before in let at-start = before-ty at-ty in
+    let t = turn-told (turned-from (at-ty .before .before .before .before .before .before .before .before .loop .inv) (at-start .pre)) (at-ty .before .before .before .before .before .before .if1 .taken) (at-ty .ty .ensures) (c .before .before .before .before .q .given .1) in
+    omega (arith, t .limits .at, at-ty .before .before .before .before .before .before .if1 .taken)
 
 loop-again : tie.Need-loop-again Inv-loop μ-loop
 loop-again c =
-    let at-ty = c .before .before .before .before .before .before .before .before .before .before in
+    let at-ty = c .before .before .before .before .before .before .before .before .before .before .before .before .before .before .before .before in
     record {
-      out-kept = omega (arith, at-ty .before .before .before .before .before .loop .inv .out-kept, at-ty .ty .kept);
-      notes-kept = omega (arith, at-ty .before .before .before .before .before .loop .inv .notes-kept, at-ty .ty .kept);
-      goes = λ σ h m k. turn-more (at-ty .before .before .before .before .before .loop .inv .goes σ h m k) (at-ty .before .before .before .if1 .taken) (at-ty .ty .ensures) (c .before .before .before .before .q .given .1) (c .before .tag-of .ensures) (c .if2 .left);
+      same = record { out = omega (arith, at-ty .before .before .before .before .before .before .before .before .loop .inv .same, at-ty .ty .kept); ends = omega (arith, at-ty .before .before .before .before .before .before .before .before .loop .inv .same, at-ty .ty .kept); words = omega (arith, at-ty .before .before .before .before .before .before .before .before .loop .inv .same, at-ty .ty .kept); tables = omega (arith, at-ty .before .before .before .before .before .before .before .before .loop .inv .same, at-ty .ty .kept); chains = omega (arith, at-ty .before .before .before .before .before .before .before .before .loop .inv .same, at-ty .ty .kept) };
+      goes = λ σ h m k. turn-more (at-ty .before .before .before .before .before .before .before .before .loop .inv .goes σ h m k) (at-ty .before .before .before .before .before .before .if1 .taken) (at-ty .ty .ensures) (c .before .before .before .before .q .given .1) (c .before .tag-of .ensures) (c .if2 .left);
     }
-
-same-length-5 : tie.Need-same-length-5 Inv-loop μ-loop
-same-length-5 c = omega (arith, c .before .before .loop .inv .out-kept)
-
-same-length-6 : tie.Need-same-length-6 Inv-loop μ-loop
-same-length-6 c = omega (arith, c .before .before .loop .inv .notes-kept)
 
 returns-3 : tie.Need-returns-3 Inv-loop μ-loop
 returns-3 c σ h m k = goes-ended (c .before .before .loop .inv .goes σ h m k) (c .if1 .left)
+
+same-length : tie.Need-same-length Inv-loop μ-loop
+same-length c = omega (arith, c .before .before .before .before .before .before .before .before .before .before .before .before .ty .kept, c .before .before .before .before .before .before .before .before .before .before .before .before .before .before .before .before .before .before .before .before .loop .inv .same)
+
+same-length-2 : tie.Need-same-length-2 Inv-loop μ-loop
+same-length-2 c = omega (arith, c .before .before .before .before .before .before .before .before .before .before .before .before .ty .kept, c .before .before .before .before .before .before .before .before .before .before .before .before .before .before .before .before .before .before .before .before .loop .inv .same)
+
+same-length-3 : tie.Need-same-length-3 Inv-loop μ-loop
+same-length-3 c = omega (arith, c .before .before .before .before .before .before .before .before .before .before .before .before .ty .kept, c .before .before .before .before .before .before .before .before .before .before .before .before .before .before .before .before .before .before .before .before .loop .inv .same)
+
+same-length-4 : tie.Need-same-length-4 Inv-loop μ-loop
+same-length-4 c = omega (arith, c .before .before .before .before .before .before .before .before .before .before .before .before .ty .kept, c .before .before .before .before .before .before .before .before .before .before .before .before .before .before .before .before .before .before .before .before .loop .inv .same)
+
+same-length-5 : tie.Need-same-length-5 Inv-loop μ-loop
+same-length-5 c = omega (arith, c .before .before .before .before .before .before .before .before .before .before .before .before .ty .kept, c .before .before .before .before .before .before .before .before .before .before .before .before .before .before .before .before .before .before .before .before .loop .inv .same)
+
+same-length-6 : tie.Need-same-length-6 Inv-loop μ-loop
+same-length-6 c = omega (arith, c .before .before .before .before .before .before .before .before .before .before .before .before .before .before .before .before .ty .kept, c .before .before .before .before .before .before .before .before .before .before .before .before .before .before .before .before .before .before .before .before .before .before .before .before .loop .inv .same)
+
+same-length-7 : tie.Need-same-length-7 Inv-loop μ-loop
+same-length-7 c = omega (arith, c .before .before .before .before .before .before .before .before .before .before .before .before .before .before .before .before .ty .kept, c .before .before .before .before .before .before .before .before .before .before .before .before .before .before .before .before .before .before .before .before .before .before .before .before .loop .inv .same)
+
+same-length-8 : tie.Need-same-length-8 Inv-loop μ-loop
+same-length-8 c = omega (arith, c .before .before .before .before .before .before .before .before .before .before .before .before .before .before .before .before .ty .kept, c .before .before .before .before .before .before .before .before .before .before .before .before .before .before .before .before .before .before .before .before .before .before .before .before .loop .inv .same)
+
+same-length-9 : tie.Need-same-length-9 Inv-loop μ-loop
+same-length-9 c = omega (arith, c .before .before .before .before .before .before .before .before .before .before .before .before .before .before .before .before .ty .kept, c .before .before .before .before .before .before .before .before .before .before .before .before .before .before .before .before .before .before .before .before .before .before .before .before .loop .inv .same)
+
+same-length-10 : tie.Need-same-length-10 Inv-loop μ-loop
+same-length-10 c = omega (arith, c .before .before .before .before .before .before .before .before .before .before .before .before .before .before .before .before .ty .kept, c .before .before .before .before .before .before .before .before .before .before .before .before .before .before .before .before .before .before .before .before .before .before .before .before .loop .inv .same)
+
+same-length-11 : tie.Need-same-length-11 Inv-loop μ-loop
+same-length-11 c = omega (arith, c .before .before .loop .inv .same)
+
+same-length-12 : tie.Need-same-length-12 Inv-loop μ-loop
+same-length-12 c = omega (arith, c .before .before .loop .inv .same)
+
+same-length-13 : tie.Need-same-length-13 Inv-loop μ-loop
+same-length-13 c = omega (arith, c .before .before .loop .inv .same)
+
+same-length-14 : tie.Need-same-length-14 Inv-loop μ-loop
+same-length-14 c = omega (arith, c .before .before .loop .inv .same)
+
+same-length-15 : tie.Need-same-length-15 Inv-loop μ-loop
+same-length-15 c = omega (arith, c .before .before .loop .inv .same)
 
 pub types-spec : {M : Type 1} → statement M
 types-spec =
@@ -100,14 +119,23 @@ types-spec =
     (λ c. search needs)
     same-length
     same-length-2
+    same-length-3
+    same-length-4
+    same-length-5
     returns
     tag-of-requires
     (λ c. search needs)
-    same-length-3
-    same-length-4
+    same-length-6
+    same-length-7
+    same-length-8
+    same-length-9
+    same-length-10
     returns-2
     loop-less
     loop-again
-    same-length-5
-    same-length-6
+    same-length-11
+    same-length-12
+    same-length-13
+    same-length-14
+    same-length-15
     returns-3)

@@ -47,88 +47,88 @@ use Rattle.normal_steps.proofs.steps.literal.Reads as literal-reads
 use Rattle.normal_steps.proofs.steps.part.Reads as part-reads
 use Rattle.normal_steps.proofs.steps.wrap.Reads as wrap-reads
 
-abbrev pub μ-args : Measures 3 args-kinds.ps ℕ
-μ-args κs a = 3 * (length (a .0 .now) - a .1 .1 .1 .0 .at) + 2
+abbrev pub μ-args : Measures 6 args-kinds.ps ℕ
+μ-args κs a = 3 * (length (a .0 .now) - a .1 .1 .1 .1 .1 .1 .0 .at) + 2
 
-abbrev pub μ-more : Measures 3 more-kinds.ps ℕ
-μ-more κs a = 3 * (length (a .0 .now) - a .1 .1 .1 .0 .at)
+abbrev pub μ-more : Measures 6 more-kinds.ps ℕ
+μ-more κs a = 3 * (length (a .0 .now) - a .1 .1 .1 .1 .1 .1 .0 .at)
 
-abbrev pub μ-named : Measures 3 named-kinds.ps ℕ
-μ-named κs a = 3 * (length (a .0 .now) - a .1 .1 .1 .0 .at)
+abbrev pub μ-named : Measures 6 named-kinds.ps ℕ
+μ-named κs a = 3 * (length (a .0 .now) - a .1 .1 .1 .1 .1 .1 .0 .at)
 
-abbrev pub μ-nested : Measures 3 nested-kinds.ps ℕ
-μ-nested κs a = 3 * (length (a .0 .now) - a .1 .1 .1 .0 .at)
+abbrev pub μ-nested : Measures 6 nested-kinds.ps ℕ
+μ-nested κs a = 3 * (length (a .0 .now) - a .1 .1 .1 .1 .1 .1 .0 .at)
 
-abbrev pub μ-parts : Measures 3 parts-kinds.ps ℕ
-μ-parts κs a = 3 * (length (a .0 .now) - a .1 .1 .1 .0 .at)
+abbrev pub μ-parts : Measures 6 parts-kinds.ps ℕ
+μ-parts κs a = 3 * (length (a .0 .now) - a .1 .1 .1 .1 .1 .1 .0 .at)
 
-abbrev pub μ-referred : Measures 3 referred-kinds.ps ℕ
-μ-referred κs a = 3 * (length (a .0 .now) - a .1 .1 .1 .0 .at)
+abbrev pub μ-referred : Measures 6 referred-kinds.ps ℕ
+μ-referred κs a = 3 * (length (a .0 .now) - a .1 .1 .1 .1 .1 .1 .0 .at)
 
-abbrev pub μ-ty : Measures 3 ty-kinds.ps ℕ
-μ-ty κs a = 3 * (length (a .0 .now) - a .1 .1 .1 .0 .at) + 1
+abbrev pub μ-ty : Measures 6 ty-kinds.ps ℕ
+μ-ty κs a = 3 * (length (a .0 .now) - a .1 .1 .1 .1 .1 .1 .0 .at) + 1
 
-abbrev pub μ-with-args : Measures 3 with-args-kinds.ps ℕ
-μ-with-args κs a = 3 * (length (a .0 .now) - a .1 .1 .1 .0 .at)
+abbrev pub μ-with-args : Measures 6 with-args-kinds.ps ℕ
+μ-with-args κs a = 3 * (length (a .0 .now) - a .1 .1 .1 .1 .1 .1 .0 .at)
 
-abbrev pub μ-wrap : Measures 3 wrap-kinds.ps ℕ
-μ-wrap κs a = 3 * (length (a .0 .now) - a .1 .1 .1 .0 .at)
+abbrev pub μ-wrap : Measures 6 wrap-kinds.ps ℕ
+μ-wrap κs a = 3 * (length (a .0 .now) - a .1 .1 .1 .1 .1 .1 .0 .at)
 
-abbrev pub args-at : ℕ → In 3 args-kinds.ps
-args-at t = and 3 args-kinds.ps (is 3 args-kinds.ps μ-args t) args.Pre
+abbrev pub args-at : ℕ → In 6 args-kinds.ps
+args-at t = and 6 args-kinds.ps (is 6 args-kinds.ps μ-args t) args.Pre
 
-abbrev pub args-below : ℕ → In 3 args-kinds.ps
-args-below t = and 3 args-kinds.ps (falls 3 args-kinds.ps _<_ μ-args t) args.Pre
+abbrev pub args-below : ℕ → In 6 args-kinds.ps
+args-below t = and 6 args-kinds.ps (falls 6 args-kinds.ps _<_ μ-args t) args.Pre
 
-abbrev pub more-at : ℕ → In 3 more-kinds.ps
-more-at t = and 3 more-kinds.ps (is 3 more-kinds.ps μ-more t) more.Pre
+abbrev pub more-at : ℕ → In 6 more-kinds.ps
+more-at t = and 6 more-kinds.ps (is 6 more-kinds.ps μ-more t) more.Pre
 
-abbrev pub more-below : ℕ → In 3 more-kinds.ps
-more-below t = and 3 more-kinds.ps (falls 3 more-kinds.ps _<_ μ-more t) more.Pre
+abbrev pub more-below : ℕ → In 6 more-kinds.ps
+more-below t = and 6 more-kinds.ps (falls 6 more-kinds.ps _<_ μ-more t) more.Pre
 
-abbrev pub named-at : ℕ → In 3 named-kinds.ps
-named-at t = and 3 named-kinds.ps (is 3 named-kinds.ps μ-named t) named.Pre
+abbrev pub named-at : ℕ → In 6 named-kinds.ps
+named-at t = and 6 named-kinds.ps (is 6 named-kinds.ps μ-named t) named.Pre
 
-abbrev pub named-below : ℕ → In 3 named-kinds.ps
-named-below t = and 3 named-kinds.ps (falls 3 named-kinds.ps _<_ μ-named t) named.Pre
+abbrev pub named-below : ℕ → In 6 named-kinds.ps
+named-below t = and 6 named-kinds.ps (falls 6 named-kinds.ps _<_ μ-named t) named.Pre
 
-abbrev pub nested-at : ℕ → In 3 nested-kinds.ps
-nested-at t = and 3 nested-kinds.ps (is 3 nested-kinds.ps μ-nested t) nested.Pre
+abbrev pub nested-at : ℕ → In 6 nested-kinds.ps
+nested-at t = and 6 nested-kinds.ps (is 6 nested-kinds.ps μ-nested t) nested.Pre
 
-abbrev pub nested-below : ℕ → In 3 nested-kinds.ps
-nested-below t = and 3 nested-kinds.ps (falls 3 nested-kinds.ps _<_ μ-nested t) nested.Pre
+abbrev pub nested-below : ℕ → In 6 nested-kinds.ps
+nested-below t = and 6 nested-kinds.ps (falls 6 nested-kinds.ps _<_ μ-nested t) nested.Pre
 
-abbrev pub parts-at : ℕ → In 3 parts-kinds.ps
-parts-at t = and 3 parts-kinds.ps (is 3 parts-kinds.ps μ-parts t) parts.Pre
+abbrev pub parts-at : ℕ → In 6 parts-kinds.ps
+parts-at t = and 6 parts-kinds.ps (is 6 parts-kinds.ps μ-parts t) parts.Pre
 
-abbrev pub parts-below : ℕ → In 3 parts-kinds.ps
-parts-below t = and 3 parts-kinds.ps (falls 3 parts-kinds.ps _<_ μ-parts t) parts.Pre
+abbrev pub parts-below : ℕ → In 6 parts-kinds.ps
+parts-below t = and 6 parts-kinds.ps (falls 6 parts-kinds.ps _<_ μ-parts t) parts.Pre
 
-abbrev pub referred-at : ℕ → In 3 referred-kinds.ps
-referred-at t = and 3 referred-kinds.ps (is 3 referred-kinds.ps μ-referred t) referred.Pre
+abbrev pub referred-at : ℕ → In 6 referred-kinds.ps
+referred-at t = and 6 referred-kinds.ps (is 6 referred-kinds.ps μ-referred t) referred.Pre
 
-abbrev pub referred-below : ℕ → In 3 referred-kinds.ps
+abbrev pub referred-below : ℕ → In 6 referred-kinds.ps
 referred-below t =
-    and 3 referred-kinds.ps (falls 3 referred-kinds.ps _<_ μ-referred t) referred.Pre
+    and 6 referred-kinds.ps (falls 6 referred-kinds.ps _<_ μ-referred t) referred.Pre
 
-abbrev pub ty-at : ℕ → In 3 ty-kinds.ps
-ty-at t = and 3 ty-kinds.ps (is 3 ty-kinds.ps μ-ty t) ty.Pre
+abbrev pub ty-at : ℕ → In 6 ty-kinds.ps
+ty-at t = and 6 ty-kinds.ps (is 6 ty-kinds.ps μ-ty t) ty.Pre
 
-abbrev pub ty-below : ℕ → In 3 ty-kinds.ps
-ty-below t = and 3 ty-kinds.ps (falls 3 ty-kinds.ps _<_ μ-ty t) ty.Pre
+abbrev pub ty-below : ℕ → In 6 ty-kinds.ps
+ty-below t = and 6 ty-kinds.ps (falls 6 ty-kinds.ps _<_ μ-ty t) ty.Pre
 
-abbrev pub with-args-at : ℕ → In 3 with-args-kinds.ps
-with-args-at t = and 3 with-args-kinds.ps (is 3 with-args-kinds.ps μ-with-args t) with-args.Pre
+abbrev pub with-args-at : ℕ → In 6 with-args-kinds.ps
+with-args-at t = and 6 with-args-kinds.ps (is 6 with-args-kinds.ps μ-with-args t) with-args.Pre
 
-abbrev pub with-args-below : ℕ → In 3 with-args-kinds.ps
+abbrev pub with-args-below : ℕ → In 6 with-args-kinds.ps
 with-args-below t =
-    and 3 with-args-kinds.ps (falls 3 with-args-kinds.ps _<_ μ-with-args t) with-args.Pre
+    and 6 with-args-kinds.ps (falls 6 with-args-kinds.ps _<_ μ-with-args t) with-args.Pre
 
-abbrev pub wrap-at : ℕ → In 3 wrap-kinds.ps
-wrap-at t = and 3 wrap-kinds.ps (is 3 wrap-kinds.ps μ-wrap t) wrap.Pre
+abbrev pub wrap-at : ℕ → In 6 wrap-kinds.ps
+wrap-at t = and 6 wrap-kinds.ps (is 6 wrap-kinds.ps μ-wrap t) wrap.Pre
 
-abbrev pub wrap-below : ℕ → In 3 wrap-kinds.ps
-wrap-below t = and 3 wrap-kinds.ps (falls 3 wrap-kinds.ps _<_ μ-wrap t) wrap.Pre
+abbrev pub wrap-below : ℕ → In 6 wrap-kinds.ps
+wrap-below t = and 6 wrap-kinds.ps (falls 6 wrap-kinds.ps _<_ μ-wrap t) wrap.Pre
 
 abbrev pub args-calls : ℕ → args-lts.Claims
 args-calls t = (ty-below t, ty.Post, arg-reads.Asked, arg-reads.Learnt, starts-with-reads.Asked, starts-with-reads.Learnt, moved-reads.Asked, moved-reads.Learnt)
