@@ -29,31 +29,31 @@ returns-2 t c =
     class-answer by-name (first-named (at-first-name .first-name .ensures)) (c .before .before .before .before .before .before .before .before .before .before .before .before .before .before .before .before .before .next .given .1) (c .before .before .before .before .before .before .before .before .before .before .with-args .ensures)
 
 pub same-length : (t : ℕ) → lts.Need-same-length (named-calls t) (named-at t) named.Post
-same-length t c = search needs
+same-length t c = omega (arith, c .before .before .before .before .before .before .before .before .before .before .before .before .first-name .kept)
 
 pub same-length-2 : (t : ℕ) → lts.Need-same-length-2 (named-calls t) (named-at t) named.Post
-same-length-2 t c = search needs
+same-length-2 t c = omega (arith, c .before .before .before .before .before .before .before .before .before .before .before .before .first-name .kept)
 
 pub same-length-3 : (t : ℕ) → lts.Need-same-length-3 (named-calls t) (named-at t) named.Post
-same-length-3 t c = search needs
+same-length-3 t c = omega (arith, c .before .before .before .before .before .before .before .before .before .before .before .before .first-name .kept)
 
 pub same-length-4 : (t : ℕ) → lts.Need-same-length-4 (named-calls t) (named-at t) named.Post
-same-length-4 t c = search needs
+same-length-4 t c = omega (arith, c .before .before .before .before .before .before .before .before .before .before .before .before .first-name .kept)
 
 pub same-length-5 : (t : ℕ) → lts.Need-same-length-5 (named-calls t) (named-at t) named.Post
-same-length-5 t c = search needs
+same-length-5 t c = omega (arith, c .before .before .before .before .before .before .before .before .before .before .before .before .first-name .kept)
 
 pub same-length-6 : (t : ℕ) → lts.Need-same-length-6 (named-calls t) (named-at t) named.Post
-same-length-6 t c = search needs
+same-length-6 t c = omega (arith, c .before .before .before .before .before .before .before .before .before .before .with-args .kept, c .before .before .before .before .before .before .before .before .before .before .before .before .before .before .before .before .before .before .before .before .before .before .before .before .before .before .before .before .before .first-name .kept)
 
 pub same-length-7 : (t : ℕ) → lts.Need-same-length-7 (named-calls t) (named-at t) named.Post
-same-length-7 t c = search needs
+same-length-7 t c = omega (arith, c .before .before .before .before .before .before .before .before .before .before .with-args .kept, c .before .before .before .before .before .before .before .before .before .before .before .before .before .before .before .before .before .before .before .before .before .before .before .before .before .before .before .before .before .first-name .kept)
 
 pub same-length-8 : (t : ℕ) → lts.Need-same-length-8 (named-calls t) (named-at t) named.Post
-same-length-8 t c = search needs
+same-length-8 t c = omega (arith, c .before .before .before .before .before .before .before .before .before .before .with-args .kept, c .before .before .before .before .before .before .before .before .before .before .before .before .before .before .before .before .before .before .before .before .before .before .before .before .before .before .before .before .before .first-name .kept)
 
 pub same-length-9 : (t : ℕ) → lts.Need-same-length-9 (named-calls t) (named-at t) named.Post
-same-length-9 t c = search needs
+same-length-9 t c = omega (arith, c .before .before .before .before .before .before .before .before .before .before .with-args .kept, c .before .before .before .before .before .before .before .before .before .before .before .before .before .before .before .before .before .before .before .before .before .before .before .before .before .before .before .before .before .first-name .kept)
 
 pub same-length-10 : (t : ℕ) → lts.Need-same-length-10 (named-calls t) (named-at t) named.Post
-same-length-10 t c = search needs
+same-length-10 t c = omega (arith, c .before .before .before .before .before .before .before .before .before .before .with-args .kept, c .before .before .before .before .before .before .before .before .before .before .before .before .before .before .before .before .before .before .before .before .before .before .before .before .before .before .before .before .before .first-name .kept)

@@ -53,19 +53,19 @@ returns-2 t c =
     (c .before .before .before .before .before .before .before .before .before .before .close .ensures) (c .before .before .before .before .enter-nested .ensures)
 
 pub same-length : (t : ℕ) → lts.Need-same-length (nested-calls t) (nested-at t) nested.Post
-same-length t c = search needs
+same-length t c = omega (arith, c .before .before .before .before .before .before .before .before .before .before .before .before .parts .kept, c .before .before .before .before .before .before .before .before .before .before .before .before .before .before .before .before .before .before .before .before .copy-byte .kept)
 
 pub same-length-2 : (t : ℕ) → lts.Need-same-length-2 (nested-calls t) (nested-at t) nested.Post
-same-length-2 t c = search needs
+same-length-2 t c = omega (arith, c .before .before .before .before .before .before .before .before .before .before .before .before .parts .kept, c .before .before .before .before .before .before .before .before .before .before .before .before .before .before .before .before .before .before .before .before .copy-byte .kept)
 
 pub same-length-3 : (t : ℕ) → lts.Need-same-length-3 (nested-calls t) (nested-at t) nested.Post
-same-length-3 t c = search needs
+same-length-3 t c = omega (arith, c .before .before .before .before .before .before .before .before .before .before .before .before .parts .kept, c .before .before .before .before .before .before .before .before .before .before .before .before .before .before .before .before .before .before .before .before .copy-byte .kept)
 
 pub same-length-4 : (t : ℕ) → lts.Need-same-length-4 (nested-calls t) (nested-at t) nested.Post
-same-length-4 t c = search needs
+same-length-4 t c = omega (arith, c .before .before .before .before .before .before .before .before .before .before .before .before .parts .kept, c .before .before .before .before .before .before .before .before .before .before .before .before .before .before .before .before .before .before .before .before .copy-byte .kept)
 
 pub same-length-5 : (t : ℕ) → lts.Need-same-length-5 (nested-calls t) (nested-at t) nested.Post
-same-length-5 t c = search needs
+same-length-5 t c = omega (arith, c .before .before .before .before .before .before .before .before .before .before .before .before .parts .kept, c .before .before .before .before .before .before .before .before .before .before .before .before .before .before .before .before .before .before .before .before .copy-byte .kept)
 
 pub same-length-6 : (t : ℕ) → lts.Need-same-length-6 (nested-calls t) (nested-at t) nested.Post
 same-length-6 t c = omega (arith, c .before .before .before .before .enter-nested .kept, c .before .before .before .before .before .before .before .before .before .before .close .kept, c .before .before .before .before .before .before .before .before .before .before .before .before .before .before .before .before .before .before .before .before .before .before .before .before .before .parts .kept, c .before .before .before .before .before .before .before .before .before .before .before .before .before .before .before .before .before .before .before .before .before .before .before .before .before .before .before .before .before .before .before .before .before .copy-byte .kept)

@@ -116,61 +116,61 @@ returns-7 t c =
     parts-by (c .before .before .before .if1 .left) refl (parts-other (lead (getD (at-start .args .s .now) (at-start .args .p .at) 0)) (λ e. not-digit _ (c .match .keys3) (c .before .lead-of .ensures ∙ e)) (λ e. not-s _ (c .match .keys3) (c .before .lead-of .ensures ∙ e)))
 
 pub same-length : (t : ℕ) → lts.Need-same-length (parts-calls t) (parts-at t) parts.Post
-same-length t c = search needs
+same-length t c = omega (arith, c .before .before .before .before .before .before .before .before .before .before .before .before .first-name .kept)
 
 pub same-length-2 : (t : ℕ) → lts.Need-same-length-2 (parts-calls t) (parts-at t) parts.Post
-same-length-2 t c = search needs
+same-length-2 t c = omega (arith, c .before .before .before .before .before .before .before .before .before .before .before .before .first-name .kept)
 
 pub same-length-3 : (t : ℕ) → lts.Need-same-length-3 (parts-calls t) (parts-at t) parts.Post
-same-length-3 t c = search needs
+same-length-3 t c = omega (arith, c .before .before .before .before .before .before .before .before .before .before .before .before .first-name .kept)
 
 pub same-length-4 : (t : ℕ) → lts.Need-same-length-4 (parts-calls t) (parts-at t) parts.Post
-same-length-4 t c = search needs
+same-length-4 t c = omega (arith, c .before .before .before .before .before .before .before .before .before .before .before .before .first-name .kept)
 
 pub same-length-5 : (t : ℕ) → lts.Need-same-length-5 (parts-calls t) (parts-at t) parts.Post
-same-length-5 t c = search needs
+same-length-5 t c = omega (arith, c .before .before .before .before .before .before .before .before .before .before .before .before .first-name .kept)
 
 pub same-length-6 : (t : ℕ) → lts.Need-same-length-6 (parts-calls t) (parts-at t) parts.Post
-same-length-6 t c = search needs
+same-length-6 t c = omega (arith, c .before .before .before .before .first-reference .kept)
 
 pub same-length-7 : (t : ℕ) → lts.Need-same-length-7 (parts-calls t) (parts-at t) parts.Post
-same-length-7 t c = search needs
+same-length-7 t c = omega (arith, c .before .before .before .before .first-reference .kept)
 
 pub same-length-8 : (t : ℕ) → lts.Need-same-length-8 (parts-calls t) (parts-at t) parts.Post
-same-length-8 t c = search needs
+same-length-8 t c = omega (arith, c .before .before .before .before .before .before .before .before .before .first-reference .kept)
 
 pub same-length-9 : (t : ℕ) → lts.Need-same-length-9 (parts-calls t) (parts-at t) parts.Post
-same-length-9 t c = search needs
+same-length-9 t c = omega (arith, c .before .before .before .before .before .before .before .before .before .first-reference .kept)
 
 pub same-length-10 : (t : ℕ) → lts.Need-same-length-10 (parts-calls t) (parts-at t) parts.Post
-same-length-10 t c = search needs
+same-length-10 t c = omega (arith, c .before .before .before .before .before .before .before .before .before .first-reference .kept)
 
 pub same-length-11 : (t : ℕ) → lts.Need-same-length-11 (parts-calls t) (parts-at t) parts.Post
-same-length-11 t c = search needs
+same-length-11 t c = omega (arith, c .before .before .before .before .before .before .before .before .before .before .more .kept, c .before .before .before .before .before .before .before .before .before .before .before .before .before .before .before .before .before .before .before .before .before .before .before .before .before .before .before .before .before .first-name .kept)
 
 pub same-length-12 : (t : ℕ) → lts.Need-same-length-12 (parts-calls t) (parts-at t) parts.Post
-same-length-12 t c = search needs
+same-length-12 t c = omega (arith, c .before .before .before .before .before .before .before .before .before .before .more .kept, c .before .before .before .before .before .before .before .before .before .before .before .before .before .before .before .before .before .before .before .before .before .before .before .before .before .before .before .before .before .first-name .kept)
 
 pub same-length-13 : (t : ℕ) → lts.Need-same-length-13 (parts-calls t) (parts-at t) parts.Post
-same-length-13 t c = search needs
+same-length-13 t c = omega (arith, c .before .before .before .before .before .before .before .before .before .before .more .kept, c .before .before .before .before .before .before .before .before .before .before .before .before .before .before .before .before .before .before .before .before .before .before .before .before .before .before .before .before .before .first-name .kept)
 
 pub same-length-14 : (t : ℕ) → lts.Need-same-length-14 (parts-calls t) (parts-at t) parts.Post
-same-length-14 t c = search needs
+same-length-14 t c = omega (arith, c .before .before .before .before .before .before .before .before .before .before .more .kept, c .before .before .before .before .before .before .before .before .before .before .before .before .before .before .before .before .before .before .before .before .before .before .before .before .before .before .before .before .before .first-name .kept)
 
 pub same-length-15 : (t : ℕ) → lts.Need-same-length-15 (parts-calls t) (parts-at t) parts.Post
-same-length-15 t c = search needs
+same-length-15 t c = omega (arith, c .before .before .before .before .before .before .before .before .before .before .more .kept, c .before .before .before .before .before .before .before .before .before .before .before .before .before .before .before .before .before .before .before .before .before .before .before .before .before .before .before .before .before .first-name .kept)
 
 pub same-length-16 : (t : ℕ) → lts.Need-same-length-16 (parts-calls t) (parts-at t) parts.Post
-same-length-16 t c = search needs
+same-length-16 t c = omega (arith, c .before .before .before .before .before .before .before .before .before .before .more2 .kept, c .before .before .before .before .before .before .before .before .before .before .before .before .before .before .before .before .before .before .before .before .before .before .before .before .before .first-reference .kept)
 
 pub same-length-17 : (t : ℕ) → lts.Need-same-length-17 (parts-calls t) (parts-at t) parts.Post
-same-length-17 t c = search needs
+same-length-17 t c = omega (arith, c .before .before .before .before .before .before .before .before .before .before .more2 .kept, c .before .before .before .before .before .before .before .before .before .before .before .before .before .before .before .before .before .before .before .before .before .before .before .before .before .first-reference .kept)
 
 pub same-length-18 : (t : ℕ) → lts.Need-same-length-18 (parts-calls t) (parts-at t) parts.Post
-same-length-18 t c = search needs
+same-length-18 t c = omega (arith, c .before .before .before .before .before .before .before .before .before .before .more2 .kept, c .before .before .before .before .before .before .before .before .before .before .before .before .before .before .before .before .before .before .before .before .before .before .before .before .before .first-reference .kept)
 
 pub same-length-19 : (t : ℕ) → lts.Need-same-length-19 (parts-calls t) (parts-at t) parts.Post
-same-length-19 t c = search needs
+same-length-19 t c = omega (arith, c .before .before .before .before .before .before .before .before .before .before .more2 .kept, c .before .before .before .before .before .before .before .before .before .before .before .before .before .before .before .before .before .before .before .before .before .before .before .before .before .first-reference .kept)
 
 pub same-length-20 : (t : ℕ) → lts.Need-same-length-20 (parts-calls t) (parts-at t) parts.Post
-same-length-20 t c = search needs
+same-length-20 t c = omega (arith, c .before .before .before .before .before .before .before .before .before .before .more2 .kept, c .before .before .before .before .before .before .before .before .before .before .before .before .before .before .before .before .before .before .before .before .before .before .before .before .before .first-reference .kept)

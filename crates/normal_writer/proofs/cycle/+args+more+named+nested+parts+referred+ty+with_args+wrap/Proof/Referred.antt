@@ -34,22 +34,22 @@ returns-2 t c =
     class-answer by-reference (first-referred (at-first-reference .before .moved .ensures) (at-first-reference .first-reference .ensures)) (c .before .before .before .before .before .before .before .before .before .before .before .before .before .before .before .before .before .next .given .1) (c .before .before .before .before .before .before .before .before .before .before .with-args .ensures)
 
 pub same-length : (t : ℕ) → lts.Need-same-length (referred-calls t) (referred-at t) referred.Post
-same-length t c = search needs
+same-length t c = omega (arith, c .before .before .before .before .first-reference .kept)
 
 pub same-length-2 : (t : ℕ) → lts.Need-same-length-2 (referred-calls t) (referred-at t) referred.Post
-same-length-2 t c = search needs
+same-length-2 t c = omega (arith, c .before .before .before .before .first-reference .kept)
 
 pub same-length-3 : (t : ℕ) → lts.Need-same-length-3 (referred-calls t) (referred-at t) referred.Post
-same-length-3 t c = search needs
+same-length-3 t c = omega (arith, c .before .before .before .before .before .before .before .before .before .before .with-args .kept, c .before .before .before .before .before .before .before .before .before .before .before .before .before .before .before .before .before .before .before .before .before .first-reference .kept)
 
 pub same-length-4 : (t : ℕ) → lts.Need-same-length-4 (referred-calls t) (referred-at t) referred.Post
-same-length-4 t c = search needs
+same-length-4 t c = omega (arith, c .before .before .before .before .before .before .before .before .before .before .with-args .kept, c .before .before .before .before .before .before .before .before .before .before .before .before .before .before .before .before .before .before .before .before .before .first-reference .kept)
 
 pub same-length-5 : (t : ℕ) → lts.Need-same-length-5 (referred-calls t) (referred-at t) referred.Post
-same-length-5 t c = search needs
+same-length-5 t c = omega (arith, c .before .before .before .before .before .before .before .before .before .before .with-args .kept, c .before .before .before .before .before .before .before .before .before .before .before .before .before .before .before .before .before .before .before .before .before .first-reference .kept)
 
 pub same-length-6 : (t : ℕ) → lts.Need-same-length-6 (referred-calls t) (referred-at t) referred.Post
-same-length-6 t c = search needs
+same-length-6 t c = omega (arith, c .before .before .before .before .before .before .before .before .before .before .with-args .kept, c .before .before .before .before .before .before .before .before .before .before .before .before .before .before .before .before .before .before .before .before .before .first-reference .kept)
 
 pub same-length-7 : (t : ℕ) → lts.Need-same-length-7 (referred-calls t) (referred-at t) referred.Post
-same-length-7 t c = search needs
+same-length-7 t c = omega (arith, c .before .before .before .before .before .before .before .before .before .before .with-args .kept, c .before .before .before .before .before .before .before .before .before .before .before .before .before .before .before .before .before .before .before .before .before .first-reference .kept)

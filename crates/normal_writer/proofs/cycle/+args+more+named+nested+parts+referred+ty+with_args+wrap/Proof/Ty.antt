@@ -94,79 +94,79 @@ pub returns-8 : (t : ℕ) → lts.Need-returns-8 (ty-calls t) (ty-at t) ty.Post
 returns-8 t c = type-by (c .before .before .before .before .if1 .left) (lead-is _ None (sym (c .enum-told7 .given .1) ∙ c .before .before .lead-of .ensures)) (none-answer _)
 
 pub same-length : (t : ℕ) → lts.Need-same-length (ty-calls t) (ty-at t) ty.Post
-same-length t c = search needs
+same-length t c = omega (arith, c .before .before .copy-byte .kept)
 
 pub same-length-2 : (t : ℕ) → lts.Need-same-length-2 (ty-calls t) (ty-at t) ty.Post
-same-length-2 t c = search needs
+same-length-2 t c = omega (arith, c .before .before .before .before .before .before .before .before .before .before .wrap .kept)
 
 pub same-length-3 : (t : ℕ) → lts.Need-same-length-3 (ty-calls t) (ty-at t) ty.Post
-same-length-3 t c = search needs
+same-length-3 t c = omega (arith, c .before .before .before .before .before .before .before .before .before .before .wrap .kept)
 
 pub same-length-4 : (t : ℕ) → lts.Need-same-length-4 (ty-calls t) (ty-at t) ty.Post
-same-length-4 t c = search needs
+same-length-4 t c = omega (arith, c .before .before .before .before .before .before .before .before .before .before .wrap .kept)
 
 pub same-length-5 : (t : ℕ) → lts.Need-same-length-5 (ty-calls t) (ty-at t) ty.Post
-same-length-5 t c = search needs
+same-length-5 t c = omega (arith, c .before .before .before .before .before .before .before .before .before .before .wrap .kept)
 
 pub same-length-6 : (t : ℕ) → lts.Need-same-length-6 (ty-calls t) (ty-at t) ty.Post
-same-length-6 t c = search needs
+same-length-6 t c = omega (arith, c .before .before .before .before .before .before .before .before .before .before .wrap .kept)
 
 pub same-length-7 : (t : ℕ) → lts.Need-same-length-7 (ty-calls t) (ty-at t) ty.Post
-same-length-7 t c = search needs
+same-length-7 t c = omega (arith, c .before .before .before .before .before .before .before .before .before .before .named .kept)
 
 pub same-length-8 : (t : ℕ) → lts.Need-same-length-8 (ty-calls t) (ty-at t) ty.Post
-same-length-8 t c = search needs
+same-length-8 t c = omega (arith, c .before .before .before .before .before .before .before .before .before .before .named .kept)
 
 pub same-length-9 : (t : ℕ) → lts.Need-same-length-9 (ty-calls t) (ty-at t) ty.Post
-same-length-9 t c = search needs
+same-length-9 t c = omega (arith, c .before .before .before .before .before .before .before .before .before .before .named .kept)
 
 pub same-length-10 : (t : ℕ) → lts.Need-same-length-10 (ty-calls t) (ty-at t) ty.Post
-same-length-10 t c = search needs
+same-length-10 t c = omega (arith, c .before .before .before .before .before .before .before .before .before .before .named .kept)
 
 pub same-length-11 : (t : ℕ) → lts.Need-same-length-11 (ty-calls t) (ty-at t) ty.Post
-same-length-11 t c = search needs
+same-length-11 t c = omega (arith, c .before .before .before .before .before .before .before .before .before .before .named .kept)
 
 pub same-length-12 : (t : ℕ) → lts.Need-same-length-12 (ty-calls t) (ty-at t) ty.Post
-same-length-12 t c = search needs
+same-length-12 t c = omega (arith, c .before .before .before .before .before .before .before .before .before .before .referred .kept)
 
 pub same-length-13 : (t : ℕ) → lts.Need-same-length-13 (ty-calls t) (ty-at t) ty.Post
-same-length-13 t c = search needs
+same-length-13 t c = omega (arith, c .before .before .before .before .before .before .before .before .before .before .referred .kept)
 
 pub same-length-14 : (t : ℕ) → lts.Need-same-length-14 (ty-calls t) (ty-at t) ty.Post
-same-length-14 t c = search needs
+same-length-14 t c = omega (arith, c .before .before .before .before .before .before .before .before .before .before .referred .kept)
 
 pub same-length-15 : (t : ℕ) → lts.Need-same-length-15 (ty-calls t) (ty-at t) ty.Post
-same-length-15 t c = search needs
+same-length-15 t c = omega (arith, c .before .before .before .before .before .before .before .before .before .before .referred .kept)
 
 pub same-length-16 : (t : ℕ) → lts.Need-same-length-16 (ty-calls t) (ty-at t) ty.Post
-same-length-16 t c = search needs
+same-length-16 t c = omega (arith, c .before .before .before .before .before .before .before .before .before .before .referred .kept)
 
 pub same-length-17 : (t : ℕ) → lts.Need-same-length-17 (ty-calls t) (ty-at t) ty.Post
-same-length-17 t c = search needs
+same-length-17 t c = omega (arith, c .before .before .before .before .before .before .before .before .before .before .nested .kept)
 
 pub same-length-18 : (t : ℕ) → lts.Need-same-length-18 (ty-calls t) (ty-at t) ty.Post
-same-length-18 t c = search needs
+same-length-18 t c = omega (arith, c .before .before .before .before .before .before .before .before .before .before .nested .kept)
 
 pub same-length-19 : (t : ℕ) → lts.Need-same-length-19 (ty-calls t) (ty-at t) ty.Post
-same-length-19 t c = search needs
+same-length-19 t c = omega (arith, c .before .before .before .before .before .before .before .before .before .before .nested .kept)
 
 pub same-length-20 : (t : ℕ) → lts.Need-same-length-20 (ty-calls t) (ty-at t) ty.Post
-same-length-20 t c = search needs
+same-length-20 t c = omega (arith, c .before .before .before .before .before .before .before .before .before .before .nested .kept)
 
 pub same-length-21 : (t : ℕ) → lts.Need-same-length-21 (ty-calls t) (ty-at t) ty.Post
-same-length-21 t c = search needs
+same-length-21 t c = omega (arith, c .before .before .before .before .before .before .before .before .before .before .nested .kept)
 
 pub same-length-22 : (t : ℕ) → lts.Need-same-length-22 (ty-calls t) (ty-at t) ty.Post
-same-length-22 t c = search needs
+same-length-22 t c = omega (arith, c .before .before .before .before .before .before .before .before .before .before .literal .kept)
 
 pub same-length-23 : (t : ℕ) → lts.Need-same-length-23 (ty-calls t) (ty-at t) ty.Post
-same-length-23 t c = search needs
+same-length-23 t c = omega (arith, c .before .before .before .before .before .before .before .before .before .before .literal .kept)
 
 pub same-length-24 : (t : ℕ) → lts.Need-same-length-24 (ty-calls t) (ty-at t) ty.Post
-same-length-24 t c = search needs
+same-length-24 t c = omega (arith, c .before .before .before .before .before .before .before .before .before .before .literal .kept)
 
 pub same-length-25 : (t : ℕ) → lts.Need-same-length-25 (ty-calls t) (ty-at t) ty.Post
-same-length-25 t c = search needs
+same-length-25 t c = omega (arith, c .before .before .before .before .before .before .before .before .before .before .literal .kept)
 
 pub same-length-26 : (t : ℕ) → lts.Need-same-length-26 (ty-calls t) (ty-at t) ty.Post
-same-length-26 t c = search needs
+same-length-26 t c = omega (arith, c .before .before .before .before .before .before .before .before .before .before .literal .kept)

@@ -80,19 +80,19 @@ pub same-length : (t : ℕ) → lts.Need-same-length (with-args-calls t) (with-a
 same-length t c = search needs
 
 pub same-length-2 : (t : ℕ) → lts.Need-same-length-2 (with-args-calls t) (with-args-at t) with-args.Post
-same-length-2 t c = search needs
+same-length-2 t c = omega (arith, c .before .before .before .before .before .before .before .before .before .before .before .before .args2 .kept, c .before .before .before .before .before .before .before .before .before .before .before .before .before .before .before .before .before .before .before .before .copy-byte .kept)
 
 pub same-length-3 : (t : ℕ) → lts.Need-same-length-3 (with-args-calls t) (with-args-at t) with-args.Post
-same-length-3 t c = search needs
+same-length-3 t c = omega (arith, c .before .before .before .before .before .before .before .before .before .before .before .before .args2 .kept, c .before .before .before .before .before .before .before .before .before .before .before .before .before .before .before .before .before .before .before .before .copy-byte .kept)
 
 pub same-length-4 : (t : ℕ) → lts.Need-same-length-4 (with-args-calls t) (with-args-at t) with-args.Post
-same-length-4 t c = search needs
+same-length-4 t c = omega (arith, c .before .before .before .before .before .before .before .before .before .before .before .before .args2 .kept, c .before .before .before .before .before .before .before .before .before .before .before .before .before .before .before .before .before .before .before .before .copy-byte .kept)
 
 pub same-length-5 : (t : ℕ) → lts.Need-same-length-5 (with-args-calls t) (with-args-at t) with-args.Post
-same-length-5 t c = search needs
+same-length-5 t c = omega (arith, c .before .before .before .before .before .before .before .before .before .before .before .before .args2 .kept, c .before .before .before .before .before .before .before .before .before .before .before .before .before .before .before .before .before .before .before .before .copy-byte .kept)
 
 pub same-length-6 : (t : ℕ) → lts.Need-same-length-6 (with-args-calls t) (with-args-at t) with-args.Post
-same-length-6 t c = search needs
+same-length-6 t c = omega (arith, c .before .before .before .before .before .before .before .before .before .before .before .before .args2 .kept, c .before .before .before .before .before .before .before .before .before .before .before .before .before .before .before .before .before .before .before .before .copy-byte .kept)
 
 pub same-length-7 : (t : ℕ) → lts.Need-same-length-7 (with-args-calls t) (with-args-at t) with-args.Post
 same-length-7 t c = omega (arith, c .before .before .before .before .enter .kept, c .before .before .before .before .before .before .before .before .before .close .kept, c .before .before .before .before .before .before .before .before .before .before .before .before .before .before .before .before .before .before .before .before .before .before .before .before .args2 .kept, c .before .before .before .before .before .before .before .before .before .before .before .before .before .before .before .before .before .before .before .before .before .before .before .before .before .before .before .before .before .before .before .before .copy-byte .kept)

@@ -41,19 +41,19 @@ returns-2 t c =
     λ q. wrap-answer (at-copy-byte .copy-byte .ensures) (at-ty .ty .ensures) (c .before .before .before .before .before .before .before .before .before .before .before .before .before .before .before .before .before .next .given .1) q _ (c .before .before .before .before .before .before .before .before .before .before .wrap .ensures)
 
 pub same-length : (t : ℕ) → lts.Need-same-length (wrap-calls t) (wrap-at t) wrap.Post
-same-length t c = search needs
+same-length t c = omega (arith, c .before .before .before .before .before .before .before .before .before .before .before .before .ty .kept, c .before .before .before .before .before .before .before .before .before .before .before .before .before .before .before .before .before .before .before .before .copy-byte .kept)
 
 pub same-length-2 : (t : ℕ) → lts.Need-same-length-2 (wrap-calls t) (wrap-at t) wrap.Post
-same-length-2 t c = search needs
+same-length-2 t c = omega (arith, c .before .before .before .before .before .before .before .before .before .before .before .before .ty .kept, c .before .before .before .before .before .before .before .before .before .before .before .before .before .before .before .before .before .before .before .before .copy-byte .kept)
 
 pub same-length-3 : (t : ℕ) → lts.Need-same-length-3 (wrap-calls t) (wrap-at t) wrap.Post
-same-length-3 t c = search needs
+same-length-3 t c = omega (arith, c .before .before .before .before .before .before .before .before .before .before .before .before .ty .kept, c .before .before .before .before .before .before .before .before .before .before .before .before .before .before .before .before .before .before .before .before .copy-byte .kept)
 
 pub same-length-4 : (t : ℕ) → lts.Need-same-length-4 (wrap-calls t) (wrap-at t) wrap.Post
-same-length-4 t c = search needs
+same-length-4 t c = omega (arith, c .before .before .before .before .before .before .before .before .before .before .before .before .ty .kept, c .before .before .before .before .before .before .before .before .before .before .before .before .before .before .before .before .before .before .before .before .copy-byte .kept)
 
 pub same-length-5 : (t : ℕ) → lts.Need-same-length-5 (wrap-calls t) (wrap-at t) wrap.Post
-same-length-5 t c = search needs
+same-length-5 t c = omega (arith, c .before .before .before .before .before .before .before .before .before .before .before .before .ty .kept, c .before .before .before .before .before .before .before .before .before .before .before .before .before .before .before .before .before .before .before .before .copy-byte .kept)
 
 pub same-length-6 : (t : ℕ) → lts.Need-same-length-6 (wrap-calls t) (wrap-at t) wrap.Post
 same-length-6 t c = omega (arith, c .before .before .before .before .before .before .before .before .before .before .wrap .kept, c .before .before .before .before .before .before .before .before .before .before .before .before .before .before .before .before .before .before .before .before .before .before .before .before .before .before .before .before .before .ty .kept, c .before .before .before .before .before .before .before .before .before .before .before .before .before .before .before .before .before .before .before .before .before .before .before .before .before .before .before .before .before .before .before .before .before .before .before .before .before .copy-byte .kept)
