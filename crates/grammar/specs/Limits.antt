@@ -11,7 +11,7 @@ most-entries = 1024
 
 -- bytes of a symbol
 abbrev pub most-symbol-bytes : ℕ
-most-symbol-bytes = 4096
+most-symbol-bytes = 16384
 
 -- bytes of a text that is returned
 abbrev pub most-text-bytes : ℕ

@@ -60,7 +60,7 @@ impl Parser {
 
     pub const ENTRIES: usize = 1024;
 
-    pub const SYMBOL: usize = 4096;
+    pub const SYMBOL: usize = 16384;
 
     pub const TEXT: usize = 16384;
 

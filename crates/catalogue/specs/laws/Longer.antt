@@ -5,7 +5,7 @@ use mathlib.Core.Option.{Option, none, some}
 use mathlib.Core.Path.{_≡_, refl, sym, ap, _∙_}
 use Prim.Native.Nat.{ℕ, _≤_}
 use native.Mathlib.Omega.{arith}
-use borrow.Author.Tests.{le-leb, leb-true, ltb-false, le-ltb}
+use borrow.Author.Tests.{le-leb, leb-true}
 use lib.Dec.{leb, ltb}
 use lib.ListN.{length}
 use Rattle.grammar.specs.Text.{Text, if_then_else_, choose}
