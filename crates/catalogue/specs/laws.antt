@@ -18,5 +18,6 @@ pub mod NormalForm
 pub mod Examples
 pub mod Starred
 pub mod Thunks
+pub mod Longer
 pub mod ManyArguments
 pub mod Bytes

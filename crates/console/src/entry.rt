@@ -8,7 +8,7 @@ use listing::listing::NAME;
 // So many bytes are read at once, and so many of the listing are written at once.
 const CHUNK: usize = 65536;
 
-// Writes the header, and the listing of standard input, one symbol a line. `ends` is long enough for either kind.
+// Writes the header, and the listing of standard input, one symbol a line. The work slices are long enough for either kind.
 pub fn run(kind: Kind) {
     let mut chunk = [0u8; CHUNK];
     let mut lines = [0u8; CHUNK + MOST_KEPT + 1];
@@ -16,7 +16,10 @@ pub fn run(kind: Kind) {
     let mut name = [0u8; NAME];
     let mut text = [0u8; work::TEXT];
     let mut store = [0u8; work::STORE];
-    let mut ends = [0u16; work::NORMAL_ENDS];
+    let mut ends = [0u16; work::NUMBERS];
+    let mut words = [0u16; work::NUMBERS];
+    let mut tables = [0u16; work::NUMBERS];
+    let mut chains = [0u16; work::NUMBERS];
     list_input(
         kind,
         &mut chunk,
@@ -26,5 +29,8 @@ pub fn run(kind: Kind) {
         &mut text,
         &mut store,
         &mut ends,
+        &mut words,
+        &mut tables,
+        &mut chains,
     );
 }

@@ -8,7 +8,7 @@ ghost use mathlib.Core.List.{_++_};
 ghost use mathlib.Core.Path.{_≡_};
 ghost use Prim.Native.Nat.{_≤_, _<_};
 ghost use lib.ListN.{length, drop};
-ghost use Rattle.answer.specs.Told.{slices};
+ghost use Rattle.answer.specs.Told.{normal-slices};
 ghost use Rattle.listing.specs.Listing.{most-line-bytes};
 ghost use Rattle.listing.specs.Kinds.{LongFor};
 ghost use Rattle.console.specs.Output.{header};
@@ -65,14 +65,28 @@ pub fn write_some(
     text: &mut [u8],
     store: &mut [u8],
     ends: &mut [u16],
+    words: &mut [u16],
+    tables: &mut [u16],
+    chains: &mut [u16],
 ) -> Turn
     requires { ⌜ Placed (length (now lines)) buffer × ((buffer .from < buffer .start) × (most-line-bytes ≤ length (now out))) ⌝ }
-    requires { ⌜ LongFor kind (slices (now name) (now text) (now store) (now ends)) ⌝ }
+    requires { ⌜ LongFor kind (normal-slices (now name) (now text) (now store) (now ends) (now words) (now tables) (now chains)) ⌝ }
     ensures { λ r. ⌜ WritesOn kind (now (lines .entry)) (now (out .exit)) buffer r ⌝ }
 {
     let from = buffer.from;
     let start = buffer.start;
-    let listed = list_lines(kind, &lines[from..start], out, name, text, store, ends);
+    let listed = list_lines(
+        kind,
+        &lines[from..start],
+        out,
+        name,
+        text,
+        store,
+        ends,
+        words,
+        tables,
+        chains,
+    );
     let next = Buffer {
         from: from + listed.taken,
         start: start,

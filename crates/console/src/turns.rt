@@ -9,7 +9,7 @@ use crate::output::write_some;
 use listing::listing::Kind;
 ghost use Prim.Native.Nat.{_+_, _≤_};
 ghost use lib.ListN.{length};
-ghost use Rattle.answer.specs.Told.{slices};
+ghost use Rattle.answer.specs.Told.{normal-slices};
 ghost use Rattle.listing.specs.Listing.{most-line-bytes};
 ghost use Rattle.listing.specs.Kinds.{LongFor};
 ghost use Rattle.listing.specs.Cut.{most-kept};
@@ -27,13 +27,28 @@ fn turn(
     text: &mut [u8],
     store: &mut [u8],
     ends: &mut [u16],
+    words: &mut [u16],
+    tables: &mut [u16],
+    chains: &mut [u16],
 ) -> Turn
     requires { ⌜ Placed (length (now lines)) buffer × ((most-kept + 1 + length (now chunk) ≤ length (now lines)) × (most-line-bytes ≤ length (now out))) ⌝ }
-    requires { ⌜ LongFor kind (slices (now name) (now text) (now store) (now ends)) ⌝ }
+    requires { ⌜ LongFor kind (normal-slices (now name) (now text) (now store) (now ends) (now words) (now tables) (now chains)) ⌝ }
     ensures { λ r. ⌜ TurnsOn kind (now (chunk .exit)) (now (out .exit)) (now (lines .entry)) (now (lines .exit)) buffer r ⌝ }
 {
     if buffer.from < buffer.start {
-        return write_some(kind, lines, buffer, out, name, text, store, ends);
+        return write_some(
+            kind,
+            lines,
+            buffer,
+            out,
+            name,
+            text,
+            store,
+            ends,
+            words,
+            tables,
+            chains,
+        );
     }
     if buffer.ended {
         return Turn {
@@ -57,9 +72,12 @@ pub fn list_input(
     text: &mut [u8],
     store: &mut [u8],
     ends: &mut [u16],
+    words: &mut [u16],
+    tables: &mut [u16],
+    chains: &mut [u16],
 ) -> bool
     requires { ⌜ (most-kept + 1 + length (now chunk) ≤ length (now lines)) × (most-line-bytes ≤ length (now out)) ⌝ }
-    requires { ⌜ LongFor kind (slices (now name) (now text) (now store) (now ends)) ⌝ }
+    requires { ⌜ LongFor kind (normal-slices (now name) (now text) (now store) (now ends) (now words) (now tables) (now chains)) ⌝ }
     ensures { λ r. ⌜ Ends kind (now (lines .exit)) r ⌝ }
 {
     let mut buffer = empty();
@@ -67,7 +85,20 @@ pub fn list_input(
     let mut goes_on = handed.went;
     let mut turns = u64::MAX;
     while turns > 0 && goes_on {
-        let next = turn(kind, chunk, lines, buffer, out, name, text, store, ends);
+        let next = turn(
+            kind,
+            chunk,
+            lines,
+            buffer,
+            out,
+            name,
+            text,
+            store,
+            ends,
+            words,
+            tables,
+            chains,
+        );
         buffer = next.buffer;
         goes_on = next.goes_on;
         turns -= 1;

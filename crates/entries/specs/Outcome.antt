@@ -17,7 +17,15 @@ pub record Outcome : Type 0 where
 unfoldable pub leaves : n.Answer → Slices → Outcome
 leaves a l = record {
   answer = told a;
-  slices = record { out = written a (l .out); text = zeros (length (l .text)); store = zeros (length (l .store)); ends = zeros (length (l .ends)) };
+  slices = record {
+    out = written a (l .out);
+    text = zeros (length (l .text));
+    store = zeros (length (l .store));
+    ends = zeros (length (l .ends));
+    words = zeros (length (l .words));
+    tables = zeros (length (l .tables));
+    chains = zeros (length (l .chains));
+  };
 }
 
 abbrev pub Leaves : n.Answer → Slices → Slices → Answer → Type 0
@@ -32,7 +40,7 @@ Demangles s l l' r = _≡_ {A = Outcome} (record { answer = r; slices = l' }) (d
 
 -- the definition of the entry for normal symbols
 unfoldable pub normalized : Text → Slices → Outcome
-normalized s l = leaves (normal-answer (lent l) s) l
+normalized s l = leaves (normal-answer most-symbol-bytes (lent l) s) l
 
 abbrev pub Normalizes : Text → Slices → Slices → Answer → Type 0
 Normalizes s l l' r = _≡_ {A = Outcome} (record { answer = r; slices = l' }) (normalized s l)

@@ -2,3 +2,4 @@
 pub mod Outcome
 pub mod Runs
 pub mod Demand
+pub mod Longer

@@ -43,12 +43,15 @@ demangle limit t = front limit t mangled-name
 
 -- ---------------------------------------------------------------- the entry for names, with its slices
 
--- the lengths of the slices that a caller lends: the output and the three work slices
+-- the lengths of the slices that a caller lends: the output and the work slices. The entry for names has no use for the last three
 pub record Lent : Type 0 where
   pub out : ℕ
   pub text : ℕ
   pub store : ℕ
   pub ends : ℕ
+  pub words : ℕ
+  pub tables : ℕ
+  pub chains : ℕ
 
 unfoldable pub work-fits : Lent → Bool
 work-fits l = leb least-text (l .text) && leb least-store (l .store) && leb least-ends (l .ends)

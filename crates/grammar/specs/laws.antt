@@ -15,4 +15,5 @@ pub mod Alike
 pub mod AlikeReadings
 pub mod Dots
 pub mod Thunks
+pub mod Longer
 pub mod States

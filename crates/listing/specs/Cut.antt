@@ -1,4 +1,4 @@
--- Lines cut to 4,097 bytes, one more than a symbol has: their listing is the same. Assumes nothing.
+-- Lines cut to one byte more than a symbol has: their listing is the same. Assumes nothing.
 use mathlib.Core.List.{[], _∷_}
 use Prim.Native.Nat.{ℕ, _+_, _-_}
 use lib.Dec.{eqb, ltb}

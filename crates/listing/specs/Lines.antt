@@ -26,6 +26,9 @@ GoesOn kind input out out' r =
 abbrev pub full-number : ℕ → ℕ
 full-number taken = if eqb taken 0 then 12 else 0
 
+abbrev pub full-at : ℕ → ℕ → Listed
+full-at taken written = record { number = full-number taken; taken = taken; written = written }
+
 -- ---------------------------------------------------------------- the first line
 
 -- the bytes up to a line feed

@@ -8,10 +8,10 @@ use lib.ListN.{length, drop}
 use lib.Dec.{eqb, leb}
 use Rattle.grammar.specs.Text.{Text, if_then_else_, decimal}
 use Rattle.grammar.specs.Limits.{most-symbol-bytes, most-text-bytes, least-text, least-store, least-ends}
-use Rattle.grammar.specs.Names.{Answer, named, refusal, demangle, number-of, length-of}
-use Rattle.catalogue.specs.Answer.{normal-symbol, least-normal-ends}
+use Rattle.grammar.specs.Names.{Answer, named, refusal, Lent, demangle, number-of, length-of}
+use Rattle.catalogue.specs.Answer.{normal-symbol, least-numbers}
 use Rattle.store.specs.Stack.{zeros}
-use Rattle.answer.specs.Told.{Slices}
+use Rattle.answer.specs.Told.{Slices, lent}
 use Rattle.listing.specs.declared.listing.Kind.{Kind}
 use Rattle.listing.specs.declared.listing.Kind.the-variants.{Names, Symbols}
 use Rattle.listing.specs.declared.listing.Listed.{Listed}
@@ -37,7 +37,7 @@ line-for a = line (number-of a) (length-of a) (name-of a)
 -- what is listed of a symbol: its name, or its normal symbol
 unfoldable pub answer-of : Kind → Text → Answer
 answer-of Names s = demangle most-symbol-bytes s
-answer-of Symbols s = normal-symbol s
+answer-of Symbols s = normal-symbol most-symbol-bytes s
 
 -- the line for a symbol
 unfoldable pub listing-line : Kind → Text → Text
@@ -82,15 +82,27 @@ most-line-bytes = most-text-bytes + 13
 -- the entry for normal symbols needs more of `ends`
 abbrev pub least-ends-of : Kind → ℕ
 least-ends-of Names = least-ends
-least-ends-of Symbols = least-normal-ends
+least-ends-of Symbols = least-numbers
 
--- the slices for a name and for the reading have their least lengths
-unfoldable pub sized : Kind → ℕ → ℕ → ℕ → ℕ → Bool
-sized kind name text store ends = leb least-name name && (leb least-text text && leb least-store store && leb (least-ends-of kind) ends)
+-- and three slices that the entry for names has not
+abbrev pub least-numbers-of : Kind → ℕ
+least-numbers-of Names = 0
+least-numbers-of Symbols = least-numbers
 
--- of the work slices `out` is the one for a name or a normal symbol
+abbrev pub lengths : ℕ → ℕ → ℕ → ℕ → ℕ → ℕ → ℕ → Lent
+lengths name text store ends words tables chains =
+    record { out = name; text = text; store = store; ends = ends; words = words; tables = tables; chains = chains }
+
+-- the work slices have their least lengths; `out` is the one for a name or a normal symbol
+unfoldable pub sized : Kind → Lent → Bool
+sized kind l =
+    leb least-name (l .out) && (
+    (leb least-text (l .text) && leb least-store (l .store) && leb (least-ends-of kind) (l .ends))
+    && (leb (least-numbers-of kind) (l .words) && leb (least-numbers-of kind) (l .tables) && leb (least-numbers-of kind) (l .chains))
+    )
+
 unfoldable pub work-sized : Kind → Slices → Bool
-work-sized kind l = sized kind (length (l .out)) (length (l .text)) (length (l .store)) (length (l .ends))
+work-sized kind l = sized kind (lent l)
 
 -- where none of the lines fits
 unfoldable pub none-fits : List Text → ℕ
@@ -117,7 +129,15 @@ lists kind number ss out work = record {
   taken = bytes-taken ss;
   written = length (listing kind ss);
   out = listing kind ss ++ drop (length (listing kind ss)) out;
-  work = record { out = zeros (length (work .out)); text = zeros (length (work .text)); store = zeros (length (work .store)); ends = zeros (length (work .ends)) };
+  work = record {
+    out = zeros (length (work .out));
+    text = zeros (length (work .text));
+    store = zeros (length (work .store));
+    ends = zeros (length (work .ends));
+    words = zeros (length (work .words));
+    tables = zeros (length (work .tables));
+    chains = zeros (length (work .chains));
+  };
 }
 
 -- the definition of the entry: with work slices that are too short no line is taken

@@ -13,10 +13,10 @@ use store::stack;
 ghost use mathlib.Core.Path.{_≡_};
 ghost use Prim.Native.Nat.{_≤_, _<_};
 ghost use lib.ListN.{length};
-ghost use Rattle.answer.specs.Told.{slices, Tells};
-ghost use Rattle.listing.specs.Listing.{line, answer-of, listing-line, least-ends-of, sized, Lists};
+ghost use Rattle.answer.specs.Told.{normal-slices, Tells};
+ghost use Rattle.listing.specs.Listing.{line, answer-of, listing-line, least-ends-of, least-numbers-of, lengths, sized, Lists};
 ghost use Rattle.listing.specs.Printed.{Heads, Printed};
-ghost use Rattle.listing.specs.Lines.{GoesOn, full-number};
+ghost use Rattle.listing.specs.Lines.{GoesOn, full-at};
 ghost use Rattle.listing.specs.Kinds.{LongFor};
 ghost use Rattle.listing.specs.Entry.{Tried};
 
@@ -75,13 +75,16 @@ fn answer(
     text: &mut [u8],
     store: &mut [u8],
     ends: &mut [u16],
+    words: &mut [u16],
+    tables: &mut [u16],
+    chains: &mut [u16],
 ) -> Answer
-    requires { ⌜ LongFor kind (slices (now name) (now text) (now store) (now ends)) ⌝ }
+    requires { ⌜ LongFor kind (normal-slices (now name) (now text) (now store) (now ends) (now words) (now tables) (now chains)) ⌝ }
     ensures { λ r. ⌜ Tells (answer-of kind (now (s .entry))) (now (name .entry)) (now (name .exit)) r ⌝ }
 {
     match kind {
         Kind::Names => demangle_uncleared(s, name, text, store, ends),
-        Kind::Symbols => normalize_uncleared(s, name, text, store, ends),
+        Kind::Symbols => normalize_uncleared(s, name, text, store, ends, words, tables, chains),
     }
 }
 
@@ -95,24 +98,35 @@ fn write_line(
     text: &mut [u8],
     store: &mut [u8],
     ends: &mut [u16],
+    words: &mut [u16],
+    tables: &mut [u16],
+    chains: &mut [u16],
 ) -> usize
-    requires { ⌜ (at ≤ length (now out)) × LongFor kind (slices (now name) (now text) (now store) (now ends)) ⌝ }
+    requires { ⌜ (at ≤ length (now out)) × LongFor kind (normal-slices (now name) (now text) (now store) (now ends) (now words) (now tables) (now chains)) ⌝ }
     ensures { λ r. ⌜ Printed (listing-line kind (now (s .entry))) at (now (out .entry)) (now (out .exit)) r ⌝ }
 {
-    let answer = answer(kind, s, name, text, store, ends);
+    let answer = answer(kind, s, name, text, store, ends, words, tables, chains);
     let number = number(answer) as usize;
     let bytes = bytes(answer);
     print_line(out, at, number, &name[..bytes])
 }
 
-// The number where the next line does not fit.
-fn full(taken: usize) -> u8
-    ensures { λ r. ⌜ r ≡ full-number taken ⌝ }
+// What is told where the next line does not fit.
+fn full(taken: usize, written: usize) -> Listed
+    ensures { λ r. ⌜ r ≡ full-at taken written ⌝ }
 {
     if taken == 0 {
-        return 12;
+        return Listed {
+            number: 12,
+            taken: taken,
+            written: written,
+        };
     }
-    0
+    Listed {
+        number: 0,
+        taken: taken,
+        written: written,
+    }
 }
 
 // The lines one after another, as long as their listing fits.
@@ -124,8 +138,11 @@ fn write_lines(
     text: &mut [u8],
     store: &mut [u8],
     ends: &mut [u16],
+    words: &mut [u16],
+    tables: &mut [u16],
+    chains: &mut [u16],
 ) -> Listed
-    requires { ⌜ LongFor kind (slices (now name) (now text) (now store) (now ends)) ⌝ }
+    requires { ⌜ LongFor kind (normal-slices (now name) (now text) (now store) (now ends) (now words) (now tables) (now chains)) ⌝ }
     ensures { λ r. ⌜ GoesOn kind (now (input .entry)) (now (out .entry)) (now (out .exit)) r ⌝ }
 {
     let mut at: usize = 0;
@@ -139,13 +156,21 @@ fn write_lines(
                 written: end,
             };
         }
-        let n = write_line(kind, &input[at..feed], out, end, name, text, store, ends);
+        let n = write_line(
+            kind,
+            &input[at..feed],
+            out,
+            end,
+            name,
+            text,
+            store,
+            ends,
+            words,
+            tables,
+            chains,
+        );
         if n == 0 {
-            return Listed {
-                number: full(at),
-                taken: at,
-                written: end,
-            };
+            return full(at, end);
         }
         at = feed + 1;
         end += n;
@@ -162,17 +187,39 @@ fn least_ends(kind: Kind) -> usize
 {
     match kind {
         Kind::Names => work::ENDS,
-        Kind::Symbols => work::NORMAL_ENDS,
+        Kind::Symbols => work::NUMBERS,
     }
 }
 
-fn long_enough(kind: Kind, name: usize, text: usize, store: usize, ends: usize) -> bool
-    ensures { λ r. ⌜ r ≡ sized kind name text store ends ⌝ }
+fn least_numbers(kind: Kind) -> usize
+    ensures { λ r. ⌜ r ≡ least-numbers-of kind ⌝ }
+{
+    match kind {
+        Kind::Names => 0,
+        Kind::Symbols => work::NUMBERS,
+    }
+}
+
+// By the lengths of the work slices.
+fn long_enough(
+    kind: Kind,
+    name: usize,
+    text: usize,
+    store: usize,
+    ends: usize,
+    words: usize,
+    tables: usize,
+    chains: usize,
+) -> bool
+    ensures { λ r. ⌜ r ≡ sized kind (lengths name text store ends words tables chains) ⌝ }
 {
     if name < NAME {
         return false;
     }
-    work::work_fits(text, store, ends, least_ends(kind))
+    if !work::work_fits(text, store, ends, least_ends(kind)) {
+        return false;
+    }
+    work::numbers_fit(words, tables, chains, least_numbers(kind))
 }
 
 // The listing, or no line where a work slice is too short.
@@ -184,18 +231,41 @@ fn list_uncleared(
     text: &mut [u8],
     store: &mut [u8],
     ends: &mut [u16],
+    words: &mut [u16],
+    tables: &mut [u16],
+    chains: &mut [u16],
 ) -> Listed
     ensures { λ r. ⌜ Tried kind (now (input .entry)) (now (out .entry)) (now (out .exit))
-        (slices (now (name .entry)) (now (text .entry)) (now (store .entry)) (now (ends .entry))) r ⌝ }
+        (normal-slices (now (name .entry)) (now (text .entry)) (now (store .entry)) (now (ends .entry)) (now (words .entry)) (now (tables .entry)) (now (chains .entry))) r ⌝ }
 {
-    if !long_enough(kind, name.len(), text.len(), store.len(), ends.len()) {
+    if !long_enough(
+        kind,
+        name.len(),
+        text.len(),
+        store.len(),
+        ends.len(),
+        words.len(),
+        tables.len(),
+        chains.len(),
+    ) {
         return Listed {
             number: 14,
             taken: 0,
             written: 0,
         };
     }
-    write_lines(kind, input, out, name, text, store, ends)
+    write_lines(
+        kind,
+        input,
+        out,
+        name,
+        text,
+        store,
+        ends,
+        words,
+        tables,
+        chains,
+    )
 }
 
 // The listing of the complete lines at the front of `input`, as many as fit into `out`. Work slices of any lengths and
@@ -208,13 +278,28 @@ pub fn list_lines(
     text: &mut [u8],
     store: &mut [u8],
     ends: &mut [u16],
+    words: &mut [u16],
+    tables: &mut [u16],
+    chains: &mut [u16],
 ) -> Listed
     ensures { λ r. ⌜ Lists kind (now (input .entry)) (now (out .entry)) (now (out .exit))
-        (slices (now (name .entry)) (now (text .entry)) (now (store .entry)) (now (ends .entry)))
-        (slices (now (name .exit)) (now (text .exit)) (now (store .exit)) (now (ends .exit))) r ⌝ }
+        (normal-slices (now (name .entry)) (now (text .entry)) (now (store .entry)) (now (ends .entry)) (now (words .entry)) (now (tables .entry)) (now (chains .entry)))
+        (normal-slices (now (name .exit)) (now (text .exit)) (now (store .exit)) (now (ends .exit)) (now (words .exit)) (now (tables .exit)) (now (chains .exit))) r ⌝ }
 {
-    let listed = list_uncleared(kind, input, out, name, text, store, ends);
+    let listed = list_uncleared(
+        kind,
+        input,
+        out,
+        name,
+        text,
+        store,
+        ends,
+        words,
+        tables,
+        chains,
+    );
     stack::clear(name);
     work::clear(text, store, ends);
+    work::clear_numbers(words, tables, chains);
     listed
 }

@@ -25,10 +25,8 @@ pub enum Told {
 }
 
 impl Writer {
-    // Where the second half of a slice of numbers begins, and its length.
+    // Where the second half of a slice of numbers begins.
     pub const MIDDLE: usize = Parser::SYMBOL;
-
-    pub const NUMBERS: usize = 2 * Parser::SYMBOL;
 
     pub const OUT: usize = 4 * Parser::SYMBOL;
 

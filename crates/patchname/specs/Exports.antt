@@ -1,11 +1,13 @@
 -- What the C functions promise: the same equations as the entries and the listing.
-use mathlib.Core.Path.{_≡_, ap, ap₂, _∙_}
+use mathlib.Core.Path.{_≡_, sym, ap, ap₂, _∙_}
 use Prim.Native.Nat.{ℕ}
 use Rattle.grammar.specs.Text.{Text}
 use Rattle.answer.specs.declared.Answer.{Answer}
-use Rattle.answer.specs.Told.{Slices, number-in, bytes-in}
+use Rattle.answer.specs.Told.{Slices, slices, normal-slices, number-in, bytes-in}
 use Rattle.entries.specs.Outcome.{Outcome}
-use Rattle.listing.specs.Listing.{Outcome as Listing}
+use Rattle.entries.specs.laws.Outcome.{no-zeros}
+use Rattle.listing.specs.Listing.{Outcome as Listing, lists, listed}
+use Rattle.listing.specs.declared.listing.Kind.{Kind}
 use Rattle.listing.specs.declared.listing.Listed.{Listed}
 
 -- an outcome, its answer as document 01's number and value
@@ -33,3 +35,14 @@ pub told-listing : {o : Listing} {out : Text} {work : Slices} {number taken writ
     → (number ≡ r .number) × ((taken ≡ r .taken) × (written ≡ r .written)) → Returns-listing o out work (r .number) (r .taken) (r .written)
     → Returns-listing o out work number taken written
 told-listing {out = out} {work = work} r (e, (f, g)) h = (λ i. record { number = e i; taken = f i; written = g i; out = out; work = work }) ∙ h
+
+-- the slices that are not lent for names have no numbers afterwards either
+pub no-numbers : (kind : Kind) (input out name text store ends : Text) {out' name' text' store' ends' words tables chains : Text} {number taken written : ℕ}
+    → Returns-listing (listed kind input out (slices name text store ends)) out' (normal-slices name' text' store' ends' words tables chains) number taken written
+    → Returns-listing (listed kind input out (slices name text store ends)) out' (slices name' text' store' ends') number taken written
+unfolding listed lists
+no-numbers kind input out name text store ends {out' = out'} {name' = name'} {text' = text'} {store' = store'} {ends' = ends'} {number = number} {taken = taken} {written = written} h =
+    let w = no-zeros ∙ sym (ap (λ (o : Listing). o .work .words) h) in
+    let t = no-zeros ∙ sym (ap (λ (o : Listing). o .work .tables) h) in
+    let c = no-zeros ∙ sym (ap (λ (o : Listing). o .work .chains) h) in
+    (λ i. record { number = number; taken = taken; written = written; out = out'; work = normal-slices name' text' store' ends' (w i) (t i) (c i) }) ∙ h

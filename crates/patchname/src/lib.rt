@@ -6,7 +6,7 @@ use listing::listing::Kind;
 use listing::listing::Listed;
 use listing::listing::list_lines;
 ghost use mathlib.Core.Path.{_≡_};
-ghost use Rattle.answer.specs.Told.{slices, number-in, bytes-in};
+ghost use Rattle.answer.specs.Told.{slices, normal-slices, number-in, bytes-in};
 ghost use Rattle.entries.specs.Outcome.{demangled, normalized};
 ghost use Rattle.listing.specs.Listing.{listed};
 ghost use Rattle.listing.specs.declared.listing.Kind.the-variants.{Names, Symbols};
@@ -45,12 +45,16 @@ pub extern "C" fn patchname_normalize(
     text: &mut [u8],
     store: &mut [u8],
     ends: &mut [u16],
+    words: &mut [u16],
+    tables: &mut [u16],
+    chains: &mut [u16],
     bytes: &mut usize,
 ) -> u8
-    ensures { λ r. ⌜ Returns (normalized (now (s .entry)) (slices (now (out .entry)) (now (text .entry)) (now (store .entry)) (now (ends .entry))))
-        (slices (now (out .exit)) (now (text .exit)) (now (store .exit)) (now (ends .exit))) r (now (bytes .exit)) ⌝ }
+    ensures { λ r. ⌜ Returns (normalized (now (s .entry))
+        (normal-slices (now (out .entry)) (now (text .entry)) (now (store .entry)) (now (ends .entry)) (now (words .entry)) (now (tables .entry)) (now (chains .entry))))
+        (normal-slices (now (out .exit)) (now (text .exit)) (now (store .exit)) (now (ends .exit)) (now (words .exit)) (now (tables .exit)) (now (chains .exit))) r (now (bytes .exit)) ⌝ }
 {
-    let answer = normalize(s, out, text, store, ends);
+    let answer = normalize(s, out, text, store, ends, words, tables, chains);
     tell(answer, bytes)
 }
 
@@ -79,7 +83,21 @@ pub extern "C" fn patchname_list_names(
     ensures { λ r. ⌜ Returns-listing (listed Names (now (input .entry)) (now (out .entry)) (slices (now (name .entry)) (now (text .entry)) (now (store .entry)) (now (ends .entry))))
         (now (out .exit)) (slices (now (name .exit)) (now (text .exit)) (now (store .exit)) (now (ends .exit))) r (now (taken .exit)) (now (written .exit)) ⌝ }
 {
-    let listed = list_lines(Kind::Names, input, out, name, text, store, ends);
+    let mut words = [0u16; 0];
+    let mut tables = [0u16; 0];
+    let mut chains = [0u16; 0];
+    let listed = list_lines(
+        Kind::Names,
+        input,
+        out,
+        name,
+        text,
+        store,
+        ends,
+        &mut words,
+        &mut tables,
+        &mut chains,
+    );
     tell_listing(listed, taken, written)
 }
 
@@ -92,12 +110,27 @@ pub extern "C" fn patchname_list_normal_symbols(
     text: &mut [u8],
     store: &mut [u8],
     ends: &mut [u16],
+    words: &mut [u16],
+    tables: &mut [u16],
+    chains: &mut [u16],
     taken: &mut usize,
     written: &mut usize,
 ) -> u8
-    ensures { λ r. ⌜ Returns-listing (listed Symbols (now (input .entry)) (now (out .entry)) (slices (now (name .entry)) (now (text .entry)) (now (store .entry)) (now (ends .entry))))
-        (now (out .exit)) (slices (now (name .exit)) (now (text .exit)) (now (store .exit)) (now (ends .exit))) r (now (taken .exit)) (now (written .exit)) ⌝ }
+    ensures { λ r. ⌜ Returns-listing (listed Symbols (now (input .entry)) (now (out .entry))
+        (normal-slices (now (name .entry)) (now (text .entry)) (now (store .entry)) (now (ends .entry)) (now (words .entry)) (now (tables .entry)) (now (chains .entry))))
+        (now (out .exit)) (normal-slices (now (name .exit)) (now (text .exit)) (now (store .exit)) (now (ends .exit)) (now (words .exit)) (now (tables .exit)) (now (chains .exit))) r (now (taken .exit)) (now (written .exit)) ⌝ }
 {
-    let listed = list_lines(Kind::Symbols, input, out, name, text, store, ends);
+    let listed = list_lines(
+        Kind::Symbols,
+        input,
+        out,
+        name,
+        text,
+        store,
+        ends,
+        words,
+        tables,
+        chains,
+    );
     tell_listing(listed, taken, written)
 }

@@ -11,7 +11,7 @@ use Rattle.grammar.specs.Limits.{least-text, least-store}
 use Rattle.grammar.specs.Names.{Answer, named, refusal, number-of, length-of, written}
 use Rattle.answer.specs.declared.Answer.{Answer as Code}
 use Rattle.answer.specs.declared.Answer.the-variants.{Name, Refused}
-use Rattle.answer.specs.Told.{Slices, told, number-in, bytes-in, Tells, Long, fit}
+use Rattle.answer.specs.Told.{Slices, told, number-in, bytes-in, Tells, Long, fit, LongNumbers, numbers-fit}
 
 -- the number and the length of what is told
 pub number-told : (a : Answer) → number-in (told a) ≡ number-of a
@@ -60,3 +60,15 @@ fit-long least l h =
 pub long-fit : {least : ℕ} {l : Slices} → Long least l → fit least l ≡ true
 long-fit {least} {l} h =
     rw (le-leb least-text (length (l .text)) (h .text), le-leb least-store (length (l .store)) (h .store), le-leb least (length (l .ends)) (h .ends))
+
+pub fit-long-numbers : (least : ℕ) (l : Slices) → numbers-fit least l ≡ true → LongNumbers least l
+fit-long-numbers least l h =
+    let words = leb least (length (l .words)) in
+    let tables = leb least (length (l .tables)) in
+    let (i, k) = both-true (words && tables) (leb least (length (l .chains))) h in
+    let (x, y) = both-true words tables i in
+    record { words = leb-true least (length (l .words)) x; tables = leb-true least (length (l .tables)) y; chains = leb-true least (length (l .chains)) k }
+
+pub long-numbers-fit : {least : ℕ} {l : Slices} → LongNumbers least l → numbers-fit least l ≡ true
+long-numbers-fit {least} {l} h =
+    rw (le-leb least (length (l .words)) (h .words), le-leb least (length (l .tables)) (h .tables), le-leb least (length (l .chains)) (h .chains))

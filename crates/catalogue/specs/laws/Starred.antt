@@ -4,6 +4,7 @@ use mathlib.Core.List.{List, [], _∷_}
 use Prim.Native.Nat.{ℕ}
 use Prim.Native.String.{String}
 use Rattle.grammar.specs.Text.{b}
+use Rattle.grammar.specs.Limits.{most-symbol-bytes}
 use Rattle.grammar.specs.Tables.{Row, _⇒_}
 use Rattle.grammar.specs.Names.{named, refusal}
 use Rattle.grammar.specs.laws.Examples.{Case, prints, refuses, Answered, answered, by-test}
@@ -12,10 +13,10 @@ use Rattle.catalogue.specs.laws.Examples.{agreeing}
 
 -- the normal symbol, or why there is none
 abbrev pub normal : String → Case
-normal t = (normal-symbol, named (b t))
+normal t = (normal-symbol most-symbol-bytes, named (b t))
 
 abbrev pub no-normal : ℕ → Case
-no-normal k = (normal-symbol, refusal k)
+no-normal k = (normal-symbol most-symbol-bytes, refusal k)
 
 unfoldable pub starred : List (Row Case)
 starred =

@@ -28,9 +28,9 @@ thunk-wrong (behind-_Z (non-virtual t)) = refl
 thunk-wrong (behind-_Z (virtual t)) = refl
 thunk-wrong (behind-_Z (clone p)) = refl
 
-pub thunk-6 : {t x : Text} → ThunkSymbol t → demangle most-symbol-bytes t ≡ named x → normal-symbol t ≡ refusal 6
+pub thunk-6 : {t x : Text} → ThunkSymbol t → demangle most-symbol-bytes t ≡ named x → normal-symbol most-symbol-bytes t ≡ refusal 6
 unfolding normal-symbol normal-after normal-told
-thunk-6 {t} p e = ap (normal-after t) e ∙ rw (thunk-wrong p)
+thunk-6 {t} p e = ap (normal-after most-symbol-bytes t) e ∙ rw (thunk-wrong p)
 
 -- a name behind the front, and another answer made of it
 front-named : (limit : ℕ) (t x : Text) (f : Text → Answer) (h : Answer → Answer) → front limit t f ≡ named x → front limit t (λ u. h (f u)) ≡ h (named x)
@@ -50,24 +50,24 @@ front-named limit t x f h = go (ltb limit (length t)) (high t) (find ("_Z" ⇒ t
     go false false (some r) e = ap h e
 
 -- the same with the slices of the entry, long enough
-pub thunk-answer-6 : {t x : Text} (l : Lent) → ThunkSymbol t → demangle most-symbol-bytes t ≡ named x → normal-work-fits l ≡ true → normal-answer l t ≡ refusal 6
+pub thunk-answer-6 : {t x : Text} (l : Lent) → ThunkSymbol t → demangle most-symbol-bytes t ≡ named x → normal-work-fits most-symbol-bytes l ≡ true → normal-answer most-symbol-bytes l t ≡ refusal 6
 unfolding demangle normal-answer normal-after normal-told within if_then_else_
 thunk-answer-6 {t} {x} l p e f =
-    front-named most-symbol-bytes t x mangled-name (λ a. if normal-work-fits l then within (l .out) (normal-after t a) else refusal 14) e ∙ rw (f, thunk-wrong p)
+    front-named most-symbol-bytes t x mangled-name (λ a. if normal-work-fits most-symbol-bytes l then within (l .out) (normal-after most-symbol-bytes t a) else refusal 14) e ∙ rw (f, thunk-wrong p)
 
 -- the normal symbol without thunks, by itself and with the slices of the entry
 unfoldable pub normal-symbol-without : Text → Answer
-normal-symbol-without t = normal-after t (demangle-without most-symbol-bytes t)
+normal-symbol-without t = normal-after most-symbol-bytes t (demangle-without most-symbol-bytes t)
 
 unfoldable pub normal-answer-without : Lent → Text → Answer
 normal-answer-without l t =
-    front most-symbol-bytes t λ u. if normal-work-fits l then within (l .out) (normal-after t (mangled-without u)) else refusal 14
+    front most-symbol-bytes t λ u. if normal-work-fits most-symbol-bytes l then within (l .out) (normal-after most-symbol-bytes t (mangled-without u)) else refusal 14
 
-pub normal-symbol-kept : (t : Text) → Kept (ThunkSymbol t) (refusal 4) (normal-symbol-without t) (normal-symbol t)
+pub normal-symbol-kept : (t : Text) → Kept (ThunkSymbol t) (refusal 4) (normal-symbol-without t) (normal-symbol most-symbol-bytes t)
 unfolding normal-symbol-without normal-symbol normal-after
-normal-symbol-kept t = kept-by (normal-after t) (λ p. p) (demangle-kept most-symbol-bytes t)
+normal-symbol-kept t = kept-by (normal-after most-symbol-bytes t) (λ p. p) (demangle-kept most-symbol-bytes t)
 
-pub normal-answer-kept : (l : Lent) (t : Text) → Kept (ThunkSymbol t) (refusal 4) (normal-answer-without l t) (normal-answer l t)
+pub normal-answer-kept : (l : Lent) (t : Text) → Kept (ThunkSymbol t) (refusal 4) (normal-answer-without l t) (normal-answer most-symbol-bytes l t)
 unfolding normal-answer-without normal-answer normal-after within
 normal-answer-kept l t =
-    front-kept most-symbol-bytes t _ _ λ u. if-kept _ (normal-work-fits l) (kept-by (λ a. within (l .out) (normal-after t a)) (λ p. p) (mangled-kept u))
+    front-kept most-symbol-bytes t _ _ λ u. if-kept _ (normal-work-fits most-symbol-bytes l) (kept-by (λ a. within (l .out) (normal-after most-symbol-bytes t a)) (λ p. p) (mangled-kept u))

@@ -9,14 +9,14 @@ use lib.Dec.{eqb, leb}
 use lib.ListN.{length, take, drop, set, length-append, length-drop}
 use lib.Seq.{take-length, take-at, take-add, take-take, take-suc-set, drop-drop, length-take-le}
 use Rattle.grammar.specs.Text.{Text, if_then_else_}
-use Rattle.grammar.specs.Limits.{least-text, least-store}
-use Rattle.answer.specs.Told.{Slices}
-use Rattle.answer.specs.laws.Told.{both-true, long-fit}
-use Rattle.listing.specs.Listing.{line-feed, lines, bytes-taken, listing, fitting, work-sized, Outcome, lists, listed, Lists, most-line-bytes, least-name, least-ends-of}
+use Rattle.grammar.specs.Names.{Lent}
+use Rattle.answer.specs.Told.{Slices, lent}
+use Rattle.answer.specs.laws.Told.{both-true, long-fit, long-numbers-fit}
+use Rattle.listing.specs.Listing.{line-feed, lines, bytes-taken, listing, fitting, work-sized, Outcome, lists, listed, Lists, most-line-bytes}
 use Rattle.listing.specs.Cut.{cut-lines, column, most-kept}
 use Rattle.listing.specs.laws.Cut.{cut-append, cut-listing}
 use Rattle.listing.specs.Kinds.{LongFor}
-use Rattle.listing.specs.laws.Entry.{long-name}
+use Rattle.listing.specs.laws.Entry.{long-work}
 use Rattle.listing.specs.laws.Inside.{lists-inside, lists-some-line}
 use Rattle.listing.specs.declared.listing.Kind.{Kind}
 use Rattle.listing.specs.declared.listing.Kind.the-variants.{Names, Symbols}
@@ -166,18 +166,32 @@ module _ (kind : Kind) (l out : Text) (from to : ℕ) (work : Slices) {out' : Te
 
 pub long-sized : {kind : Kind} {work : Slices} → LongFor kind work → work-sized kind work ≡ true
 unfolding work-sized
-long-sized {kind} {work} h =
-    sym (long-name kind (length (work .out)) (length (work .text)) (length (work .store)) (length (work .ends)) (h .name) (sym (long-fit (h .work))))
+long-sized {kind} {work} h = sym (long-work kind (lent work) (h .name) (sym (long-fit (h .work))) refl (sym (long-numbers-fit (h .numbers))))
 
-pub long-as : {kind : Kind} (l l' : Slices) → length (l' .out) ≡ length (l .out) → length (l' .text) ≡ length (l .text) → length (l' .store) ≡ length (l .store) → length (l' .ends) ≡ length (l .ends)
-    → LongFor kind l → LongFor kind l'
-long-as l l' e f g i h =
-    record { name = omega (arith, e, h .name); work = record { text = omega (arith, f, h .work .text); store = omega (arith, g, h .work .store); ends = omega (arith, i, h .work .ends) } }
+-- slices of the same lengths
+pub long-as : {kind : Kind} (l l' : Slices) → lent l' ≡ lent l → LongFor kind l → LongFor kind l'
+long-as l l' e h = record {
+  name = omega (arith, ap (λ (x : Lent). x .out) e, h .name);
+  work = record {
+    text = omega (arith, ap (λ (x : Lent). x .text) e, h .work .text);
+    store = omega (arith, ap (λ (x : Lent). x .store) e, h .work .store);
+    ends = omega (arith, ap (λ (x : Lent). x .ends) e, h .work .ends);
+  };
+  numbers = record {
+    words = omega (arith, ap (λ (x : Lent). x .words) e, h .numbers .words);
+    tables = omega (arith, ap (λ (x : Lent). x .tables) e, h .numbers .tables);
+    chains = omega (arith, ap (λ (x : Lent). x .chains) e, h .numbers .chains);
+  };
+}
 
 -- long enough for either kind
-pub long-either : (kind : Kind) (l : Slices) → least-name ≤ length (l .out) → least-text ≤ length (l .text) → least-store ≤ length (l .store) → least-ends-of Symbols ≤ length (l .ends) → LongFor kind l
-long-either Names l e f g h = record { name = e; work = record { text = f; store = g; ends = omega arith } }
-long-either Symbols l e f g h = record { name = e; work = record { text = f; store = g; ends = h } }
+pub long-either : (kind : Kind) (l : Slices) → LongFor Symbols l → LongFor kind l
+long-either Names l h = record {
+  name = h .name;
+  work = record { text = h .work .text; store = h .work .store; ends = omega (arith, h .work .ends) };
+  numbers = record { words = omega arith; tables = omega arith; chains = omega arith };
+}
+long-either Symbols l h = h
 
 some-line : (ss : List Text) → 1 ≤ bytes-taken ss → 1 ≤ length ss
 unfolding bytes-taken

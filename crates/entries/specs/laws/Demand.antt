@@ -50,7 +50,7 @@ Always-named s x = (before after : Slices) (r : Answer) → work-fits (lent befo
 -- the same of the entry for normal symbols
 abbrev pub Always-normalized : Text → Text → Type 0
 Always-normalized s x =
-    (before after : Slices) (r : Answer) → normal-work-fits (lent before) ≡ true → length x ≤ length (before .out) → Normalizes s before after r → Wrote x after r
+    (before after : Slices) (r : Answer) → normal-work-fits most-symbol-bytes (lent before) ≡ true → length x ≤ length (before .out) → Normalizes s before after r → Wrote x after r
 
 -- ---- what they tell of the definitions
 

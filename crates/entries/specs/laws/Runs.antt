@@ -118,7 +118,7 @@ pub record Has-normal (s v : Text) : Type 0 where
   pub is : normal-in (classify s) ≡ some v
   pub short : length v ≤ most-symbol-bytes
 
-told-is : (o : Option Text) → number-of (normal-told o) ≡ 0 → (v : Text) × ((normal-told o ≡ named v) × ((o ≡ some v) × (length v ≤ most-symbol-bytes)))
+told-is : (o : Option Text) → number-of (normal-told most-symbol-bytes o) ≡ 0 → (v : Text) × ((normal-told most-symbol-bytes o ≡ named v) × ((o ≡ some v) × (length v ≤ most-symbol-bytes)))
 unfolding number-of normal-told if_then_else_
 told-is none e = absurd (omega arith)
 told-is (some v) e = go (leb (length v) most-symbol-bytes) refl e
@@ -128,33 +128,33 @@ told-is (some v) e = go (leb (length v) most-symbol-bytes) refl e
     go true f e = (v, (refl, (refl, leb-true (length v) most-symbol-bytes f)))
     go false f e = absurd (omega arith)
 
-has-normal : (s : Text) (a : Answer) → demangle most-symbol-bytes s ≡ a → number-of (normal-after s a) ≡ 0
-    → (v : Text) × ((normal-after s a ≡ named v) × Has-normal s v)
+has-normal : (s : Text) (a : Answer) → demangle most-symbol-bytes s ≡ a → number-of (normal-after most-symbol-bytes s a) ≡ 0
+    → (v : Text) × ((normal-after most-symbol-bytes s a ≡ named v) × Has-normal s v)
 unfolding number-of normal-after
 has-normal s (named x) e z = let (v, (i, (j, k))) = told-is (normal-in (classify s)) z in (v, (i, record { name = x; accepted = e; is = j; short = k }))
 has-normal s (refusal r) e z = absurd (never-0 most-symbol-bytes s (e ∙ ap refusal z))
 
-normal-named : (s v : Text) → Has-normal s v → normal-symbol s ≡ named v
+normal-named : (s v : Text) → Has-normal s v → normal-symbol most-symbol-bytes s ≡ named v
 unfolding normal-symbol normal-after normal-told if_then_else_
-normal-named s v h = ap (normal-after s) (h .accepted) ∙ ap normal-told (h .is) ∙ rw (le-leb (length v) most-symbol-bytes (h .short))
+normal-named s v h = ap (normal-after most-symbol-bytes s) (h .accepted) ∙ ap (normal-told most-symbol-bytes) (h .is) ∙ rw (le-leb (length v) most-symbol-bytes (h .short))
 
 module _ (s : Text) (l l' : Slices) (r : Code) (h : Normalizes s l l' r) where
   abbrev wanted : Answer
-  wanted = normal-answer (lent l) s
+  wanted = normal-answer most-symbol-bytes (lent l) s
 
   normal-leaves : Leaves wanted l l' r
   unfolding normalized
   normal-leaves = h
 
   abbrev behind-front : Text → Answer
-  behind-front u = normal-after s (mangled-name u)
+  behind-front u = normal-after most-symbol-bytes s (mangled-name u)
 
   wanted-normal : number-in r ≡ 0 → (v : Text) × ((wanted ≡ named v) × Has-normal s v)
   unfolding normal-answer normal-symbol
   wanted-normal z =
       let k : number-of wanted ≡ 0 = sym (number-left wanted l l' r normal-leaves) ∙ z in
-      let e : wanted ≡ normal-symbol s =
-      cut-front (front most-symbol-bytes s) behind-front (normal-work-fits (lent l)) (length (l .out)) (fronted s) k ∙ normal-behind s in
+      let e : wanted ≡ normal-symbol most-symbol-bytes s =
+      cut-front (front most-symbol-bytes s) behind-front (normal-work-fits most-symbol-bytes (lent l)) (length (l .out)) (fronted s) k ∙ normal-behind s in
       let (v, (i, j)) = has-normal s (demangle most-symbol-bytes s) refl (ap number-of (sym e) ∙ k) in
       (v, (e ∙ i, j))
 
@@ -165,10 +165,10 @@ module _ (s : Text) (l l' : Slices) (r : Code) (h : Normalizes s l l' r) where
   pub normal-written : number-in r ≡ 0 → Has-normal s (take (bytes-in r) (l' .out))
   normal-written z = let (v, (e, j)) = wanted-normal z in rw (text-left wanted l l' r normal-leaves v e) j
 
-  pub writes-normal : (v : Text) → Has-normal s v → normal-work-fits (lent l) ≡ true → length v ≤ length (l .out)
+  pub writes-normal : (v : Text) → Has-normal s v → normal-work-fits most-symbol-bytes (lent l) ≡ true → length v ≤ length (l .out)
       → (number-in r ≡ 0) × (take (bytes-in r) (l' .out) ≡ v)
   unfolding normal-answer number-of
   writes-normal v e f g =
       let i : wanted ≡ named v =
-      named-front (front most-symbol-bytes s) behind-front (normal-work-fits (lent l)) (length (l .out)) (fronted s) v (normal-behind s ∙ normal-named s v e) f g in
+      named-front (front most-symbol-bytes s) behind-front (normal-work-fits most-symbol-bytes (lent l)) (length (l .out)) (fronted s) v (normal-behind s ∙ normal-named s v e) f g in
       (number-left wanted l l' r normal-leaves ∙ ap number-of i, text-left wanted l l' r normal-leaves v i)

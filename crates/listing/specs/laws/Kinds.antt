@@ -13,8 +13,8 @@ use Rattle.grammar.specs.Names.{Answer, named, refusal, mangled-name, front, de
 use Rattle.catalogue.specs.Recogniser.{classify}
 use Rattle.catalogue.specs.Answer.{normal-in, normal-told, normal-after, normal-symbol, normal-work-fits, normal-answer}
 use Rattle.demangle.specs.laws.Lengths.{short-answer, within-is, answer-is}
-use Rattle.answer.specs.Told.{Slices, lent, bytes-in, Tells}
-use Rattle.answer.specs.laws.Told.{tells-bytes, tells-as, long-fit}
+use Rattle.answer.specs.Told.{Slices, slices, lent, bytes-in, Tells}
+use Rattle.answer.specs.laws.Told.{tells-bytes, tells-as, long-fit, long-numbers-fit}
 use Rattle.answer.specs.declared.Answer.{Answer as Code}
 use Rattle.normalize.specs.laws.Fronts.{normal-behind}
 use Rattle.listing.specs.Listing.{answer-of}
@@ -24,7 +24,7 @@ use Rattle.listing.specs.Kinds.{LongFor}
 
 -- ---------------------------------------------------------------- a normal symbol
 
-told-short : (w : Option Text) → length-of (normal-told w) ≤ most-symbol-bytes
+told-short : (w : Option Text) → length-of (normal-told most-symbol-bytes w) ≤ most-symbol-bytes
 unfolding normal-told length-of if_then_else_
 told-short none = omega arith
 told-short (some t) = go (leb (length t) most-symbol-bytes) refl where
@@ -32,17 +32,17 @@ told-short (some t) = go (leb (length t) most-symbol-bytes) refl where
   go true e = leb-true (length t) most-symbol-bytes e
   go false e = omega arith
 
-after-short : (s : Text) (a : Answer) → length-of (normal-after s a) ≤ most-symbol-bytes
+after-short : (s : Text) (a : Answer) → length-of (normal-after most-symbol-bytes s a) ≤ most-symbol-bytes
 unfolding normal-after length-of
 after-short s (named x) = told-short (normal-in (classify s))
 after-short s (refusal r) = omega arith
 
-normal-is : (l : Slices) (s : Text) → most-text-bytes ≤ length (l .out) → normal-work-fits (lent l) ≡ true → normal-answer (lent l) s ≡ normal-symbol s
+normal-is : (l : Slices) (s : Text) → most-text-bytes ≤ length (l .out) → normal-work-fits most-symbol-bytes (lent l) ≡ true → normal-answer most-symbol-bytes (lent l) s ≡ normal-symbol most-symbol-bytes s
 unfolding normal-answer normal-symbol demangle if_then_else_
 normal-is l s h k = ap (front most-symbol-bytes s) (λ i u. step u i) ∙ normal-behind s where
-  step : (u : Text) → (if normal-work-fits (lent l) then within (length (l .out)) (normal-after s (mangled-name u)) else refusal 14) ≡ normal-after s (mangled-name u)
+  step : (u : Text) → (if normal-work-fits most-symbol-bytes (lent l) then within (length (l .out)) (normal-after most-symbol-bytes s (mangled-name u)) else refusal 14) ≡ normal-after most-symbol-bytes s (mangled-name u)
   step u =
-      let a = normal-after s (mangled-name u) in
+      let a = normal-after most-symbol-bytes s (mangled-name u) in
       ap (λ (q : Bool). if q then within (length (l .out)) a else refusal 14) k
       ∙ within-is (length (l .out)) a (omega (arith, after-short s (mangled-name u)))
 
@@ -63,18 +63,21 @@ too-long-for-name s h = rw (lt-ltb most-symbol-bytes (length s) h)
 pub too-long : (kind : Kind) (s : Text) → most-symbol-bytes < length s → answer-of kind s ≡ refusal 1
 unfolding answer-of normal-symbol normal-after
 too-long Names s h = too-long-for-name s h
-too-long Symbols s h = ap (normal-after s) (too-long-for-name s h)
+too-long Symbols s h = ap (normal-after most-symbol-bytes s) (too-long-for-name s h)
 
 -- either entry tells the answer
 module _ {kind : Kind} {l : Slices} {out : Text} {r : Code} (s : Text) (h : LongFor kind l) where
-  pub name-told : kind ≡ Names → Tells (answer most-symbol-bytes (lent l) s) (l .out) out r → Tells (answer-of kind s) (l .out) out r
+  -- the entry for names is lent no more than these
+  pub name-told : kind ≡ Names → Tells (answer most-symbol-bytes (lent (slices (l .out) (l .text) (l .store) (l .ends))) s) (l .out) out r → Tells (answer-of kind s) (l .out) out r
   unfolding answer-of work-fits
   name-told e d =
       let i : LongFor Names l = subst (λ (k : Kind). LongFor k l) e h in
-      tells-as (answer-is l s (i .name) (long-fit (i .work)) ∙ ap (λ (k : Kind). answer-of k s) (sym e)) d
+      let w : Slices = slices (l .out) (l .text) (l .store) (l .ends) in
+      let f = long-fit {l = w} (record { text = i .work .text; store = i .work .store; ends = i .work .ends }) in
+      tells-as (answer-is w s (i .name) f ∙ ap (λ (k : Kind). answer-of k s) (sym e)) d
 
-  pub symbol-told : kind ≡ Symbols → Tells (normal-answer (lent l) s) (l .out) out r → Tells (answer-of kind s) (l .out) out r
+  pub symbol-told : kind ≡ Symbols → Tells (normal-answer most-symbol-bytes (lent l) s) (l .out) out r → Tells (answer-of kind s) (l .out) out r
   unfolding answer-of normal-work-fits
   symbol-told e d =
       let i : LongFor Symbols l = subst (λ (k : Kind). LongFor k l) e h in
-      tells-as (normal-is l s (i .name) (long-fit (i .work)) ∙ ap (λ (k : Kind). answer-of k s) (sym e)) d
+      tells-as (normal-is l s (i .name) (rw (long-fit (i .work), long-numbers-fit (i .numbers))) ∙ ap (λ (k : Kind). answer-of k s) (sym e)) d

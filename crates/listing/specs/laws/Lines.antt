@@ -14,7 +14,8 @@ use Rattle.listing.specs.Listing.{line, line-for, listing-line, in-front
 use Rattle.listing.specs.Printed.{Printed}
 use Rattle.listing.specs.laws.Printed.{prints, prints-not}
 use Rattle.listing.specs.declared.listing.Kind.{Kind}
-use Rattle.listing.specs.Lines.{Goes, GoesOn, full-number, before-feed, feed-from, Gone}
+use Rattle.listing.specs.declared.listing.Listed.{Listed}
+use Rattle.listing.specs.Lines.{Goes, GoesOn, full-number, full-at, before-feed, feed-from, Gone}
 
 module _ (s : Text) where
   -- none of the next n bytes is a line feed
@@ -162,14 +163,14 @@ module _ {kind : Kind} {input out out' : Text} {at end : ℕ} (g : Gone kind inp
     p-is = subst (λ (t : Text). Printed (listing-line kind t) end out' out'' n) s-is p
 
     -- the next line does not fit
-    pub gone-full : n ≡ 0 → {number : ℕ} → number ≡ full-number at → GoesOn kind input out out'' (record { number = number; taken = at; written = end })
-    gone-full z {number} i =
+    pub gone-full : n ≡ 0 → {r : Listed} → r ≡ full-at at end → GoesOn kind input out out'' r
+    gone-full z i =
         let k = prints-not (listing-line kind s) end out' p-is (some-bytes kind s) z in
         let f : out' ≡ out'' = paste-zero out' end (listing-line kind s) ∙ ap (paste out' end (listing-line kind s)) (sym z) ∙ sym (p-is .is) in
         let rest = lines (drop (feed + 1) input) in
         let h = ap (fitting kind (length out - end)) next ∙ fits-none kind (length out - end) s rest (omega (arith, k, g .size)) in
-        subst (λ (t : Text). GoesOn kind input out t (record { number = number; taken = at; written = end })) f
-        (gone-all h (i ∙ ap full-number (g .taken) ∙ number-full s rest (g .done) (lines input) (fitting kind (length out) (lines input)) (all-done h) (λ y. all-left y ∙ next)))
+        let number = ap full-number (g .taken) ∙ number-full s rest (g .done) (lines input) (fitting kind (length out) (lines input)) (all-done h) (λ y. all-left y ∙ next) in
+        subst (GoesOn kind input out out'') (sym i) (subst (λ (t : Text). GoesOn kind input out t (full-at at end)) f (gone-all h number))
 
     pub gone-more : (n ≡ 0 → ⊥) → Gone kind input out out'' (feed + 1) (end + n)
     gone-more z =

@@ -28,11 +28,11 @@ pub fronted : (s : Text) → Alike (front most-symbol-bytes s)
 unfolding front
 fronted s = by-tests (ltb most-symbol-bytes (length s)) (high s) _
 
-after-front : (s : Text) (F : (Text → Answer) → Answer) → Alike F → F (λ u. normal-after s (mangled-name u)) ≡ normal-after s (F mangled-name)
+after-front : (s : Text) (F : (Text → Answer) → Answer) → Alike F → F (λ u. normal-after most-symbol-bytes s (mangled-name u)) ≡ normal-after most-symbol-bytes s (F mangled-name)
 unfolding normal-after
-after-front s F (refuses r h) = h _ ∙ ap (normal-after s) (sym (h mangled-name))
-after-front s F (behind u h) = h _ ∙ ap (normal-after s) (sym (h mangled-name))
+after-front s F (refuses r h) = h _ ∙ ap (normal-after most-symbol-bytes s) (sym (h mangled-name))
+after-front s F (behind u h) = h _ ∙ ap (normal-after most-symbol-bytes s) (sym (h mangled-name))
 
-pub normal-behind : (s : Text) → front most-symbol-bytes s (λ u. normal-after s (mangled-name u)) ≡ normal-symbol s
+pub normal-behind : (s : Text) → front most-symbol-bytes s (λ u. normal-after most-symbol-bytes s (mangled-name u)) ≡ normal-symbol most-symbol-bytes s
 unfolding normal-symbol demangle
 normal-behind s = after-front s (front most-symbol-bytes s) (fronted s)

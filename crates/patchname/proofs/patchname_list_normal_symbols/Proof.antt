@@ -5,7 +5,7 @@ use Rattle.patchname.proofs.patchname_list_normal_symbols.Statement.{st
 use Rattle.patchname.proofs.patchname_list_normal_symbols.Tie as tie
 
 returns : tie.Need-returns
-returns c = let l = c .before .before .before .before .before .before .before .before .before .before .before .before .before .list-lines in told-listing (l .result) (c .tell-listing .ensures) (l .ensures)
+returns c = let l = c .before .before .before .before .before .before .before .before .before .before .before .before .before .before .before .before .before .before .before .list-lines in told-listing (l .result) (c .tell-listing .ensures) (l .ensures)
 
 pub patchname-list-normal-symbols-spec : {M : Type 1} → statement M
 patchname-list-normal-symbols-spec =
@@ -13,6 +13,9 @@ patchname-list-normal-symbols-spec =
     (tie.spec
     (λ c κs. search needs)
     (λ c κs. search needs)
+    (λ c. search needs)
+    (λ c. search needs)
+    (λ c. search needs)
     (λ c. search needs)
     (λ c. search needs)
     (λ c. search needs)

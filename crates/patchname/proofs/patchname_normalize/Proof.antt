@@ -5,7 +5,7 @@ use Rattle.patchname.proofs.patchname_normalize.Statement.{statement}
 use Rattle.patchname.proofs.patchname_normalize.Tie as tie
 
 returns : tie.Need-returns
-returns c = told (c .before .before .before .before .before .before .before .before .before .before .normalize .result) (c .tell .ensures) (c .before .before .before .before .before .before .before .before .before .before .normalize .ensures)
+returns c = told (c .before .before .before .before .before .before .before .before .before .before .before .before .before .before .before .before .normalize .result) (c .tell .ensures) (c .before .before .before .before .before .before .before .before .before .before .before .before .before .before .before .before .normalize .ensures)
 
 pub patchname-normalize-spec : {M : Type 1} → statement M
 patchname-normalize-spec =
@@ -13,6 +13,9 @@ patchname-normalize-spec =
     (tie.spec
     (λ c κs. search needs)
     (λ c κs. search needs)
+    (λ c. search needs)
+    (λ c. search needs)
+    (λ c. search needs)
     (λ c. search needs)
     (λ c. search needs)
     (λ c. search needs)

@@ -10,8 +10,8 @@ use Rattle.console.proofs.turns.turn.Tie as tie
 
 returns : tie.Need-returns
 returns c =
-    let w = c .before .before .before .before .before .before .before .before .before .before .write-some .ensures in
-    let l = c .before .before .before .before .before .before .before .before .before .before .before .before .before .before .before .before .before .if1 .taken in
+    let w = c .before .before .before .before .before .before .before .before .before .before .before .before .before .before .before .before .write-some .ensures in
+    let l = c .before .before .before .before .before .before .before .before .before .before .before .before .before .before .before .before .before .before .before .before .before .before .before .before .before .before .if1 .taken in
     record { fed = w .fed _; writes = λ _. w; reads = λ e _. absurd (omega (arith, e, l)); stops = λ e _. absurd (omega (arith, e, l)) }
 
 returns-2 : tie.Need-returns-2
@@ -36,6 +36,9 @@ turn-spec =
     tie.close
     (tie.spec
     (λ c κs. search needs)
+    (λ c. search needs)
+    (λ c. search needs)
+    (λ c. search needs)
     (λ c. search needs)
     (λ c. search needs)
     (λ c. search needs)

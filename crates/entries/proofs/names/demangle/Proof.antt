@@ -1,7 +1,6 @@
 -- `entries::names::demangle` meets its contract: what was told, and work slices that were cleared. Assumes nothing.
 use native.Mathlib.Omega.{arith}
 use borrow.Author.Needs.{needs}
-use Rattle.answer.specs.Told.{slices}
 use Rattle.entries.specs.laws.Outcome.{told-demangles}
 use Rattle.entries.proofs.names.demangle.Statement.{statement}
 use Rattle.entries.proofs.names.demangle.Tie as tie
@@ -10,7 +9,7 @@ returns : tie.Need-returns
 returns c =
     let a = c .before .before .before .before .before .before .before .before .before .before .before .before .before .before .before .before .before .before .before .before .before .before .before .before .before .before .before .before .args in
     let d = c .before .before .before .before .before .before .before .before .before .before .before .before .before .before .before .before .before .before .demangle-uncleared in
-    told-demangles (a .s .now) (slices (a .out .now) (a .text .now) (a .store .now) (a .ends .now)) (c .before .before .before .before .before .before .clear .ensures)
+    told-demangles (a .s .now) (a .out .now) (a .text .now) (a .store .now) (a .ends .now) (c .before .before .before .before .before .before .clear .ensures)
     (omega (arith, d .kept)) (omega (arith, d .kept)) (omega (arith, d .kept)) (d .ensures)
 
 pub demangle-spec : {M : Type 1} → statement M

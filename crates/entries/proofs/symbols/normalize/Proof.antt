@@ -1,17 +1,17 @@
 -- `entries::symbols::normalize` meets its contract: what was told, and work slices that were cleared. Assumes nothing.
 use native.Mathlib.Omega.{arith}
 use borrow.Author.Needs.{needs}
-use Rattle.answer.specs.Told.{slices}
+use Rattle.answer.specs.Told.{normal-slices}
 use Rattle.entries.specs.laws.Outcome.{told-normalizes}
 use Rattle.entries.proofs.symbols.normalize.Statement.{statement}
 use Rattle.entries.proofs.symbols.normalize.Tie as tie
 
 returns : tie.Need-returns
 returns c =
-    let a = c .before .before .before .before .before .before .before .before .before .before .before .before .before .before .before .before .before .before .before .before .before .before .before .before .before .before .before .before .args in
-    let d = c .before .before .before .before .before .before .before .before .before .before .before .before .before .before .before .before .before .before .normalize-uncleared in
-    told-normalizes (a .s .now) (slices (a .out .now) (a .text .now) (a .store .now) (a .ends .now)) (c .before .before .before .before .before .before .clear .ensures)
-    (omega (arith, d .kept)) (omega (arith, d .kept)) (omega (arith, d .kept)) (d .ensures)
+    let a = c .before .before .before .before .before .before .before .before .before .before .before .before .before .before .before .before .before .before .before .before .before .before .before .before .before .before .before .before .before .before .before .before .before .before .before .before .before .before .before .before .before .before .before .before .before .before .before .before .before .before .args in
+    let d = c .before .before .before .before .before .before .before .before .before .before .before .before .before .before .before .before .before .before .before .before .before .before .before .before .before .before .before .before .before .before .before .before .before .before .normalize-uncleared in
+    told-normalizes (a .s .now) (normal-slices (a .out .now) (a .text .now) (a .store .now) (a .ends .now) (a .words .now) (a .tables .now) (a .chains .now)) (c .before .before .before .before .before .before .before .before .before .before .before .before .before .before .before .before .clear .ensures)
+    (omega (arith, d .kept)) (omega (arith, d .kept)) (omega (arith, d .kept)) (c .before .before .before .before .before .before .clear-numbers .ensures) (omega (arith, d .kept)) (omega (arith, d .kept)) (omega (arith, d .kept)) (d .ensures)
 
 pub normalize-spec : {M : Type 1} → statement M
 normalize-spec =
@@ -19,6 +19,10 @@ normalize-spec =
     (tie.spec
     (λ c κs. search needs)
     (λ c κs. search needs)
+    (λ c κs. search needs)
+    (λ c. search needs)
+    (λ c. search needs)
+    (λ c. search needs)
     (λ c. search needs)
     (λ c. search needs)
     (λ c. search needs)

@@ -13,4 +13,8 @@ unfolding if_then_else_
 returns-2 c = rw (ne-eqb (c .before .args .taken) 0 (c .if1 .left))
 
 pub full-spec : {M : Type 1} → statement M
-full-spec = tie.close (tie.spec returns returns-2)
+full-spec =
+    tie.close
+    (tie.spec
+    returns
+    returns-2)

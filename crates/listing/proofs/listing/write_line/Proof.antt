@@ -12,26 +12,27 @@ use Rattle.listing.proofs.listing.write_line.Statement.{statement}
 use Rattle.listing.proofs.listing.write_line.Tie as tie
 
 slice-reshare-prefix-print-line : tie.Need-slice-reshare-prefix-print-line
-slice-reshare-prefix-print-line c = omega (arith, short-told _ _ (c .before .before .before .before .before .before .before .before .before .before .before .answer .ensures))
+slice-reshare-prefix-print-line c = omega (arith, short-told _ _ (c .before .before .before .before .before .before .before .before .before .before .before .before .before .before .before .before .before .answer .ensures))
 
 slice-aggregate-print-line : tie.Need-slice-aggregate-print-line
-slice-aggregate-print-line c = sym (length-take-le _ _ (omega (arith, short-told _ _ (c .before .before .before .before .before .before .before .before .before .before .before .before .answer .ensures))))
+slice-aggregate-print-line c = sym (length-take-le _ _ (omega (arith, short-told _ _ (c .before .before .before .before .before .before .before .before .before .before .before .before .before .before .before .before .before .before .answer .ensures))))
 
 print-line-requires : tie.Need-print-line-requires
 print-line-requires c κs =
-    let a = c .before .before .before .before .before .before .before .before .before .before .before .before .answer in
+    let a = c .before .before .before .before .before .before .before .before .before .before .before .before .before .before .before .before .before .before .answer in
     let e = short-told _ _ (a .ensures) in
-    let k = length-take-le (c .before .before .bytes .result) (a .last .1 .1 .0) (omega (arith, e)) in
-    search needs
+    let b = c .before .before .bytes .ensures in
+    let k = length-take-le (c .before .before .bytes .result) (a .last .1 .1 .0) (omega (arith, e, b, a .kept .1 .1 .0, c .before .before .before .before .before .before .before .before .before .before .before .before .before .before .before .before .before .before .before .before .before .before .before .before .before .before .before .before .before .before .before .before .before .before .before .pre .1 .name)) in
+    (omega (arith, c .before .before .before .before .before .before .before .before .before .before .before .before .before .before .before .before .before .before .before .before .before .before .before .before .before .before .before .before .before .before .before .before .before .before .before .pre .0), (search needs, omega (arith, k, e, b)))
 
 returns : tie.Need-returns
 unfolding listing-line
 returns c =
-    let a = c .before .before .before .before .before .before .before .before .before .before .before .before .before .before .before .before .before .before .before .before .before .before .before .before .before .before .args in
+    let a = c .before .before .before .before .before .before .before .before .before .before .before .before .before .before .before .before .before .before .before .before .before .before .before .before .before .before .before .before .before .before .before .before .before .before .before .before .before .before .args in
     let n = c .before .before .before .before .before .before .number in
     let b = c .before .before .before .before .before .bytes in
     let p = c .before .before .print-line in
-    subst (λ (t : Text). Printed t (a .at) (a .out .now) (p .last .0) (p .result)) (line-is (n .result) (b .result) (c .before .before .before .before .before .before .before .before .before .before .before .before .before .before .before .answer .ensures) (n .ensures) (b .ensures)) (p .ensures)
+    subst (λ (t : Text). Printed t (a .at) (a .out .now) (p .last .0) (p .result)) (line-is (n .result) (b .result) (c .before .before .before .before .before .before .before .before .before .before .before .before .before .before .before .before .before .before .before .before .before .answer .ensures) (n .ensures) (b .ensures)) (p .ensures)
 
 pub write-line-spec : {M : Type 1} → statement M
 write-line-spec =
@@ -44,6 +45,9 @@ write-line-spec =
     slice-reshare-prefix-print-line
     slice-aggregate-print-line
     print-line-requires
+    (λ c. search needs)
+    (λ c. search needs)
+    (λ c. search needs)
     (λ c. search needs)
     (λ c. search needs)
     (λ c. search needs)

@@ -2,24 +2,36 @@
 use mathlib.Core.Path.{sym}
 use lib.Seq.{length-take-le}
 use borrow.Author.Needs.{needs}
-use Rattle.catalogue.specs.Answer.{least-normal-ends}
+use Rattle.catalogue.specs.Answer.{least-numbers}
 use Rattle.normal_steps.specs.Limits.{out-length}
 use Rattle.normalize.proofs.reading.write_within.Statement.{statement}
 use Rattle.normalize.proofs.reading.write_within.Tie as tie
 
 slice-aggregate-write : tie.Need-slice-aggregate-write
-slice-aggregate-write c = let a = c .before .before .before .before .before .before in sym (length-take-le out-length (a .args .store .now) (a .pre .1 .0))
+slice-aggregate-write c = let a = c .before .before .before .before .before .before .before .before .before in sym (length-take-le out-length (a .args .store .now) (a .pre .0 .1 .0))
 
 slice-aggregate-write-2 : tie.Need-slice-aggregate-write-2
-slice-aggregate-write-2 c = let a = c .before .before .before .before .before .before .before in sym (length-take-le least-normal-ends (a .args .ends .now) (a .pre .1 .1))
+slice-aggregate-write-2 c = let a = c .before .before .before .before .before .before .before .before .before .before in sym (length-take-le least-numbers (a .args .ends .now) (a .pre .0 .1 .1))
+
+slice-aggregate-write-3 : tie.Need-slice-aggregate-write-3
+slice-aggregate-write-3 c = let a = c .before .before .before .before .before .before .before .before .before .before .before in sym (length-take-le least-numbers (a .args .words .now) (a .pre .1 .words))
+
+slice-aggregate-write-4 : tie.Need-slice-aggregate-write-4
+slice-aggregate-write-4 c = let a = c .before .before .before .before .before .before .before .before .before .before .before .before in sym (length-take-le least-numbers (a .args .tables .now) (a .pre .1 .tables))
+
+slice-aggregate-write-5 : tie.Need-slice-aggregate-write-5
+slice-aggregate-write-5 c = let a = c .before .before .before .before .before .before .before .before .before .before .before .before .before in sym (length-take-le least-numbers (a .args .chains .now) (a .pre .1 .chains))
 
 write-requires : tie.Need-write-requires
 write-requires c κs =
-    let a = c .before .before .before .before .before .before .before in
-    (a .pre .0, (length-take-le out-length (a .args .store .now) (a .pre .1 .0), length-take-le least-normal-ends (a .args .ends .now) (a .pre .1 .1)))
+    let a = c .before .before .before .before .before .before .before .before .before .before .before .before .before in
+    let n = a .pre .1 in (
+      (a .pre .0 .0, (length-take-le out-length (a .args .store .now) (a .pre .0 .1 .0), length-take-le least-numbers (a .args .ends .now) (a .pre .0 .1 .1))),
+      (length-take-le least-numbers (a .args .words .now) (n .words), (length-take-le least-numbers (a .args .tables .now) (n .tables), length-take-le least-numbers (a .args .chains .now) (n .chains))),
+    )
 
 returns : tie.Need-returns
-returns c = c .before .before .before .before .before .before .write .ensures
+returns c = c .before .before .before .before .before .before .before .before .before .before .before .before .write .ensures
 
 pub write-within-spec : {M : Type 1} → statement M
 write-within-spec =
@@ -29,7 +41,16 @@ write-within-spec =
     slice-aggregate-write
     (λ c. search needs)
     slice-aggregate-write-2
+    (λ c. search needs)
+    slice-aggregate-write-3
+    (λ c. search needs)
+    slice-aggregate-write-4
+    (λ c. search needs)
+    slice-aggregate-write-5
     write-requires
+    (λ c. search needs)
+    (λ c. search needs)
+    (λ c. search needs)
     (λ c. search needs)
     (λ c. search needs)
     (λ c. search needs)
