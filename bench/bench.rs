@@ -33,20 +33,26 @@ struct Lent {
     out: Vec<u8>,
     text: Vec<u8>,
     store: Vec<u8>,
-    ends: Vec<u16>,
+    numbers: Vec<Vec<u16>>,
 }
 
 impl Lent {
     fn new(what: &str) -> Lent {
         let entry = entry(what).expect("a function of the library");
-        let [text, store, ends] = entry.least;
-        Lent { entry, out: vec![0; entry.longest], text: vec![0; text], store: vec![0; store], ends: vec![0; ends] }
+        let [text, store] = [0, 1].map(|i| vec![0; entry.least[i]]);
+        let numbers = entry.least[2..].iter().map(|length| vec![0; *length]).collect();
+        Lent { entry, out: vec![0; entry.longest], text, store, numbers }
+    }
+
+    /// How many bytes of work slices a call clears.
+    fn cleared(&self) -> usize {
+        self.text.len() + self.store.len() + self.numbers.iter().map(|slice| 2 * slice.len()).sum::<usize>()
     }
 
     /// The number, and the length of what is written.
     fn call(&mut self, symbol: &[u8]) -> (u8, usize) {
         let mut bytes = 0;
-        let number = self.entry.call(symbol, &mut self.out, &mut self.text, &mut self.store, &mut self.ends, &mut bytes);
+        let number = self.entry.call(symbol, &mut self.out, &mut self.text, &mut self.store, &mut self.numbers, &mut bytes);
         (number, bytes)
     }
 
@@ -92,11 +98,11 @@ impl Lines {
 
     /// How many bytes the listing of the lines has; each part of it is shown.
     fn list(&mut self, mut show: impl FnMut(&[u8])) -> usize {
-        let Lent { entry, out, text, store, ends } = &mut self.lent;
+        let Lent { entry, out, text, store, numbers } = &mut self.lent;
         let (mut from, mut sum) = (0, 0);
         while from < self.lines.len() {
             let (mut taken, mut written) = (0, 0);
-            let number = entry.list(&self.lines[from..], &mut self.listing, out, text, store, ends, &mut taken, &mut written);
+            let number = entry.list(&self.lines[from..], &mut self.listing, out, text, store, numbers, &mut taken, &mut written);
             assert_eq!(number, 0);
             from += taken;
             show(&self.listing[..written]);
@@ -329,20 +335,23 @@ fn unstruck(file: &str) {
     std::io::stdout().write_all(&kept.collect::<Vec<u8>>()).unwrap();
 }
 
-/// Calls that are refused before anything is read, with a `text` of its least length, of the one it had once, of a smaller one and with none.
-fn clearing() {
-    for length in [65536, 51200, 34816, 0] {
-        let mut lent = Lent::new("names");
-        lent.text = vec![0; length];
-        let mut least = i64::MAX;
-        for _ in 0..60 {
-            let before = nanoseconds();
-            for _ in 0..2000 {
-                std::hint::black_box(lent.call(b""));
-            }
-            least = least.min(nanoseconds() - before);
+/// Nanoseconds of a call that is refused before anything is read, the least of 60 rounds: what clearing costs.
+fn cost_of_clearing(lent: &mut Lent) -> i64 {
+    let round = |lent: &mut Lent| {
+        let before = nanoseconds();
+        for _ in 0..2000 {
+            std::hint::black_box(lent.call(b""));
         }
-        println!("{:7} bytes: {:5} ns, the least of 60 rounds", length + lent.store.len() + 2 * lent.ends.len(), least / 2000);
+        nanoseconds() - before
+    };
+    (0..60).map(|_| round(lent)).min().unwrap() / 2000
+}
+
+/// Names with a `text` of the length it had once, of its least one, of a smaller one and with none; then normal symbols.
+fn clearing() {
+    let names = [65536, 51200, 34816, 0].map(|length| Lent { text: vec![0; length], ..Lent::new("names") });
+    for mut lent in names.into_iter().chain([Lent::new("normals")]) {
+        println!("{:8}{:7} bytes: {:5} ns, the least of 60 rounds", lent.entry.what, lent.cleared(), cost_of_clearing(&mut lent));
     }
 }
 

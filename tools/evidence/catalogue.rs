@@ -524,7 +524,8 @@ impl Writer<'_> {
 
 // ---------------------------------------------------------------- the answer for normal symbols
 
-pub const MOST_NORMAL: usize = 4096;
+/// A longer normal symbol is refused with 13.
+pub const MOST_NORMAL: usize = 16384;
 pub const NOT_CATALOGUE: u8 = 6;
 pub const TOO_LONG: u8 = 13;
 
@@ -1225,7 +1226,7 @@ pub fn long_texts(texts: std::ops::RangeInclusive<usize>, arguments: std::ops::R
 /// A lone function name so long that `fixed` bytes and the name are `total`. Lengths that no name makes are passed over.
 fn function_name_for(total: usize, fixed: usize) -> Option<String> {
     let room = total.checked_sub(fixed)?;
-    let name = (1..=4).filter_map(|digits| room.checked_sub(digits)).find(|n| *n > 0 && n.to_string().len() + n == room)?;
+    let name = (1..=5).filter_map(|digits| room.checked_sub(digits)).find(|n| *n > 0 && n.to_string().len() + n == room)?;
     Some(source(&times("f", name)))
 }
 
@@ -1234,16 +1235,15 @@ pub fn of_length(made: &Encoding, rng: &mut Rng, total: usize) -> Vec<String> {
     let mut encoding = made.clone();
     encoding.name = vec![Step::Name("f".into())];
     encoding.constant = false;
-    let normal = normal(&encoding, Mistake::No);
-    let mut out = vec![];
-    for of_thousand in [0, 500, 1000] {
-        let spelling = spelled(&encoding, rng, of_thousand).0;
-        let rest = spelling.strip_prefix("_Z1f").unwrap();
-        for fixed in [normal.len() - 2, spelling.len() - 2] {
-            out.extend(function_name_for(total, fixed).map(|name| format!("_Z{name}{rest}")));
-        }
-    }
-    out
+    [0, 500, 1000].into_iter().flat_map(|of_thousand| of_length_by(&encoding, rng, total, of_thousand)).collect()
+}
+
+/// The same of a tree named f, with references by chance.
+fn of_length_by(named_f: &Encoding, rng: &mut Rng, total: usize, of_thousand: usize) -> Vec<String> {
+    let spelling = spelled(named_f, rng, of_thousand).0;
+    let rest = spelling.strip_prefix("_Z1f").unwrap();
+    let fixed = [normal(named_f, Mistake::No).len() - 2, spelling.len() - 2];
+    fixed.into_iter().filter_map(|fixed| function_name_for(total, fixed)).map(|name| format!("_Z{name}{rest}")).collect()
 }
 
 /// Trees of many short classes, whose normal symbol is longer than the spelling in full.
@@ -1260,4 +1260,31 @@ pub fn crowd(rng: &mut Rng, size: usize) -> Encoding {
         _ => one(rng),
     });
     Encoding { name: vec![Step::Name("f".into())], constant: false, params: params.collect() }
+}
+
+/// A tree of classes of one letter alone, 53 of them and then so many of those from entry 37 on. A reference to one of these has four bytes and its text
+/// three: of the trees whose normal symbol is about as long as a text may be, only such have a name.
+pub fn long_crowd(rng: &mut Rng, size: usize) -> Encoding {
+    let one = |i: usize| {
+        let letter = [&b"_"[..], &(b'a'..=b'z').collect::<Vec<u8>>(), &(b'A'..=b'Z').collect::<Vec<u8>>()].concat()[i];
+        class(&[Step::Name((letter as char).to_string().into())])
+    };
+    let params = (0..53).chain((0..size).map(|_| 37 + rng.below(16)).collect::<Vec<_>>()).map(one);
+    Encoding { name: vec![Step::Name("f".into())], constant: false, params: params.collect() }
+}
+
+/// Symbols whose normal symbol, or which themselves, have these lengths. In full a class has two bytes fewer than as a reference, and makes an entry:
+/// normal symbols are longer than what they came from, by 1,972 bytes at most.
+pub fn long_lengths(rng: &mut Rng, totals: std::ops::RangeInclusive<usize>) -> Vec<String> {
+    let size = rng.pick(&[60, 100, 500, 900, 970, 1500, 3000, 3900]) + rng.below(60);
+    let tree = long_crowd(rng, size);
+    // as many classes in full as the table takes, half of them, none
+    let in_full = [1000, 970 * 1000 / size.max(970), 485 * 1000 / size.max(970), 0];
+    let mut out = vec![];
+    for total in totals {
+        for of_thousand in in_full {
+            out.extend(of_length_by(&tree, rng, total, 1000 - of_thousand));
+        }
+    }
+    out
 }
