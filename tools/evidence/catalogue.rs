@@ -1273,18 +1273,10 @@ pub fn long_crowd(rng: &mut Rng, size: usize) -> Encoding {
     Encoding { name: vec![Step::Name("f".into())], constant: false, params: params.collect() }
 }
 
-/// Symbols whose normal symbol, or which themselves, have these lengths. In full a class has two bytes fewer than as a reference, and makes an entry:
-/// normal symbols are longer than what they came from, by 1,972 bytes at most.
-pub fn long_lengths(rng: &mut Rng, totals: std::ops::RangeInclusive<usize>) -> Vec<String> {
-    let size = rng.pick(&[60, 100, 500, 900, 970, 1500, 3000, 3900]) + rng.below(60);
+/// Symbols of such a tree whose normal symbol, or which themselves, have these lengths, with about so many of the classes in full. In full a class
+/// has two bytes fewer than its reference, and makes an entry: a normal symbol can be 1,972 bytes longer than what it came from.
+pub fn long_lengths(rng: &mut Rng, size: usize, in_full: usize, totals: std::ops::RangeInclusive<usize>) -> Vec<String> {
     let tree = long_crowd(rng, size);
-    // as many classes in full as the table takes, half of them, none
-    let in_full = [1000, 970 * 1000 / size.max(970), 485 * 1000 / size.max(970), 0];
-    let mut out = vec![];
-    for total in totals {
-        for of_thousand in in_full {
-            out.extend(of_length_by(&tree, rng, total, 1000 - of_thousand));
-        }
-    }
-    out
+    let of_thousand = 1000 - in_full.min(size) * 1000 / size;
+    totals.flat_map(|total| of_length_by(&tree, rng, total, of_thousand)).collect()
 }

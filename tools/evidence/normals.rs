@@ -581,8 +581,15 @@ fn lengths(seed: u64, totals: std::ops::RangeInclusive<usize>, trees: usize) -> 
 /// Symbols and normal symbols of about as many bytes as they may have.
 fn long_lengths(seed: u64, totals: std::ops::RangeInclusive<usize>, trees: usize) -> Vec<String> {
     let mut rng = Rng::new(seed ^ 0x2f);
-    let made = (0..trees).flat_map(|_| catalogue::long_lengths(&mut rng, totals.clone()));
-    made.collect()
+    let mut out = vec![];
+    for _ in 0..trees {
+        let size = rng.pick(&[60, 100, 500, 900, 970, 1500, 3000, 3900]) + rng.below(60);
+        // none, some, as many as the table takes, more
+        for in_full in [0, 450, 930, 970] {
+            out.extend(catalogue::long_lengths(&mut rng, size, in_full, totals.clone()));
+        }
+    }
+    out
 }
 
 fn compare(comparison: &mut Comparison, kinds: &[String], seed: u64, count: usize) {

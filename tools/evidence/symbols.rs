@@ -868,7 +868,7 @@ pub fn opened(rng: &mut Rng, mixed: usize) -> Vec<String> {
     out
 }
 
-/// Symbols of these lengths, at least 4,095, and a byte of 128 or more in the longest that is read, now and under the limit of 4,096 bytes.
+/// Symbols of these lengths, at least 4,095, and a byte of 128 or more at the end of a symbol on both sides of the limit, and of 4,096 bytes.
 pub fn lengths(totals: &[usize]) -> Vec<String> {
     let mut out = vec![];
     let shapes = [
@@ -887,7 +887,7 @@ pub fn lengths(totals: &[usize]) -> Vec<String> {
         out.push(format!("_ZN{}C1Ev", word_of(total - 7)));
         out.push(format!("_Z1f{}", word_of(total - 4)));
     }
-    for total in [4096, 4097, MOST_SYMBOL, MOST_SYMBOL + 1] {
+    for total in totals.iter().filter(|total| [4096, 4097, MOST_SYMBOL, MOST_SYMBOL + 1].contains(*total)) {
         out.push(format!("_Z{}\u{e9}", word_of(total - 4)));
     }
     out
