@@ -1,11 +1,13 @@
 //! One pass over the symbols of a file by each contender in this process. Names are compared before anything is measured.
 //!
-//!     bench list FILE             compares the library with the Rust, and writes the library's listing
-//!     bench time FILE ROUND       one pass of each, the first another one in each round: `contender nanoseconds`
-//!     bench count FILE..          one pass of each over each file, to be counted from outside: `contender file`
-//!     bench clearing              what clearing costs, by the lengths of the work slices
-//!     bench unstruck FILE         the lines of the file but thunks
-//!     bench read FILE CONTENDER   how many symbols of the file it reads, and how many of these get the library's name
+//!     bench list FILE [alone]         compares the library with the Rust, and writes the library's listing
+//!     bench time FILE ROUND [alone]   one pass of each, the first another one in each round: `contender nanoseconds`
+//!     bench count FILE.. [alone FILE..]   one pass of each over each file, to be counted from outside: `contender file`
+//!     bench clearing                  what clearing costs, by the lengths of the work slices
+//!     bench unstruck FILE             the lines of the file but thunks
+//!     bench read FILE CONTENDER       how many symbols of the file it reads, and how many of these get the library's name
+//!
+//! With `alone` no other demangler is asked: symbols for which the Rust takes seconds.
 use std::io::{BufRead, Write};
 
 /// The Rust original, unchanged.
@@ -167,7 +169,14 @@ fn pass_normalize(bench: &mut Bench, symbols: &[Symbol]) -> usize {
 
 type Pass = fn(&mut Bench, &[Symbol]) -> usize;
 
-fn passes() -> Vec<(&'static str, Pass)> {
+/// By all contenders, or by the library alone.
+fn passes(alone: bool) -> Vec<(&'static str, Pass)> {
+    let mut all = all_passes();
+    all.retain(|(name, _)| !alone || !["rust", "cxa"].contains(name));
+    all
+}
+
+fn all_passes() -> Vec<(&'static str, Pass)> {
     vec![
         ("library", pass_library),
         ("listing", pass_listing),
@@ -241,14 +250,14 @@ fn check_normal_symbol(bench: &mut Bench, symbol: &Symbol) {
     }
 }
 
-fn list(file: &str) {
+fn list(file: &str, alone: bool) {
     let mut bench = Bench::new();
     let mut listing = b"code,bytes,name\n".to_vec();
     let header = listing.len();
     for symbol in symbols_of(file) {
         bench.lines.add(&symbol);
         let name = bench.names.name(symbol.bytes());
-        if !agrees(&name, &itanium::demangle(&symbol.text)) {
+        if !alone && !agrees(&name, &itanium::demangle(&symbol.text)) {
             different(&symbol);
         }
         check_normal_symbol(&mut bench, &symbol);
@@ -271,10 +280,10 @@ fn warm(bench: &mut Bench, pass: Pass, symbols: &[Symbol]) {
     std::hint::black_box(pass(bench, &symbols[..symbols.len().min(100)]));
 }
 
-fn time(file: &str, round: usize) {
+fn time(file: &str, round: usize, alone: bool) {
     let mut bench = Bench::new();
     let symbols = symbols_of(file);
-    let mut passes = passes();
+    let mut passes = passes(alone);
     let first = round % passes.len();
     passes.rotate_left(first);
     for (name, pass) in passes {
@@ -289,9 +298,14 @@ fn time(file: &str, round: usize) {
 
 fn count(files: &[String]) {
     let mut bench = Bench::new();
+    let mut alone = false;
     for file in files {
+        if file == "alone" {
+            alone = true;
+            continue;
+        }
         let symbols = symbols_of(file);
-        for (name, pass) in passes() {
+        for (name, pass) in passes(alone) {
             warm(&mut bench, pass, &symbols);
             between_passes();
             let sum = pass(&mut bench, &symbols);
@@ -355,15 +369,21 @@ fn clearing() {
     }
 }
 
-fn main() {
+fn run() {
     let args: Vec<String> = std::env::args().skip(1).collect();
+    let alone = args.last().is_some_and(|word| word == "alone");
     match args[0].as_str() {
-        "list" => list(&args[1]),
-        "time" => time(&args[1], args[2].parse().unwrap()),
+        "list" => list(&args[1], alone),
+        "time" => time(&args[1], args[2].parse().unwrap(), alone),
         "count" => count(&args[1..]),
         "clearing" => clearing(),
         "unstruck" => unstruck(&args[1]),
         "read" => read(&args[1], &args[2]),
         other => panic!("{other}: not known"),
     }
+}
+
+fn main() {
+    // the Rust recurses
+    std::thread::Builder::new().stack_size(1 << 28).spawn(run).unwrap().join().unwrap();
 }
