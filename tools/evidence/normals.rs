@@ -559,7 +559,7 @@ fn limits(seed: u64, wide: usize) -> Vec<(&'static str, Vec<Vec<u8>>)> {
         ("catalogue symbols by references", bytes(catalogue::references())),
         ("catalogue symbols by texts", bytes(catalogue::long_texts(about(16384), about(32768)))),
         ("catalogue symbols by lengths", bytes(lengths(seed, about(4096), 40))),
-        ("long catalogue symbols by lengths", bytes(long_lengths(seed, about(catalogue::MOST_NORMAL), 40))),
+        ("long catalogue symbols by lengths", bytes(long_lengths(seed, about(catalogue::MOST_NORMAL), 24))),
     ];
     out.extend(symbols::limits(&mut rng).into_iter().map(|(family, made)| (family, bytes(made))));
     out

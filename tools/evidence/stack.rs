@@ -147,6 +147,7 @@ const MOST: usize = 2048;
 /// The number, and the least size of the ladder with the answer that there is on a large stack.
 fn least(index: usize) -> (u8, usize) {
     let right = answer_apart(index, ENOUGH).unwrap_or_else(|| panic!("symbol {index}: no answer with {ENOUGH} KiB"));
+    assert!(right[0] != 14, "symbol {index}: a work slice is too short");
     for kib in ladder() {
         if let Some(got) = answer_apart(index, kib) {
             assert!(got == right, "symbol {index}: another answer with {kib} KiB");
