@@ -801,6 +801,9 @@ pub const RULES: &[(&str, u8, &str)] = &[
     ("_Z1f1a1aP1aS1_", 0, "_Z1f1aS_PS_S_"),
     ("_Z1f1a1a1bS1_", 0, "_Z1f1aS_1bS0_"),
     ("_Z1f1a1a1bS0_", 0, "_Z1f1aS_1bS_"),
+    // the same sum, each byte counted 31 times as much as the one behind it, and another name
+    ("_Z1f2Aa2BB", 0, "_Z1f2Aa2BB"),
+    ("_Z1f2Aa2BB2Aa2BB", 0, "_Z1f2Aa2BBS_S0_"),
     // references
     ("_Z1f1a1bS00_", 6, ""),
     ("_Z1f1a1bS0_", 0, "_Z1f1a1bS0_"),
@@ -1219,6 +1222,36 @@ pub fn long_texts(texts: std::ops::RangeInclusive<usize>, arguments: std::ops::R
         out.push(format!("_Z1f1aI{}{}Li{}EE", long_class(3600), times("S0_", 8), times("7", total - 9 * 3600)));
         out.push(format!("_Z1f1aI{}{}E1bI{}Li{}EE", long_class(3600), times("S0_", 3), times("S0_", 5), times("7", total - 9 * 3600)));
         out.push(format!("_Z1fN1a1bI{}{}EEN1c1dI{}Li{}EEE", long_class(3600), times("S1_", 3), times("S1_", 5), times("7", total - 9 * 3600)));
+    }
+    out
+}
+
+/// So many words of the alphabet that have the same sum in 14 bits, each byte counted 31 times as much as the one behind it. Equal classes and literals
+/// may be sought by such a sum, and others be met on the way.
+fn alike(alphabet: &[u8], length: usize, count: usize) -> Vec<String> {
+    let base = alphabet.len();
+    let front = |i: usize| (0..length - 1).rev().map(move |k| alphabet[i / base.pow(k as u32) % base]);
+    let last = |i: usize| front(i).fold(0, |sum, byte| 31 * (sum + byte as usize)).wrapping_neg() % 16384;
+    let fitting = (0..base.pow(length as u32 - 1)).filter(|i| u8::try_from(last(*i)).is_ok_and(|byte| alphabet.contains(&byte)));
+    fitting.take(count).map(|i| front(i).chain([last(i) as u8]).map(char::from).collect()).collect()
+}
+
+/// Classes and literals that only their words tell apart, in full and once more.
+pub fn equal_sums() -> Vec<String> {
+    let (names, values) = (alike(b"abcdefghijklmnopqrstuvwxyz", 5, 250), alike(b"123456789", 8, 400));
+    let mut out = vec![];
+    for n in [2, 3, 40, 250] {
+        let shape = |before: &str, after: &str| names[..n].iter().map(|name| format!("{before}{}{after}", source(name))).collect::<Vec<_>>();
+        for (before, after) in [("", ""), ("P", ""), ("N1a", "E"), ("", "IiE"), ("N1a", "IiEE"), ("RK", "")] {
+            let mut all = shape(before, after);
+            let once = all.concat();
+            all.reverse();
+            out.extend([format!("_Z1f{once}{once}"), format!("_Z1f{once}{}", all.concat()), format!("_ZN1a1fE{once}")]);
+        }
+    }
+    for n in [2, 3, 40, 400] {
+        let list: String = values[..n].iter().map(|value| format!("Li{value}E")).collect();
+        out.extend([format!("_Z1f1aI{list}E1aI{list}E"), format!("_Z1f1aI{list}E1bI{list}ES_I{list}E")]);
     }
     out
 }

@@ -33,6 +33,7 @@ const STAND_INS: &[(&str, &str)] = &[
     ("copied-six", "the symbol itself where 6 is due"),
     ("no-13", "a normal symbol of any length"),
     ("13-early", "13 from 16,384 bytes on"),
+    ("13-at-4096", "13 past 4,096 bytes"),
     ("index", "references as places in the table of the normal symbol"),
     ("barred", "R on R and the like taken in"),
     ("count", "arguments not counted"),
@@ -102,6 +103,7 @@ fn normal(stand_in: &str, symbol: &[u8]) -> (u8, String) {
         "constant" => (0, "_Z1fv".into()),
         "no-13" => (0, normal),
         "13-early" if normal.len() == catalogue::MOST_NORMAL => (13, String::new()),
+        "13-at-4096" if normal.len() > 4096 => (13, String::new()),
         _ => catalogue::within(normal),
     }
 }
@@ -557,6 +559,7 @@ fn limits(seed: u64, wide: usize) -> Vec<(&'static str, Vec<Vec<u8>>)> {
         ("catalogue symbols by open readings", bytes(catalogue::depths(about(96)))),
         ("catalogue symbols by entries", bytes(catalogue::full_tables(about(1024), about(32768)))),
         ("catalogue symbols by references", bytes(catalogue::references())),
+        ("catalogue symbols of equal sums", bytes(catalogue::equal_sums())),
         ("catalogue symbols by texts", bytes(catalogue::long_texts(about(16384), about(32768)))),
         ("catalogue symbols by lengths", bytes(lengths(seed, about(4096), 40))),
         ("long catalogue symbols by lengths", bytes(long_lengths(seed, about(catalogue::MOST_NORMAL), 24))),
