@@ -1,11 +1,13 @@
 //! One pass over the symbols of a file by each contender in this process. Names are compared before anything is measured.
 //!
-//!     bench list FILE             compares the library with the Rust, and writes the library's listing
-//!     bench time FILE ROUND       one pass of each, the first another one in each round: `contender nanoseconds`
-//!     bench count FILE..          one pass of each over each file, to be counted from outside: `contender file`
-//!     bench clearing              what clearing costs, by the lengths of the work slices
-//!     bench unstruck FILE         the lines of the file but thunks
-//!     bench read FILE CONTENDER   how many symbols of the file it reads, and how many of these get the library's name
+//!     bench list FILE [alone]         compares the library with the Rust, and writes the library's listing
+//!     bench time FILE ROUND [alone]   one pass of each, the first another one in each round: `contender nanoseconds`
+//!     bench count FILE.. [alone FILE..]   one pass of each over each file, to be counted from outside: `contender file`
+//!     bench clearing                  what clearing costs, by the lengths of the work slices
+//!     bench unstruck FILE             the lines of the file but thunks
+//!     bench read FILE CONTENDER       how many symbols of the file it reads, and how many of these get the library's name
+//!
+//! With `alone` no other demangler is asked: symbols for which the Rust takes seconds.
 use std::io::{BufRead, Write};
 
 /// The Rust original, unchanged.
@@ -33,20 +35,26 @@ struct Lent {
     out: Vec<u8>,
     text: Vec<u8>,
     store: Vec<u8>,
-    ends: Vec<u16>,
+    numbers: Vec<Vec<u16>>,
 }
 
 impl Lent {
     fn new(what: &str) -> Lent {
         let entry = entry(what).expect("a function of the library");
-        let [text, store, ends] = entry.least;
-        Lent { entry, out: vec![0; entry.longest], text: vec![0; text], store: vec![0; store], ends: vec![0; ends] }
+        let [text, store] = [0, 1].map(|i| vec![0; entry.least[i]]);
+        let numbers = entry.least[2..].iter().map(|length| vec![0; *length]).collect();
+        Lent { entry, out: vec![0; entry.longest], text, store, numbers }
+    }
+
+    /// How many bytes of work slices a call clears.
+    fn cleared(&self) -> usize {
+        self.text.len() + self.store.len() + self.numbers.iter().map(|slice| 2 * slice.len()).sum::<usize>()
     }
 
     /// The number, and the length of what is written.
     fn call(&mut self, symbol: &[u8]) -> (u8, usize) {
         let mut bytes = 0;
-        let number = self.entry.call(symbol, &mut self.out, &mut self.text, &mut self.store, &mut self.ends, &mut bytes);
+        let number = self.entry.call(symbol, &mut self.out, &mut self.text, &mut self.store, &mut self.numbers, &mut bytes);
         (number, bytes)
     }
 
@@ -92,11 +100,11 @@ impl Lines {
 
     /// How many bytes the listing of the lines has; each part of it is shown.
     fn list(&mut self, mut show: impl FnMut(&[u8])) -> usize {
-        let Lent { entry, out, text, store, ends } = &mut self.lent;
+        let Lent { entry, out, text, store, numbers } = &mut self.lent;
         let (mut from, mut sum) = (0, 0);
         while from < self.lines.len() {
             let (mut taken, mut written) = (0, 0);
-            let number = entry.list(&self.lines[from..], &mut self.listing, out, text, store, ends, &mut taken, &mut written);
+            let number = entry.list(&self.lines[from..], &mut self.listing, out, text, store, numbers, &mut taken, &mut written);
             assert_eq!(number, 0);
             from += taken;
             show(&self.listing[..written]);
@@ -161,7 +169,14 @@ fn pass_normalize(bench: &mut Bench, symbols: &[Symbol]) -> usize {
 
 type Pass = fn(&mut Bench, &[Symbol]) -> usize;
 
-fn passes() -> Vec<(&'static str, Pass)> {
+/// By all contenders, or by the library alone.
+fn passes(alone: bool) -> Vec<(&'static str, Pass)> {
+    let mut all = all_passes();
+    all.retain(|(name, _)| !alone || !["rust", "cxa"].contains(name));
+    all
+}
+
+fn all_passes() -> Vec<(&'static str, Pass)> {
     vec![
         ("library", pass_library),
         ("listing", pass_listing),
@@ -235,14 +250,14 @@ fn check_normal_symbol(bench: &mut Bench, symbol: &Symbol) {
     }
 }
 
-fn list(file: &str) {
+fn list(file: &str, alone: bool) {
     let mut bench = Bench::new();
     let mut listing = b"code,bytes,name\n".to_vec();
     let header = listing.len();
     for symbol in symbols_of(file) {
         bench.lines.add(&symbol);
         let name = bench.names.name(symbol.bytes());
-        if !agrees(&name, &itanium::demangle(&symbol.text)) {
+        if !alone && !agrees(&name, &itanium::demangle(&symbol.text)) {
             different(&symbol);
         }
         check_normal_symbol(&mut bench, &symbol);
@@ -265,10 +280,10 @@ fn warm(bench: &mut Bench, pass: Pass, symbols: &[Symbol]) {
     std::hint::black_box(pass(bench, &symbols[..symbols.len().min(100)]));
 }
 
-fn time(file: &str, round: usize) {
+fn time(file: &str, round: usize, alone: bool) {
     let mut bench = Bench::new();
     let symbols = symbols_of(file);
-    let mut passes = passes();
+    let mut passes = passes(alone);
     let first = round % passes.len();
     passes.rotate_left(first);
     for (name, pass) in passes {
@@ -283,9 +298,14 @@ fn time(file: &str, round: usize) {
 
 fn count(files: &[String]) {
     let mut bench = Bench::new();
+    let mut alone = false;
     for file in files {
+        if file == "alone" {
+            alone = true;
+            continue;
+        }
         let symbols = symbols_of(file);
-        for (name, pass) in passes() {
+        for (name, pass) in passes(alone) {
             warm(&mut bench, pass, &symbols);
             between_passes();
             let sum = pass(&mut bench, &symbols);
@@ -329,32 +349,41 @@ fn unstruck(file: &str) {
     std::io::stdout().write_all(&kept.collect::<Vec<u8>>()).unwrap();
 }
 
-/// Calls that are refused before anything is read, with a `text` of its least length, of the one it had once, of a smaller one and with none.
-fn clearing() {
-    for length in [65536, 51200, 34816, 0] {
-        let mut lent = Lent::new("names");
-        lent.text = vec![0; length];
-        let mut least = i64::MAX;
-        for _ in 0..60 {
-            let before = nanoseconds();
-            for _ in 0..2000 {
-                std::hint::black_box(lent.call(b""));
-            }
-            least = least.min(nanoseconds() - before);
+/// Nanoseconds of a call that is refused before anything is read, the least of 60 rounds: what clearing costs.
+fn cost_of_clearing(lent: &mut Lent) -> i64 {
+    let round = |lent: &mut Lent| {
+        let before = nanoseconds();
+        for _ in 0..2000 {
+            std::hint::black_box(lent.call(b""));
         }
-        println!("{:7} bytes: {:5} ns, the least of 60 rounds", length + lent.store.len() + 2 * lent.ends.len(), least / 2000);
+        nanoseconds() - before
+    };
+    (0..60).map(|_| round(lent)).min().unwrap() / 2000
+}
+
+/// Names with a `text` of the length it had once, of its least one, of a smaller one and with none; then normal symbols.
+fn clearing() {
+    let names = [65536, 51200, 34816, 0].map(|length| Lent { text: vec![0; length], ..Lent::new("names") });
+    for mut lent in names.into_iter().chain([Lent::new("normals")]) {
+        println!("{:8}{:7} bytes: {:5} ns, the least of 60 rounds", lent.entry.what, lent.cleared(), cost_of_clearing(&mut lent));
     }
 }
 
-fn main() {
+fn run() {
     let args: Vec<String> = std::env::args().skip(1).collect();
+    let alone = args.last().is_some_and(|word| word == "alone");
     match args[0].as_str() {
-        "list" => list(&args[1]),
-        "time" => time(&args[1], args[2].parse().unwrap()),
+        "list" => list(&args[1], alone),
+        "time" => time(&args[1], args[2].parse().unwrap(), alone),
         "count" => count(&args[1..]),
         "clearing" => clearing(),
         "unstruck" => unstruck(&args[1]),
         "read" => read(&args[1], &args[2]),
         other => panic!("{other}: not known"),
     }
+}
+
+fn main() {
+    // the Rust recurses
+    std::thread::Builder::new().stack_size(1 << 28).spawn(run).unwrap().join().unwrap();
 }

@@ -4,7 +4,7 @@ use std::io::{BufRead, Write};
 
 mod itanium;
 
-fn main() -> std::io::Result<()> {
+fn list() -> std::io::Result<()> {
     let mut out = std::io::BufWriter::new(std::io::stdout().lock());
     writeln!(out, "code,bytes,name")?;
     for line in std::io::stdin().lock().lines() {
@@ -14,4 +14,9 @@ fn main() -> std::io::Result<()> {
         }
     }
     out.flush()
+}
+
+fn main() -> std::io::Result<()> {
+    // the Rust recurses
+    std::thread::Builder::new().stack_size(1 << 28).spawn(list)?.join().unwrap()
 }

@@ -1,7 +1,7 @@
 /* Names of C++ symbols, for C and C++. The library is target/staticlib/libpatchname.a, for Linux on x86-64: `rt staticlib patchname` writes it.
  *
  * The functions allocate nothing, call nothing of the operating system and keep nothing between calls: threads may call them at the same time,
- * each with slices of its own. Nothing proves a bound of the machine stack; the deepest symbols known were answered with 512 KiB.
+ * each with slices of its own. Nothing proves a bound of the machine stack; `tools/stack` finds what the deepest symbols known take.
  */
 #ifndef PATCHNAME_H
 #define PATCHNAME_H
@@ -14,7 +14,7 @@ extern "C" {
 #endif
 
 /* The longest symbol that is read, in bytes: a longer one is refused with 1. */
-#define PATCHNAME_SYMBOL_BYTES 4096
+#define PATCHNAME_SYMBOL_BYTES 16384
 
 /* An output of so many bytes is long enough for every name. */
 #define PATCHNAME_NAME_BYTES 16384
@@ -29,7 +29,7 @@ extern "C" {
  * order is told: 1, 2, 3, 14, then 4 and 7 to 11 as the reading first meets them, 5, 6, 13, 12. A call for a listing returns 0, 12 or 14. */
 enum patchname_number {
     PATCHNAME_OK = 0,                     /* the result is in `out` */
-    PATCHNAME_SYMBOL_TOO_LONG = 1,        /* the symbol is longer than 4,096 bytes */
+    PATCHNAME_SYMBOL_TOO_LONG = 1,        /* the symbol is longer than 16,384 bytes */
     PATCHNAME_HIGH_BYTE = 2,              /* it has a byte of 128 or more */
     PATCHNAME_NO_PREFIX = 3,              /* neither _Z nor __Z stands in front */
     PATCHNAME_UNREADABLE = 4,             /* no rule of the reading fits */
@@ -41,7 +41,7 @@ enum patchname_number {
     PATCHNAME_ARGUMENTS_FULL = 10,        /* the same for template arguments */
     PATCHNAME_TEXT_TOO_LONG = 11,         /* a text longer than 16,384 bytes */
     PATCHNAME_OUTPUT_TOO_SHORT = 12,      /* `out` is shorter than the result */
-    PATCHNAME_NORMAL_SYMBOL_TOO_LONG = 13, /* the normal symbol is longer than 4,096 bytes (normal symbols only) */
+    PATCHNAME_NORMAL_SYMBOL_TOO_LONG = 13, /* the normal symbol is longer than 16,384 bytes (normal symbols only) */
     PATCHNAME_WORK_TOO_SHORT = 14         /* a work slice is below its least length */
 };
 
@@ -70,19 +70,24 @@ uint8_t patchname_demangle(
     size_t *bytes);
 
 /* An output of so many bytes is long enough for every normal symbol. */
-#define PATCHNAME_NORMAL_SYMBOL_BYTES 4096
+#define PATCHNAME_NORMAL_SYMBOL_BYTES 16384
 
-/* The least length of `ends` for normal symbols; `text` and `store` are as long as for names. */
-#define PATCHNAME_NORMALIZE_ENDS_LENGTH 24576
+/* The least length of each of `ends`, `words`, `tables` and `chains` for normal symbols, in numbers of 16 bits; `text` and `store` are as long as
+ * for names. Symbols of 16,384 bytes need all four: an `ends` of 24,576 numbers, which was enough for 4,096 bytes, is refused with 14. */
+#define PATCHNAME_NORMALIZE_NUMBERS_LENGTH 32768
 
 /* The normal symbol of a catalogue symbol: two of them have the same normal symbol exactly when they have the same name. Parameters, what is
- * returned and what a caller owes are those of `patchname_demangle`, but for the least length of `ends`. 6 and 13 are told of normal symbols only. */
+ * returned and what a caller owes are those of `patchname_demangle`, but for the least length of `ends`, and for three more work slices behind it
+ * that are like it, `words`, `tables` and `chains`. 6 and 13 are told of normal symbols only. */
 uint8_t patchname_normalize(
     const uint8_t *symbol, size_t symbol_length,
     uint8_t *out, size_t out_length,
     uint8_t *text, size_t text_length,
     uint8_t *store, size_t store_length,
     uint16_t *ends, size_t ends_length,
+    uint16_t *words, size_t words_length,
+    uint16_t *tables, size_t tables_length,
+    uint16_t *chains, size_t chains_length,
     size_t *bytes);
 
 /* An output of so many bytes has room for every line of a listing. */
@@ -119,7 +124,8 @@ uint8_t patchname_list_names(
     uint16_t *ends, size_t ends_length,
     size_t *taken, size_t *written);
 
-/* The same with the normal symbol in the name's place, and PATCHNAME_NORMALIZE_ENDS_LENGTH as the least length of `ends`. */
+/* The same with the normal symbol in the name's place, and the work slices of `patchname_normalize`: PATCHNAME_NORMALIZE_NUMBERS_LENGTH is the least
+ * length of each of `ends`, `words`, `tables` and `chains`. */
 uint8_t patchname_list_normal_symbols(
     const uint8_t *input, size_t input_length,
     uint8_t *out, size_t out_length,
@@ -127,6 +133,9 @@ uint8_t patchname_list_normal_symbols(
     uint8_t *text, size_t text_length,
     uint8_t *store, size_t store_length,
     uint16_t *ends, size_t ends_length,
+    uint16_t *words, size_t words_length,
+    uint16_t *tables, size_t tables_length,
+    uint16_t *chains, size_t chains_length,
     size_t *taken, size_t *written);
 
 #ifdef __cplusplus

@@ -11,14 +11,8 @@
 
 #include "patchname.h"
 
-/* Both functions have these parameters. */
-typedef uint8_t list_function(
-    const uint8_t *, size_t, uint8_t *, size_t, uint8_t *, size_t, uint8_t *, size_t, uint8_t *, size_t, uint16_t *, size_t, size_t *, size_t *);
-
-struct lister {
-    list_function *function;
-    size_t ends_length;
-};
+/* For normal symbols, the length of each slice of numbers. */
+#define NUMBERS PATCHNAME_NORMALIZE_NUMBERS_LENGTH
 
 /* One byte more than a symbol may have is kept of a line: enough to tell that it is too long. */
 #define LINE_BYTES (PATCHNAME_SYMBOL_BYTES + 1)
@@ -28,17 +22,35 @@ static uint8_t listing[65536];
 static uint8_t name[PATCHNAME_NAME_BYTES];
 static uint8_t text[PATCHNAME_TEXT_LENGTH];
 static uint8_t store[PATCHNAME_STORE_LENGTH];
-static uint16_t ends[PATCHNAME_NORMALIZE_ENDS_LENGTH];
+static uint16_t ends[NUMBERS];
+static uint16_t words[NUMBERS];
+static uint16_t tables[NUMBERS];
+static uint16_t chains[NUMBERS];
+
+/* Lists the lines from a place on into `listing`: names, or normal symbols. */
+typedef uint8_t list_function(size_t from, size_t bytes, size_t *taken, size_t *written);
+
+static uint8_t list_names(size_t from, size_t bytes, size_t *taken, size_t *written)
+{
+    return patchname_list_names(
+        lines + from, bytes - from, listing, sizeof listing, name, sizeof name, text, sizeof text, store, sizeof store,
+        ends, PATCHNAME_ENDS_LENGTH, taken, written);
+}
+
+static uint8_t list_normal_symbols(size_t from, size_t bytes, size_t *taken, size_t *written)
+{
+    return patchname_list_normal_symbols(
+        lines + from, bytes - from, listing, sizeof listing, name, sizeof name, text, sizeof text, store, sizeof store,
+        ends, NUMBERS, words, NUMBERS, tables, NUMBERS, chains, NUMBERS, taken, written);
+}
 
 /* Complete lines, so many bytes. `listing` has room for any line and the work slices are long enough, so that at least one is taken each time. */
-static void list(struct lister lister, size_t bytes)
+static void list(list_function *lister, size_t bytes)
 {
     size_t from = 0;
     while (from < bytes) {
         size_t taken, written;
-        if (lister.function(
-            lines + from, bytes - from, listing, sizeof listing, name, sizeof name, text, sizeof text, store, sizeof store,
-            ends, lister.ends_length, &taken, &written) != PATCHNAME_OK) {
+        if (lister(from, bytes, &taken, &written) != PATCHNAME_OK) {
             abort();
         }
         from += taken;
@@ -46,7 +58,7 @@ static void list(struct lister lister, size_t bytes)
     }
 }
 
-static void list_input(struct lister lister)
+static void list_input(list_function *lister)
 {
     size_t used = 0;
     size_t start = 0;
@@ -73,11 +85,7 @@ static void list_input(struct lister lister)
 
 int main(int argc, char **argv)
 {
-    struct lister lister = { patchname_list_names, PATCHNAME_ENDS_LENGTH };
-    if (1 < argc && strcmp(argv[1], "-n") == 0) {
-        lister.function = patchname_list_normal_symbols;
-        lister.ends_length = PATCHNAME_NORMALIZE_ENDS_LENGTH;
-    }
-    list_input(lister);
+    int normal = 1 < argc && strcmp(argv[1], "-n") == 0;
+    list_input(normal ? list_normal_symbols : list_names);
     return 0;
 }

@@ -9,25 +9,37 @@
 
 #include "patchname.h"
 
-/* Both functions have these parameters. */
-typedef uint8_t entry_function(
-    const uint8_t *, size_t, uint8_t *, size_t, uint8_t *, size_t, uint8_t *, size_t, uint16_t *, size_t, size_t *);
-
-struct entry {
-    entry_function *function;
-    size_t ends_length;
-};
+/* For normal symbols, the length of each slice of numbers. */
+#define NUMBERS PATCHNAME_NORMALIZE_NUMBERS_LENGTH
 
 static uint8_t out[PATCHNAME_NAME_BYTES];
 static uint8_t text[PATCHNAME_TEXT_LENGTH];
 static uint8_t store[PATCHNAME_STORE_LENGTH];
-static uint16_t ends[PATCHNAME_NORMALIZE_ENDS_LENGTH];
+static uint16_t ends[NUMBERS];
+static uint16_t words[NUMBERS];
+static uint16_t tables[NUMBERS];
+static uint16_t chains[NUMBERS];
+
+/* Writes the name of a symbol to `out`, or its normal symbol. A call clears all that it is lent, so that names are lent no more of `ends` than they need. */
+typedef uint8_t entry_function(const uint8_t *symbol, size_t length, size_t *bytes);
+
+static uint8_t demangle(const uint8_t *symbol, size_t length, size_t *bytes)
+{
+    return patchname_demangle(
+        symbol, length, out, sizeof out, text, sizeof text, store, sizeof store, ends, PATCHNAME_ENDS_LENGTH, bytes);
+}
+
+static uint8_t normalize(const uint8_t *symbol, size_t length, size_t *bytes)
+{
+    return patchname_normalize(
+        symbol, length, out, sizeof out, text, sizeof text, store, sizeof store, ends, NUMBERS, words, NUMBERS, tables, NUMBERS, chains, NUMBERS, bytes);
+}
 
 static const char *message(uint8_t number)
 {
     static const char *const messages[] = {
         "",
-        "the symbol is longer than 4,096 bytes",
+        "the symbol is longer than 16,384 bytes",
         "the symbol has a byte of 128 or more",
         "neither _Z nor __Z stands in front",
         "no rule of the reading fits",
@@ -39,17 +51,16 @@ static const char *message(uint8_t number)
         "a template argument past 1,024, or template arguments past 32,768 bytes",
         "a text longer than 16,384 bytes",
         "the output is shorter than the result",
-        "the normal symbol is longer than 4,096 bytes",
+        "the normal symbol is longer than 16,384 bytes",
         "a work slice is below its least length",
     };
     return number < sizeof messages / sizeof *messages ? messages[number] : "no such number";
 }
 
-static void answer(struct entry entry, const uint8_t *symbol, size_t length)
+static void answer(entry_function *entry, const uint8_t *symbol, size_t length)
 {
     size_t bytes;
-    uint8_t number = entry.function(
-        symbol, length, out, sizeof out, text, sizeof text, store, sizeof store, ends, entry.ends_length, &bytes);
+    uint8_t number = entry(symbol, length, &bytes);
     if (number == PATCHNAME_OK) {
         fwrite(out, 1, bytes, stdout);
         putchar('\n');
@@ -59,7 +70,7 @@ static void answer(struct entry entry, const uint8_t *symbol, size_t length)
 }
 
 /* One byte more than a symbol may have is kept of a line: enough to tell that it is too long. */
-static void answer_lines(struct entry entry)
+static void answer_lines(entry_function *entry)
 {
     static uint8_t line[PATCHNAME_SYMBOL_BYTES + 1];
     size_t length = 0;
@@ -81,11 +92,10 @@ static void answer_lines(struct entry entry)
 
 int main(int argc, char **argv)
 {
-    struct entry entry = { patchname_demangle, PATCHNAME_ENDS_LENGTH };
+    entry_function *entry = demangle;
     int first = 1;
     if (first < argc && strcmp(argv[first], "-n") == 0) {
-        entry.function = patchname_normalize;
-        entry.ends_length = PATCHNAME_NORMALIZE_ENDS_LENGTH;
+        entry = normalize;
         first++;
     }
     if (first == argc) {

@@ -524,7 +524,8 @@ impl Writer<'_> {
 
 // ---------------------------------------------------------------- the answer for normal symbols
 
-pub const MOST_NORMAL: usize = 4096;
+/// A longer normal symbol is refused with 13.
+pub const MOST_NORMAL: usize = 16384;
 pub const NOT_CATALOGUE: u8 = 6;
 pub const TOO_LONG: u8 = 13;
 
@@ -800,6 +801,9 @@ pub const RULES: &[(&str, u8, &str)] = &[
     ("_Z1f1a1aP1aS1_", 0, "_Z1f1aS_PS_S_"),
     ("_Z1f1a1a1bS1_", 0, "_Z1f1aS_1bS0_"),
     ("_Z1f1a1a1bS0_", 0, "_Z1f1aS_1bS_"),
+    // the same sum, each byte counted 31 times as much as the one behind it, and another name
+    ("_Z1f2Aa2BB", 0, "_Z1f2Aa2BB"),
+    ("_Z1f2Aa2BB2Aa2BB", 0, "_Z1f2Aa2BBS_S0_"),
     // references
     ("_Z1f1a1bS00_", 6, ""),
     ("_Z1f1a1bS0_", 0, "_Z1f1a1bS0_"),
@@ -1222,10 +1226,40 @@ pub fn long_texts(texts: std::ops::RangeInclusive<usize>, arguments: std::ops::R
     out
 }
 
+/// So many words of the alphabet that have the same sum in 14 bits, each byte counted 31 times as much as the one behind it. Equal classes and literals
+/// may be sought by such a sum, and others be met on the way.
+fn alike(alphabet: &[u8], length: usize, count: usize) -> Vec<String> {
+    let base = alphabet.len();
+    let front = |i: usize| (0..length - 1).rev().map(move |k| alphabet[i / base.pow(k as u32) % base]);
+    let last = |i: usize| front(i).fold(0, |sum, byte| 31 * (sum + byte as usize)).wrapping_neg() % 16384;
+    let fitting = (0..base.pow(length as u32 - 1)).filter(|i| u8::try_from(last(*i)).is_ok_and(|byte| alphabet.contains(&byte)));
+    fitting.take(count).map(|i| front(i).chain([last(i) as u8]).map(char::from).collect()).collect()
+}
+
+/// Classes and literals that only their words tell apart, in full and once more.
+pub fn equal_sums() -> Vec<String> {
+    let (names, values) = (alike(b"abcdefghijklmnopqrstuvwxyz", 5, 250), alike(b"123456789", 8, 400));
+    let mut out = vec![];
+    for n in [2, 3, 40, 250] {
+        let shape = |before: &str, after: &str| names[..n].iter().map(|name| format!("{before}{}{after}", source(name))).collect::<Vec<_>>();
+        for (before, after) in [("", ""), ("P", ""), ("N1a", "E"), ("", "IiE"), ("N1a", "IiEE"), ("RK", "")] {
+            let mut all = shape(before, after);
+            let once = all.concat();
+            all.reverse();
+            out.extend([format!("_Z1f{once}{once}"), format!("_Z1f{once}{}", all.concat()), format!("_ZN1a1fE{once}")]);
+        }
+    }
+    for n in [2, 3, 40, 400] {
+        let list: String = values[..n].iter().map(|value| format!("Li{value}E")).collect();
+        out.extend([format!("_Z1f1aI{list}E1aI{list}E"), format!("_Z1f1aI{list}E1bI{list}ES_I{list}E")]);
+    }
+    out
+}
+
 /// A lone function name so long that `fixed` bytes and the name are `total`. Lengths that no name makes are passed over.
 fn function_name_for(total: usize, fixed: usize) -> Option<String> {
     let room = total.checked_sub(fixed)?;
-    let name = (1..=4).filter_map(|digits| room.checked_sub(digits)).find(|n| *n > 0 && n.to_string().len() + n == room)?;
+    let name = (1..=5).filter_map(|digits| room.checked_sub(digits)).find(|n| *n > 0 && n.to_string().len() + n == room)?;
     Some(source(&times("f", name)))
 }
 
@@ -1234,16 +1268,15 @@ pub fn of_length(made: &Encoding, rng: &mut Rng, total: usize) -> Vec<String> {
     let mut encoding = made.clone();
     encoding.name = vec![Step::Name("f".into())];
     encoding.constant = false;
-    let normal = normal(&encoding, Mistake::No);
-    let mut out = vec![];
-    for of_thousand in [0, 500, 1000] {
-        let spelling = spelled(&encoding, rng, of_thousand).0;
-        let rest = spelling.strip_prefix("_Z1f").unwrap();
-        for fixed in [normal.len() - 2, spelling.len() - 2] {
-            out.extend(function_name_for(total, fixed).map(|name| format!("_Z{name}{rest}")));
-        }
-    }
-    out
+    [0, 500, 1000].into_iter().flat_map(|of_thousand| of_length_by(&encoding, rng, total, of_thousand)).collect()
+}
+
+/// The same of a tree named f, with references by chance.
+fn of_length_by(named_f: &Encoding, rng: &mut Rng, total: usize, of_thousand: usize) -> Vec<String> {
+    let spelling = spelled(named_f, rng, of_thousand).0;
+    let rest = spelling.strip_prefix("_Z1f").unwrap();
+    let fixed = [normal(named_f, Mistake::No).len() - 2, spelling.len() - 2];
+    fixed.into_iter().filter_map(|fixed| function_name_for(total, fixed)).map(|name| format!("_Z{name}{rest}")).collect()
 }
 
 /// Trees of many short classes, whose normal symbol is longer than the spelling in full.
@@ -1260,4 +1293,23 @@ pub fn crowd(rng: &mut Rng, size: usize) -> Encoding {
         _ => one(rng),
     });
     Encoding { name: vec![Step::Name("f".into())], constant: false, params: params.collect() }
+}
+
+/// A tree of classes of one letter alone, 53 of them and then so many of those from entry 37 on. A reference to one of these has four bytes and its text
+/// three: of the trees whose normal symbol is about as long as a text may be, only such have a name.
+pub fn long_crowd(rng: &mut Rng, size: usize) -> Encoding {
+    let one = |i: usize| {
+        let letter = [&b"_"[..], &(b'a'..=b'z').collect::<Vec<u8>>(), &(b'A'..=b'Z').collect::<Vec<u8>>()].concat()[i];
+        class(&[Step::Name((letter as char).to_string().into())])
+    };
+    let params = (0..53).chain((0..size).map(|_| 37 + rng.below(16)).collect::<Vec<_>>()).map(one);
+    Encoding { name: vec![Step::Name("f".into())], constant: false, params: params.collect() }
+}
+
+/// Symbols of such a tree whose normal symbol, or which themselves, have these lengths, with about so many of the classes in full. In full a class
+/// has two bytes fewer than its reference, and makes an entry: a normal symbol can be 1,972 bytes longer than what it came from.
+pub fn long_lengths(rng: &mut Rng, size: usize, in_full: usize, totals: std::ops::RangeInclusive<usize>) -> Vec<String> {
+    let tree = long_crowd(rng, size);
+    let of_thousand = 1000 - in_full.min(size) * 1000 / size;
+    totals.flat_map(|total| of_length_by(&tree, rng, total, of_thousand)).collect()
 }

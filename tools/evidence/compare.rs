@@ -20,7 +20,7 @@ use std::process::{Command, ExitCode, Stdio};
 use std::sync::atomic::{AtomicUsize, Ordering::Relaxed};
 use std::time::{Duration, Instant};
 use symbols::{Grammar, Rng};
-use thunks::Mistake;
+use thunks::{MOST_SYMBOL, Mistake};
 
 // ---------------------------------------------------------------- memory
 
@@ -54,7 +54,6 @@ static MEMORY: Capped = Capped;
 
 /// A name past this length is never printed.
 const MOST_TEXT: usize = 16384;
-const MOST_SYMBOL: usize = 4096;
 
 enum Answer {
     None,
@@ -348,7 +347,7 @@ fn wrong(symbol: &[u8], reference: &Reference, line: &[u8], numbers: bool) -> Op
     };
     let must = |number: u8, why: &str| if code == number { None } else { Some(format!("{why}: must be {number}, is {code}")) };
     if symbol.len() > MOST_SYMBOL {
-        return must(1, "longer than 4,096 bytes");
+        return must(1, "longer than 16,384 bytes");
     }
     if !symbol.is_ascii() {
         return must(2, "a byte of 128 or more");
@@ -548,7 +547,7 @@ fn report(kind: &str, counts: &Counts) {
 
 // ---------------------------------------------------------------- kinds
 
-const KINDS: &[&str] = &["systematic", "short", "grammar", "grown", "damaged", "high", "limits", "chains-small-stack", "thunks", "real"];
+const KINDS: &[&str] = &["systematic", "short", "grammar", "grown", "long", "damaged", "high", "limits", "chains-small-stack", "thunks", "real"];
 
 struct Options {
     list: String,
@@ -762,6 +761,7 @@ impl Comparison {
             "short" => self.kind(kind, distinct(short(o.seed, o.count))),
             "grammar" => self.kind(kind, distinct(grammar_symbols(Grammar::new(o.seed), count(1_000_000)))),
             "grown" => self.kind(kind, distinct(grammar_symbols(Grammar::grown(o.seed), count(100_000)))),
+            "long" => self.kind(kind, distinct(grammar_symbols(Grammar::long(o.seed), count(100_000) / 10))),
             "damaged" => self.kind(kind, distinct(damaged_symbols(o.seed, count(1_000_000), real))),
             "high" => self.kind(kind, distinct(high_symbols(o.seed, count(20_000)))),
             "limits" => {

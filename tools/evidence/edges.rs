@@ -5,7 +5,7 @@
 
 mod library;
 
-use library::{Entry, Lengths};
+use library::Entry;
 
 // ---------------------------------------------------------------- slices full of rubbish
 
@@ -76,6 +76,33 @@ impl<'a, T: Copy + PartialEq> Lent<'a, T> {
     }
 }
 
+impl<T: Copy + PartialEq> AsMut<[T]> for Lent<'_, T> {
+    fn as_mut(&mut self) -> &mut [T] {
+        self.slice()
+    }
+}
+
+/// Work slices of the lengths given, in the order of `library::SLICES`.
+struct Work<'a> {
+    text: Lent<'a, u8>,
+    store: Lent<'a, u8>,
+    numbers: Vec<Lent<'a, u16>>,
+}
+
+impl<'a> Work<'a> {
+    fn new(random: &mut Random, bytes: &'a [u8], numbers: &'a [u16], lengths: &[usize]) -> Work<'a> {
+        Work {
+            text: Lent::new(random, bytes, lengths[0]),
+            store: Lent::new(random, bytes, lengths[1]),
+            numbers: lengths[2..].iter().map(|len| Lent::new(random, numbers, *len)).collect(),
+        }
+    }
+
+    fn is_zero(&self) -> bool {
+        self.text.is_all(0) && self.store.is_all(0) && self.numbers.iter().all(|slice| slice.is_all(0))
+    }
+}
+
 // ---------------------------------------------------------------- what is expected
 
 struct Row<'a> {
@@ -105,53 +132,58 @@ fn rows<'a>(symbols: &'a [u8], listing: &'a [u8]) -> Vec<Row<'a>> {
 }
 
 struct Case {
-    what: &'static str,
+    what: String,
     out: usize,
-    work: Lengths,
+    work: Vec<usize>,
+}
+
+fn is_short(entry: &Entry, work: &[usize]) -> bool {
+    work.iter().zip(entry.least).any(|(length, least)| length < least)
 }
 
 /// Where more than one refusal fits: 1 to 3 come first, 14 next, 12 last.
 fn expected(entry: &Entry, row: &Row, case: &Case) -> u8 {
-    let short = (0..3).any(|i| case.work[i] < entry.least[i]);
     match row.number {
         1..=3 => row.number,
-        _ if short => 14,
+        _ if is_short(entry, &case.work) => 14,
         0 if case.out < row.result.len() => 12,
         number => number,
     }
 }
 
-fn works(least: Lengths) -> Vec<(&'static str, Lengths)> {
-    let mut out = vec![("all work slices longer", least.map(|n| n + 77)), ("no work slices", [0; 3])];
-    for (i, n) in least.into_iter().enumerate() {
-        let with = |len: usize| {
-            let mut lengths = least;
-            lengths[i] = len;
-            lengths
-        };
-        let words = [
-            ["a longer text", "a short text", "no text"],
-            ["a longer store", "a short store", "no store"],
-            ["longer ends", "short ends", "no ends"],
-        ][i];
-        out.extend([(words[0], with(n + 1)), (words[1], with(n - 1)), (words[2], with(0))]);
+/// What normal symbols of 4,096 bytes took: 24,576 numbers in `ends`, and no slice behind it.
+const OLD: &[usize] = &[51200, 65536, 24576, 0, 0, 0];
+
+/// Lengths of the work slices: all of them longer, none at all, and each by itself longer, one element short, and missing.
+fn works(least: &[usize]) -> Vec<(String, Vec<usize>)> {
+    let mut out = vec![
+        ("all work slices longer".into(), least.iter().map(|n| n + 77).collect()),
+        ("no work slices".into(), vec![0; least.len()]),
+    ];
+    if least.len() == OLD.len() {
+        out.push(("the work slices of 4,096 bytes".into(), OLD.to_vec()));
+    }
+    for (i, n) in least.iter().enumerate() {
+        for (how, length) in [("longer", n + 1), ("one short", n - 1), ("missing", 0)] {
+            let mut lengths = least.to_vec();
+            lengths[i] = length;
+            out.push((format!("{} {how}", library::SLICES[i]), lengths));
+        }
     }
     out
 }
 
 fn cases(entry: &Entry, row: &Row) -> Vec<Case> {
     let full = row.result.len();
-    let mut out = vec![
-        Case { what: "a longer output", out: entry.longest + 1, work: entry.least },
-        Case { what: "an empty output", out: 0, work: entry.least },
-    ];
+    let exact = |what: &str, out: usize| Case { what: what.into(), out, work: entry.least.to_vec() };
+    let mut out = vec![exact("a longer output", entry.longest + 1), exact("an empty output", 0)];
     if row.number == 0 {
-        out.push(Case { what: "an output exactly full", out: full, work: entry.least });
-        out.push(Case { what: "an output one byte short", out: full.saturating_sub(1), work: entry.least });
+        out.push(exact("an output exactly full", full));
+        out.push(exact("an output one byte short", full.saturating_sub(1)));
     }
     // an empty output must not hide what the work slices give
     for (what, work) in works(entry.least) {
-        out.extend([entry.longest, 0].map(|out| Case { what, out, work }));
+        out.extend([entry.longest, 0].map(|out| Case { what: what.clone(), out, work: work.clone() }));
     }
     out
 }
@@ -173,16 +205,15 @@ impl Tried<'_> {
     fn one(&mut self, row: &Row, case: &Case) {
         let Rubbish { random, bytes, numbers } = &mut self.rubbish;
         let mut out = Lent::new(random, bytes, case.out);
-        let mut text = Lent::new(random, bytes, case.work[0]);
-        let mut store = Lent::new(random, bytes, case.work[1]);
-        let mut ends = Lent::new(random, numbers, case.work[2]);
+        let mut work = Work::new(random, bytes, numbers, &case.work);
         let mut length = random.next() as usize;
-        let number = self.entry.call(row.symbol, out.slice(), text.slice(), store.slice(), ends.slice(), &mut length);
+        let Work { text, store, numbers } = &mut work;
+        let number = self.entry.call(row.symbol, out.slice(), text.slice(), store.slice(), numbers, &mut length);
 
         let wanted = expected(self.entry, row, case);
         let result = if wanted == 0 { row.result } else { b"" };
         let right = out.has(result);
-        let zero = text.is_all(0) && store.is_all(0) && ends.is_all(0);
+        let zero = work.is_zero();
         self.calls += 1;
         if number != wanted || length != result.len() || !right || !zero {
             self.failures += 1;
@@ -203,7 +234,7 @@ impl Tried<'_> {
             let front = symbol.starts_with(b"_Z") || symbol.starts_with(b"__Z");
             let number = if !symbol.is_ascii() { 2 } else if front { 14 } else { 3 };
             let row = Row { symbol: &symbol, number, result: b"" };
-            self.one(&row, &Case { what: "any bytes", out: 64, work: [0; 3] });
+            self.one(&row, &Case { what: "any bytes".into(), out: 64, work: vec![0; self.entry.least.len()] });
         }
     }
 
@@ -236,11 +267,11 @@ fn fitting(lines: &[Vec<u8>], room: usize) -> (usize, Vec<u8>) {
 
 impl Tried<'_> {
     /// A few lines, and an end without line feed, with an output and work slices of these lengths.
-    fn list(&mut self, rows: &[Row], out: usize, name: usize, work: Lengths) {
+    fn list(&mut self, rows: &[Row], out: usize, name: usize, work: &[usize]) {
         let lines: Vec<Vec<u8>> = rows.iter().map(line_of).collect();
         let mut input: Vec<u8> = rows.iter().flat_map(|row| [row.symbol, b"\n"].concat()).collect();
         input.extend(&b"_Z1fv"[..self.rubbish.random.below(6)]);
-        let short = name < library::NAME || (0..3).any(|i| work[i] < self.entry.least[i]);
+        let short = name < library::NAME || is_short(self.entry, work);
         let (count, listing) = if short { (0, vec![]) } else { fitting(&lines, out) };
         let number = if short { 14 } else if count == 0 && !rows.is_empty() { 12 } else { 0 };
         let wanted: usize = rows[..count].iter().map(|row| row.symbol.len() + 1).sum();
@@ -248,14 +279,13 @@ impl Tried<'_> {
         let Rubbish { random, bytes, numbers } = &mut self.rubbish;
         let mut out = Lent::new(random, bytes, out);
         let mut name = Lent::new(random, bytes, name);
-        let mut text = Lent::new(random, bytes, work[0]);
-        let mut store = Lent::new(random, bytes, work[1]);
-        let mut ends = Lent::new(random, numbers, work[2]);
+        let mut work = Work::new(random, bytes, numbers, work);
         let (mut taken, mut written) = (random.next() as usize, random.next() as usize);
-        let told = self.entry.list(&input, out.slice(), name.slice(), text.slice(), store.slice(), ends.slice(), &mut taken, &mut written);
+        let Work { text, store, numbers } = &mut work;
+        let told = self.entry.list(&input, out.slice(), name.slice(), text.slice(), store.slice(), numbers, &mut taken, &mut written);
 
         let right = out.has(&listing);
-        let zero = name.is_all(0) && text.is_all(0) && store.is_all(0) && ends.is_all(0);
+        let zero = name.is_all(0) && work.is_zero();
         self.calls += 1;
         if told != number || taken != wanted || written != listing.len() || !right || !zero {
             self.failures += 1;
@@ -275,7 +305,7 @@ impl Tried<'_> {
             self.list(&[], out, library::NAME, least);
         }
         for (_, work) in works(least) {
-            self.list(&[], 64, library::NAME, work);
+            self.list(&[], 64, library::NAME, &work);
         }
         let mut from = 0;
         while from < rows.len() {
@@ -290,7 +320,7 @@ impl Tried<'_> {
                 self.list(stretch, all, name, least);
             }
             for (_, work) in works(least) {
-                self.list(stretch, all, library::NAME, work);
+                self.list(stretch, all, library::NAME, &work);
             }
             from = end;
         }

@@ -1,77 +1,89 @@
 //! The C functions of libpatchname.a, with what a call of each has to be lent.
 
-// The type and the functions that have it: an extern block can't use the type.
-macro_rules! functions {
-    ($type:ident $parameters:tt -> $result:ty: $($name:ident),*) => {
-        pub type $type = unsafe extern "C" fn $parameters -> $result;
-        unsafe extern "C" {
-            $(fn $name $parameters -> $result;)*
-        }
+unsafe extern "C" {
+    fn patchname_demangle(
+        symbol: *const u8, symbol_length: usize, out: *mut u8, out_length: usize, text: *mut u8, text_length: usize,
+        store: *mut u8, store_length: usize, ends: *mut u16, ends_length: usize, bytes: *mut usize,
+    ) -> u8;
+    fn patchname_normalize(
+        symbol: *const u8, symbol_length: usize, out: *mut u8, out_length: usize, text: *mut u8, text_length: usize,
+        store: *mut u8, store_length: usize, ends: *mut u16, ends_length: usize, words: *mut u16, words_length: usize,
+        tables: *mut u16, tables_length: usize, chains: *mut u16, chains_length: usize, bytes: *mut usize,
+    ) -> u8;
+    fn patchname_list_names(
+        input: *const u8, input_length: usize, out: *mut u8, out_length: usize, name: *mut u8, name_length: usize,
+        text: *mut u8, text_length: usize, store: *mut u8, store_length: usize, ends: *mut u16, ends_length: usize,
+        taken: *mut usize, written: *mut usize,
+    ) -> u8;
+    fn patchname_list_normal_symbols(
+        input: *const u8, input_length: usize, out: *mut u8, out_length: usize, name: *mut u8, name_length: usize,
+        text: *mut u8, text_length: usize, store: *mut u8, store_length: usize, ends: *mut u16, ends_length: usize,
+        words: *mut u16, words_length: usize, tables: *mut u16, tables_length: usize, chains: *mut u16, chains_length: usize,
+        taken: *mut usize, written: *mut usize,
+    ) -> u8;
+}
+
+/// A call: the slice that is read, those that are written, what is told beside the number. A slice is a pointer and a length.
+macro_rules! call {
+    ($function:ident($read:expr; $($written:expr),*; $($told:expr),*)) => {
+        unsafe { $function($read.as_ptr(), $read.len(), $($written.as_mut_ptr(), $written.len(),)* $($told),*) }
     };
 }
-functions!(Function(
-    symbol: *const u8, symbol_length: usize, out: *mut u8, out_length: usize, text: *mut u8, text_length: usize,
-    store: *mut u8, store_length: usize, ends: *mut u16, ends_length: usize, bytes: *mut usize
-) -> u8: patchname_demangle, patchname_normalize);
-functions!(Lister(
-    input: *const u8, input_length: usize, out: *mut u8, out_length: usize, name: *mut u8, name_length: usize,
-    text: *mut u8, text_length: usize, store: *mut u8, store_length: usize, ends: *mut u16, ends_length: usize,
-    taken: *mut usize, written: *mut usize
-) -> u8: patchname_list_names, patchname_list_normal_symbols);
+
+/// No symbol that is longer is read.
+#[allow(dead_code)]
+pub const SYMBOL: usize = 16384;
 
 /// The least length of the slice for one name, of either listing.
 #[allow(dead_code)]
 pub const NAME: usize = 16384;
 
-/// The lengths of text, store and ends.
-pub type Lengths = [usize; 3];
+/// The work slices in the order in which they are lent: the first two have bytes, the others numbers, of which names take `ends` alone.
+#[allow(dead_code)]
+pub const SLICES: [&str; 6] = ["text", "store", "ends", "words", "tables", "chains"];
 
 pub struct Entry {
     pub what: &'static str,
-    pub function: Function,
-    /// The listing of what the function answers.
-    pub lister: Lister,
-    pub least: Lengths,
+    /// The least lengths of the work slices.
+    pub least: &'static [usize],
     /// No result has more bytes.
     pub longest: usize,
 }
 
 pub static ENTRIES: [Entry; 2] = [
-    Entry { what: "names", function: patchname_demangle, lister: patchname_list_names, least: [51200, 65536, 2048], longest: 16384 },
-    Entry {
-        what: "normals",
-        function: patchname_normalize,
-        lister: patchname_list_normal_symbols,
-        least: [51200, 65536, 24576],
-        longest: 4096,
-    },
+    Entry { what: "names", least: &[51200, 65536, 2048], longest: 16384 },
+    Entry { what: "normals", least: &[51200, 65536, 32768, 32768, 32768, 32768], longest: 16384 },
 ];
 
 pub fn entry(what: &str) -> Option<&'static Entry> {
     ENTRIES.iter().find(|e| e.what == what)
 }
 
+// As many slices of numbers are lent as the entry has least lengths for them.
 impl Entry {
     /// The number; the length goes to `bytes`.
-    pub fn call(&self, symbol: &[u8], out: &mut [u8], text: &mut [u8], store: &mut [u8], ends: &mut [u16], bytes: &mut usize) -> u8 {
-        unsafe {
-            (self.function)(
-                symbol.as_ptr(), symbol.len(), out.as_mut_ptr(), out.len(), text.as_mut_ptr(), text.len(),
-                store.as_mut_ptr(), store.len(), ends.as_mut_ptr(), ends.len(), bytes,
-            )
+    pub fn call<N: AsMut<[u16]>>(&self, symbol: &[u8], out: &mut [u8], text: &mut [u8], store: &mut [u8], numbers: &mut [N], bytes: &mut usize) -> u8 {
+        match numbers {
+            [ends] => call!(patchname_demangle(symbol; out, text, store, ends.as_mut(); bytes)),
+            [ends, words, tables, chains] => {
+                call!(patchname_normalize(symbol; out, text, store, ends.as_mut(), words.as_mut(), tables.as_mut(), chains.as_mut(); bytes))
+            }
+            _ => panic!("{} slices of numbers for {}", numbers.len(), self.what),
         }
     }
-    /// The number; the bytes taken of the input and those written go to `taken` and `written`.
+
+    /// The number of the listing of what the function answers; the bytes taken of the input and those written go to `taken` and `written`.
     #[allow(dead_code, clippy::too_many_arguments)]
-    pub fn list(
-        &self, input: &[u8], out: &mut [u8], name: &mut [u8], text: &mut [u8], store: &mut [u8], ends: &mut [u16],
+    pub fn list<N: AsMut<[u16]>>(
+        &self, input: &[u8], out: &mut [u8], name: &mut [u8], text: &mut [u8], store: &mut [u8], numbers: &mut [N],
         taken: &mut usize, written: &mut usize,
     ) -> u8 {
-        unsafe {
-            (self.lister)(
-                input.as_ptr(), input.len(), out.as_mut_ptr(), out.len(), name.as_mut_ptr(), name.len(), text.as_mut_ptr(), text.len(),
-                store.as_mut_ptr(), store.len(), ends.as_mut_ptr(), ends.len(), taken, written,
-            )
+        match numbers {
+            [ends] => call!(patchname_list_names(input; out, name, text, store, ends.as_mut(); taken, written)),
+            [ends, words, tables, chains] => call!(patchname_list_normal_symbols(
+                input; out, name, text, store, ends.as_mut(), words.as_mut(), tables.as_mut(), chains.as_mut(); taken, written
+            )),
+            _ => panic!("{} slices of numbers for {}", numbers.len(), self.what),
         }
     }
 }

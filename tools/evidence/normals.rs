@@ -11,7 +11,7 @@ mod symbols;
 #[path = "thunks.rs"]
 mod thunks;
 
-use catalogue::{Encoding, Maker, Mistake};
+use catalogue::{Encoding, Maker, Mistake, Step};
 use std::collections::{BTreeMap, HashMap, HashSet};
 use std::hash::{DefaultHasher, Hash, Hasher};
 use std::io::{Read, Write};
@@ -32,7 +32,8 @@ const STAND_INS: &[(&str, &str)] = &[
     ("six-first", "6 before the refusals of the reading"),
     ("copied-six", "the symbol itself where 6 is due"),
     ("no-13", "a normal symbol of any length"),
-    ("13-early", "13 from 4,096 bytes on"),
+    ("13-early", "13 from 16,384 bytes on"),
+    ("13-at-4096", "13 past 4,096 bytes"),
     ("index", "references as places in the table of the normal symbol"),
     ("barred", "R on R and the like taken in"),
     ("count", "arguments not counted"),
@@ -102,6 +103,7 @@ fn normal(stand_in: &str, symbol: &[u8]) -> (u8, String) {
         "constant" => (0, "_Z1fv".into()),
         "no-13" => (0, normal),
         "13-early" if normal.len() == catalogue::MOST_NORMAL => (13, String::new()),
+        "13-at-4096" if normal.len() > 4096 => (13, String::new()),
         _ => catalogue::within(normal),
     }
 }
@@ -488,7 +490,7 @@ impl Comparison {
 
 // ---------------------------------------------------------------- kinds of symbols
 
-const KINDS: &[&str] = &["document", "spellings", "large", "damaged", "short", "limits", "thunks", "any"];
+const KINDS: &[&str] = &["document", "spellings", "large", "long", "damaged", "short", "limits", "thunks", "any"];
 
 /// Chances of a reference, of a thousand, in the spellings of one tree.
 const CHANCES: &[usize] = &[0, 300, 700, 1000, 1000];
@@ -515,6 +517,16 @@ fn spellings(seed: u64) -> impl Iterator<Item = Item> {
 fn large(seed: u64) -> impl Iterator<Item = Item> {
     let (mut maker, mut rng) = (Maker::new(seed ^ 0x1a), Rng::new(seed ^ 0x1a49e));
     std::iter::repeat_with(move || spellings_of(&maker.large(), &mut rng)).flatten()
+}
+
+/// Large trees with a long name, so that symbols and normal symbols are of every length up to the limit and past it.
+fn long(seed: u64) -> impl Iterator<Item = Item> {
+    let (mut maker, mut rng) = (Maker::new(seed ^ 0x10), Rng::new(seed ^ 0x10e6));
+    let trees = std::iter::repeat_with(move || {
+        let name = "g".repeat(1 + maker.rng.below(catalogue::MOST_NORMAL));
+        Encoding { name: vec![Step::Name(name.into())], constant: false, ..maker.large() }
+    });
+    trees.flat_map(move |tree| spellings_of(&tree, &mut rng))
 }
 
 fn damaged(seed: u64) -> impl Iterator<Item = Item> {
@@ -547,8 +559,10 @@ fn limits(seed: u64, wide: usize) -> Vec<(&'static str, Vec<Vec<u8>>)> {
         ("catalogue symbols by open readings", bytes(catalogue::depths(about(96)))),
         ("catalogue symbols by entries", bytes(catalogue::full_tables(about(1024), about(32768)))),
         ("catalogue symbols by references", bytes(catalogue::references())),
+        ("catalogue symbols of equal sums", bytes(catalogue::equal_sums())),
         ("catalogue symbols by texts", bytes(catalogue::long_texts(about(16384), about(32768)))),
         ("catalogue symbols by lengths", bytes(lengths(seed, about(4096), 40))),
+        ("long catalogue symbols by lengths", bytes(long_lengths(seed, about(catalogue::MOST_NORMAL), 24))),
     ];
     out.extend(symbols::limits(&mut rng).into_iter().map(|(family, made)| (family, bytes(made))));
     out
@@ -567,12 +581,27 @@ fn lengths(seed: u64, totals: std::ops::RangeInclusive<usize>, trees: usize) -> 
     out
 }
 
+/// Symbols and normal symbols of about as many bytes as they may have.
+fn long_lengths(seed: u64, totals: std::ops::RangeInclusive<usize>, trees: usize) -> Vec<String> {
+    let mut rng = Rng::new(seed ^ 0x2f);
+    let mut out = vec![];
+    for _ in 0..trees {
+        let size = rng.pick(&[60, 100, 500, 900, 970, 1500, 3000, 3900]) + rng.below(60);
+        // none, some, as many as the table takes, more
+        for in_full in [0, 450, 930, 970] {
+            out.extend(catalogue::long_lengths(&mut rng, size, in_full, totals.clone()));
+        }
+    }
+    out
+}
+
 fn compare(comparison: &mut Comparison, kinds: &[String], seed: u64, count: usize) {
     for kind in KINDS.iter().filter(|k| kinds.is_empty() || kinds.iter().any(|chosen| chosen == *k)) {
         match *kind {
             "document" => comparison.kind("document 01 and each rule from both sides", by_hand(), usize::MAX),
             "spellings" => comparison.kind("spellings of trees", spellings(seed), count),
             "large" => comparison.kind("spellings of large trees", large(seed), count / 50),
+            "long" => comparison.kind("spellings of trees with a long name", long(seed), count / 50),
             "damaged" => comparison.kind("damaged spellings", damaged(seed), count / 2),
             "short" => comparison.kind("short", catalogue::short(seed, count / 2).map(Item::of), usize::MAX),
             "limits" => {

@@ -4,7 +4,7 @@
 //! Words: the folder to write to, a file with lines from docs/DIFFERENCES.md's symbols, a file of real symbols, a seed.
 //!
 //! A line of `expected-names` is `=` and the name; `-` where the Rust has none; `>` where its name is longer than 16,384
-//! bytes; `?` where it isn't compared: a symbol past 4,096 bytes, a byte of 128 or more, the number 2^64 - 1 behind S or T.
+//! bytes; `?` where it isn't compared: a symbol past 16,384 bytes, a byte of 128 or more, the number 2^64 - 1 behind S or T.
 
 #[path = "itanium.rs"]
 mod itanium;
@@ -17,6 +17,7 @@ mod thunks;
 
 use std::collections::{BTreeMap, HashSet};
 use symbols::{Grammar, Rng};
+use thunks::MOST_SYMBOL;
 
 /// The symbols of document 01.
 const DOCUMENT: &[&str] = &[
@@ -92,6 +93,20 @@ fn thunks_by_hand(seed: u64) -> Vec<Vec<u8>> {
     out.into_iter().map(String::into_bytes).chain(generated).collect()
 }
 
+/// Symbols longer than 4,096 bytes, both sides of the limit, and both sides of 4,096 bytes by many parts and long words.
+fn long(seed: u64) -> Vec<Vec<u8>> {
+    let limit = [MOST_SYMBOL - 1, MOST_SYMBOL, MOST_SYMBOL + 1];
+    let mut out = spread(&symbols::long_lengths(&[4095, 4096, 4097]), 34);
+    out.extend(spread(&symbols::long_lengths(&limit), 20));
+    out.extend(spread(&symbols::lengths(&limit[1..]), 8));
+    out.extend(symbols::thunk_lengths(&limit[1..]).into_iter().step_by(5));
+    out.extend(spread(&symbols::long_limits(1024..=1025, 16384..=16385, 32768..=32769), 12));
+    out.extend(spread(&symbols::chains(&[8189], &[5460], &[16379]), 10));
+    let mut grown = Grammar::long(seed);
+    let made = std::iter::repeat_with(|| grown.any()).filter(|s| (4097..=MOST_SYMBOL).contains(&s.len())).take(4);
+    out.into_iter().map(String::into_bytes).chain(made).collect()
+}
+
 fn lines_of(file: &str) -> Vec<Vec<u8>> {
     let bytes = std::fs::read(file).unwrap();
     bytes.split(|b| *b == b'\n').filter(|l| !l.is_empty()).map(|l| l.to_vec()).collect()
@@ -103,7 +118,7 @@ fn spread<T: Clone>(list: &[T], count: usize) -> Vec<T> {
 }
 
 fn answer(symbol: &[u8]) -> (u8, Vec<u8>) {
-    if symbol.len() > 4096 {
+    if symbol.len() > MOST_SYMBOL {
         return (1, b"?".to_vec());
     }
     if !symbol.is_ascii() {
@@ -156,6 +171,7 @@ fn groups(differences: &str, real: &str, seed: u64) -> Groups {
     groups.push(("damaged", made.collect()));
     groups.push(("high bytes", (0..40).map(|_| symbols::high(&mut rng, &grammar.any())).collect()));
     groups.push(("thunks", thunks_by_hand(seed)));
+    groups.push(("long", long(seed)));
     // a last line without line feed
     groups.push(("the last", vec![b"_Z4lastv".to_vec()]));
     groups

@@ -15,6 +15,7 @@ mod thunks;
 use catalogue::{Encoding, Maker, Mistake};
 use std::collections::{BTreeMap, HashSet};
 use symbols::{Grammar, Rng};
+use thunks::MOST_SYMBOL;
 
 const CODES: &[u8] = &[0, 1, 2, 3, 4, 5, 6, 7, 8, 9, 10, 11, 13];
 
@@ -87,6 +88,20 @@ fn lengths(seed: u64, trees: usize) -> Vec<Vec<u8>> {
     bytes(out)
 }
 
+/// Symbols longer than 4,096 bytes, and symbols and normal symbols of 16,383 to 16,385 bytes, also normal symbols of symbols shorter than they are.
+fn long(seed: u64) -> Vec<Vec<u8>> {
+    let limit = [MOST_SYMBOL - 1, MOST_SYMBOL, MOST_SYMBOL + 1];
+    let mut rng = Rng::new(seed ^ 0x2f);
+    let mut out = vec![];
+    for (size, in_full) in [(60, 0), (60, 60), (960, 0), (960, 960), (2500, 0), (2500, 900)] {
+        out.extend(catalogue::long_lengths(&mut rng, size, in_full, limit[0]..=limit[2]));
+    }
+    out.extend(spread(&symbols::long_lengths(&[4095, 4096, 4097]), 17));
+    out.extend(spread(&symbols::long_lengths(&limit), 12));
+    out.extend(spread(&symbols::long_limits(1024..=1025, 16384..=16385, 32768..=32769), 8));
+    bytes(out)
+}
+
 /// Thunks of the papers, each as a name is given its number, both sides of the limits, and generated ones.
 fn thunks_by_hand(seed: u64) -> Vec<Vec<u8>> {
     let mut out: Vec<Vec<u8>> = vec![];
@@ -154,6 +169,8 @@ fn groups(real: &str, seed: u64) -> Vec<(&'static str, Vec<Vec<u8>>)> {
     out.push(("real", spread(&lines_of(real), 200)));
     out.push(("high bytes", (0..10).map(|_| symbols::high(&mut rng, &grammar.any())).collect()));
     out.push(("thunks", thunks_by_hand(seed)));
+    out.push(("equal sums", bytes(catalogue::equal_sums())));
+    out.push(("long", long(seed)));
     // a last line without line feed
     out.push(("the last", vec![b"_Z4last1a1bS0_".to_vec()]));
     out

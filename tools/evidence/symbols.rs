@@ -1,6 +1,6 @@
 //! Generators of symbols. A symbol is any bytes without a line feed.
 
-use crate::thunks::{CLONE, NON_VIRTUAL, VIRTUAL};
+use crate::thunks::{CLONE, MOST_SYMBOL, NON_VIRTUAL, VIRTUAL};
 
 // ---------------------------------------------------------------- chance
 
@@ -104,21 +104,29 @@ pub struct Grammar {
     arguments: usize,
     /// Long words and many references, so that limits are met.
     grown: bool,
+    /// How long a grown symbol may become, about, in stretches of 4,096 bytes.
+    stretches: usize,
 }
 
 impl Grammar {
     pub fn new(seed: u64) -> Grammar {
-        Grammar { rng: Rng::new(seed), out: String::new(), left: 0, entries: 0, arguments: 0, grown: false }
+        Grammar { rng: Rng::new(seed), out: String::new(), left: 0, entries: 0, arguments: 0, grown: false, stretches: 1 }
     }
 
+    /// About 4,096 bytes at most.
     pub fn grown(seed: u64) -> Grammar {
         Grammar { grown: true, ..Grammar::new(seed) }
+    }
+
+    /// About as long as a symbol may be.
+    pub fn long(seed: u64) -> Grammar {
+        Grammar { grown: true, stretches: MOST_SYMBOL / 4096, ..Grammar::new(seed) }
     }
 
     pub fn any(&mut self) -> Vec<u8> {
         if self.grown {
             let size = self.rng.pick(&[20, 60, 150, 300, 600]);
-            return self.symbol(size);
+            return self.symbol(size * self.stretches as i32);
         }
         let size = self.rng.pick(&[2, 4, 4, 8, 8, 16, 16, 30, 60, 150]);
         self.symbol(size)
@@ -170,7 +178,7 @@ impl Grammar {
         if self.rng.chance(200) {
             return self.put("v");
         }
-        self.many(Grammar::ty, 1, if self.grown { 40 } else { 4 });
+        self.many(Grammar::ty, 1, if self.grown { 40 * self.stretches } else { 4 });
     }
 
     fn special(&mut self) {
@@ -334,8 +342,8 @@ impl Grammar {
 
     fn source_name(&mut self) {
         if self.grown && self.rng.chance(250) {
-            let length = self.rng.pick(&[20, 100, 100, 500, 1000, 2000, 3200]);
-            if self.out.len() + length < 4000 {
+            let length = self.rng.pick(&[20, 100, 100, 500, 1000, 2000, 3200]) * self.stretches;
+            if self.out.len() + length < 4000 * self.stretches {
                 let word = if length < 200 && self.rng.chance(100) { "\x01" } else { "x" };
                 return self.put(&source(&word.repeat(length)));
             }
@@ -423,7 +431,7 @@ impl Grammar {
 
     fn ty(&mut self) {
         self.left -= 1;
-        if self.left < 0 || self.grown && self.out.len() > 3500 {
+        if self.left < 0 || self.grown && self.out.len() > 3500 * self.stretches {
             return self.letter();
         }
         let references = if self.grown { 60 } else { 11 };
@@ -860,7 +868,7 @@ pub fn opened(rng: &mut Rng, mixed: usize) -> Vec<String> {
     out
 }
 
-/// Symbols of these lengths, at least 4,095.
+/// Symbols of these lengths, at least 4,095, and a byte of 128 or more at the end of a symbol on both sides of the limit, and of 4,096 bytes.
 pub fn lengths(totals: &[usize]) -> Vec<String> {
     let mut out = vec![];
     let shapes = [
@@ -872,21 +880,71 @@ pub fn lengths(totals: &[usize]) -> Vec<String> {
     for &total in totals {
         for (before, unit, after) in shapes {
             let room: usize = total - before.len() - after.len();
-            if total > 4097 && unit == "L" {
-                continue;
-            }
             let fill = unit.repeat(room / unit.len()) + &"1".repeat(room % unit.len());
             out.push(format!("{before}{fill}{after}"));
         }
-        let digits = |n: usize| n.to_string().len();
-        let word = |more: usize| total - more - digits(total - more);
-        out.push(format!("_Z{}", class(word(2))));
-        out.push(format!("_ZN{}C1Ev", class(word(3 + 4))));
-        out.push(format!("_Z1f{}", class(word(4))));
+        out.push(format!("_Z{}", word_of(total - 2)));
+        out.push(format!("_ZN{}C1Ev", word_of(total - 7)));
+        out.push(format!("_Z1f{}", word_of(total - 4)));
     }
-    out.push(format!("_Z{}\u{e9}", class(4088)));
-    out.push(format!("_Z{}\u{e9}", class(4089)));
+    for total in totals.iter().filter(|total| [4096, 4097, MOST_SYMBOL, MOST_SYMBOL + 1].contains(*total)) {
+        out.push(format!("_Z{}\u{e9}", word_of(total - 4)));
+    }
     out
+}
+
+/// A source name that takes so many bytes, the digits of its length counted.
+fn word_of(bytes: usize) -> String {
+    (1..=5).map(|digits| class(bytes - digits)).find(|word| word.len() == bytes).expect("a word of this length")
+}
+
+/// So many classes of one letter, at most 52.
+fn letters(n: usize) -> String {
+    ('a'..='z').chain('A'..='Z').take(n).map(|letter| format!("1{letter}")).collect()
+}
+
+/// Symbols of these lengths by as many parts as there is room for: what is left over goes behind a dot, and into the name.
+fn filled_lengths(totals: &[usize]) -> Vec<String> {
+    let mut out = vec![];
+    // a reference to entry 37 has a byte more than its text, one to entry 1 as many
+    let far = format!("_Z1f{}", letters(38));
+    let shapes = [
+        (far.as_str(), "S10_", ""), ("_Z1f1a1b", "S0_", ""), ("_Z1f1a", "PS_", ""), ("_Z1f", "i", ""), ("_Z1fI", "JE", "E"), ("_Z1fI", "J", "E"),
+        ("_Z1f", "B1a", "v"), ("_Z", "GTt", "1fv"), ("_Z", "GTt", "Th8_1fv"), ("_ZN", "1a", "Ev"), ("_ZN1a", "S_", "Ev"), ("_ZN", "r", "1a1bEv"),
+    ];
+    for &total in totals {
+        for (before, unit, after) in shapes {
+            let room = total - before.len() - after.len();
+            let units = room / unit.len() - 1;
+            let left = room - units * unit.len();
+            let symbol = format!("{before}{}{after}", unit.repeat(units));
+            out.push(format!("{symbol}.{}", "x".repeat(left - 1)));
+            out.extend(symbol.strip_prefix("_Z1f").map(|rest| format!("_Z{}{rest}", class(left + 1))));
+        }
+    }
+    out
+}
+
+/// Symbols of these lengths by a long word in many places.
+fn word_lengths(totals: &[usize]) -> Vec<String> {
+    let mut out = vec![];
+    for &total in totals {
+        for (before, after) in [
+            ("_Z1f", "ii"), ("_Z1fB", ""), ("_Z1fI", "Ev"), ("_ZN1a", "Ev"), ("_ZZ", "vEs"), ("_Z1fPFv", "E"), ("_ZTV", ""), ("_ZGTt", "v"), ("_ZSt", "v"),
+            ("_ZTh8_", "v"), ("_ZTv0_n8_1f", ""), ("_Z1f1aIL", "1EE"), ("_Z1fP", "S_S0_"), ("_Z1fN1a", "E"), ("_Z1fu", "PS_"), ("__Z1fK", ".x"),
+        ] {
+            out.push(format!("{before}{}{after}", word_of(total - before.len() - after.len())));
+        }
+        let half = total / 2;
+        out.push(format!("_ZN{}{}Ev", word_of(half), word_of(total - half - 5)));
+        out.push(format!("_ZZ{}vE{}", word_of(half), word_of(total - half - 5)));
+    }
+    out
+}
+
+/// Symbols of these lengths, most of them within the other limits.
+pub fn long_lengths(totals: &[usize]) -> Vec<String> {
+    filled_lengths(totals).into_iter().chain(word_lengths(totals)).collect()
 }
 
 /// So many entries or arguments, of many shapes, and references to the last of them and past it.
@@ -1087,6 +1145,39 @@ pub fn arguments(totals: std::ops::RangeInclusive<usize>) -> Vec<String> {
     out
 }
 
+/// So many entries and arguments of long words, and texts, entries and arguments of so many bytes, of symbols longer than 4,096 bytes.
+pub fn long_limits(
+    counts: std::ops::RangeInclusive<usize>, texts: std::ops::RangeInclusive<usize>, sums: std::ops::RangeInclusive<usize>,
+) -> Vec<String> {
+    let words = |k: usize, length: usize| (0..k).map(|i| source(&format!("{i:0>length$}").replace('0', "a"))).collect::<String>();
+    let mut out = vec![];
+    for k in counts {
+        out.push(format!("_Z1f{}", words(k, 12)));
+        out.push(format!("_Z1f{}{}", words(k, 12), entry(k - 1)));
+        out.push(format!("_Z1fI{}E", "LyE".repeat(k)));
+        out.push(format!("_Z1fI{}Evv", format!("Li{}E", "7".repeat(11)).repeat(k)));
+        out.push(format!("_Z1f1aI{}E", words(k, 11)));
+    }
+    for total in texts {
+        out.push(format!("_Z1f{}ii", class(total - 13)));
+        out.push(format!("_Z1f{}{}yy", class(total - 8043), class(7998)));
+        out.push(format!("_ZN{}{}Eyy", class(total - 8040), class(7998)));
+        out.push(format!("_Z1fI{}yE", class(total - 23)));
+        out.push(format!("_ZGTt{}v", class(total - 24)));
+        out.push(format!("_ZTh8_{}v", class(total - 23)));
+        // bytes 1 count, though they aren't printed
+        out.push(format!("_Z1f{}ii", source(&"\x01".repeat(total - 13))));
+    }
+    for total in sums {
+        // A, A*, A** and B; A, A::b, A::b::c and B
+        out.push(format!("_Z1f{}PP{}", class(total - 3 * 10900 - 3), class(10900)));
+        out.push(format!("_ZN{}1b1c1dE{}", class(10900), class(total - 3 * 10900 - 9)));
+        // X, then X, X, then X, then digits: past the limit of texts too, but the lists are read first
+        out.push(format!("_Z1f1aIu{}E1bIT_T_E1cIT_E1dILi{}EE", class(8100), "7".repeat(total - 4 * 8100)));
+    }
+    out
+}
+
 /// Readings inside one another that `enter` doesn't count, as deep as a symbol can be.
 pub fn chains(closed: &[usize], words: &[usize], open: &[usize]) -> Vec<String> {
     let mut out = vec![];
@@ -1176,18 +1267,25 @@ pub fn numbers() -> Vec<String> {
 }
 
 pub fn long_chains() -> Vec<String> {
-    chains(
+    let within_4096 = chains(
         &[10, 100, 900, 1363, 2040, 2043, 2044, 2045],
         &[10, 100, 680, 1000, 1360, 1362, 1363],
         &[4080, 4085, 4086, 4087, 4088, 4089, 4090, 4091, 4092, 4093, 4094],
-    )
+    );
+    let longer = chains(&[4000, 8186, 8189, 8190], &[2340, 3276, 5459, 5460, 5461], &[8000, 16376, 16377, 16379, 16380, 16382, 16383]);
+    within_4096.into_iter().chain(longer).collect()
 }
+
+/// Lengths on both sides of the limit, and of the one of 4,096 bytes.
+const LENGTHS: &[usize] = &[4094, 4095, 4096, 4097, 4098, 5000, MOST_SYMBOL - 1, MOST_SYMBOL, MOST_SYMBOL + 1, MOST_SYMBOL + 2, 20000];
 
 /// The families near the limits, by name.
 pub fn limits(rng: &mut Rng) -> Vec<(&'static str, Vec<String>)> {
     vec![
         ("numbers", numbers()),
-        ("lengths", lengths(&[4095, 4096, 4097, 4098, 5000, 8192, 20000, 70000])),
+        ("lengths", lengths(&[&LENGTHS[1..], &[8192, 70000]].concat())),
+        ("lengths by parts and long words", long_lengths(LENGTHS)),
+        ("long symbols by counts, texts and sums", long_limits(1022..=1027, 16380..=16388, 32764..=32772)),
         ("open readings", opened(rng, 40)),
         ("counts", counts(1022..=1027)),
         ("texts", texts(16380..=16388, 7)),
@@ -1254,7 +1352,9 @@ impl Thunks {
         let (tag, offsets) = if self.rng.chance(920) { self.rng.pick(TAGS) } else { self.rng.pick(WRONG_TAGS) };
         let mut out = front + tag;
         for i in 0..offsets {
-            let most = if i == 0 { 4097 - (out.len() + rest.len() + 8).min(4096) } else { 60 };
+            // about the limit, or about 4,096 bytes
+            let limit = if rest.len() % 4 == 0 { MOST_SYMBOL } else { 4096 };
+            let most = if i == 0 { limit + 1 - (out.len() + rest.len() + 8).min(limit) } else { 60 };
             out += &self.offset(most);
         }
         out += &rest;
@@ -1372,7 +1472,7 @@ pub fn thunk_lengths(totals: &[usize]) -> Vec<String> {
 /// Thunks near every limit.
 pub fn thunk_limits(rng: &mut Rng) -> Vec<String> {
     let mut out = thunk_texts(16380..=16388, &[0, 1, 2, 10, 500, 700, 742]);
-    out.extend(thunk_lengths(&[4094, 4095, 4096, 4097, 4098, 5000]));
+    out.extend(thunk_lengths(LENGTHS));
     out.extend(thunked(limits(rng).into_iter().flat_map(|(_, made)| made)));
     out
 }

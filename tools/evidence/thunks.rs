@@ -6,7 +6,8 @@ const LABELS: &[&str] = &["TV", "TT", "TI", "TS", "GTt", "GV", "Th", "Tv"];
 pub const NON_VIRTUAL: &str = "non-virtual thunk to ";
 pub const VIRTUAL: &str = "virtual thunk to ";
 pub const CLONE: &str = "transaction clone for ";
-const MOST_SYMBOL: usize = 4096;
+/// A longer symbol is refused with 1.
+pub const MOST_SYMBOL: usize = 16384;
 const MOST_TEXT: usize = 16384;
 /// The Rust's `SLOT`: counted in a text, not printed.
 const SLOT: char = '\u{1}';
@@ -124,7 +125,7 @@ pub fn base(symbol: &str) -> Option<String> {
     Some(format!("_Z{}", taken_apart(symbol, Mistake::No)?.rest))
 }
 
-// ---------------------------------------------------------------- answers, for symbols of at most 4,096 bytes below 128
+// ---------------------------------------------------------------- answers, for symbols that are not too long, of bytes below 128
 
 /// What the Rust says of the name behind a thunk's offsets, with the labels in front; of any other symbol what it says.
 pub fn named(symbol: &str, rust: fn(&str) -> Option<String>) -> Option<String> {

@@ -16,43 +16,54 @@ mod tests;
 pub use refusal::Refusal;
 
 /// The longest symbol that is read, in bytes.
-pub const SYMBOL_BYTES: usize = 4096;
+pub const SYMBOL_BYTES: usize = 16384;
 
 /// So many bytes are enough for every name.
 pub const NAME_BYTES: usize = 16384;
 
 /// So many bytes are enough for every normal symbol.
-pub const NORMAL_SYMBOL_BYTES: usize = 4096;
+pub const NORMAL_SYMBOL_BYTES: usize = 16384;
 
 /// So many bytes are enough for every line of a listing.
 pub const LINE_BYTES: usize = 16397;
 
-// The least lengths of the work slices. The library clears all of what it is lent, so no more than that is lent.
+// The least lengths of the work slices; a shorter one is refused with 14. The library clears all of what it is lent, so no more than that is lent.
 const TEXT_LENGTH: usize = 51200;
 const STORE_LENGTH: usize = 65536;
 const ENDS_LENGTH: usize = 2048;
-const NORMALIZE_ENDS_LENGTH: usize = 24576;
+/// For normal symbols, of each of the slices of numbers.
+const NORMALIZE_NUMBERS_LENGTH: usize = 32768;
 
-// A slice is a pointer and a length; include/patchname.h says what a caller owes. Slices of Rust fulfil it: they are never null, and those
-// that can be written overlap nothing.
-// The type and the functions that have it: an extern block can't use the type.
-macro_rules! functions {
-    ($type:ident $parameters:tt -> $result:ty: $($name:ident),*) => {
-        type $type = unsafe extern "C" fn $parameters -> $result;
-        extern "C" {
-            $(fn $name $parameters -> $result;)*
-        }
+// include/patchname.h says what a caller owes. Slices of Rust fulfil it: they are never null, and those that can be written overlap nothing.
+extern "C" {
+    fn patchname_demangle(
+        symbol: *const u8, symbol_length: usize, out: *mut u8, out_length: usize, text: *mut u8, text_length: usize,
+        store: *mut u8, store_length: usize, ends: *mut u16, ends_length: usize, bytes: *mut usize,
+    ) -> u8;
+    fn patchname_normalize(
+        symbol: *const u8, symbol_length: usize, out: *mut u8, out_length: usize, text: *mut u8, text_length: usize,
+        store: *mut u8, store_length: usize, ends: *mut u16, ends_length: usize, words: *mut u16, words_length: usize,
+        tables: *mut u16, tables_length: usize, chains: *mut u16, chains_length: usize, bytes: *mut usize,
+    ) -> u8;
+    fn patchname_list_names(
+        input: *const u8, input_length: usize, out: *mut u8, out_length: usize, name: *mut u8, name_length: usize,
+        text: *mut u8, text_length: usize, store: *mut u8, store_length: usize, ends: *mut u16, ends_length: usize,
+        taken: *mut usize, written: *mut usize,
+    ) -> u8;
+    fn patchname_list_normal_symbols(
+        input: *const u8, input_length: usize, out: *mut u8, out_length: usize, name: *mut u8, name_length: usize,
+        text: *mut u8, text_length: usize, store: *mut u8, store_length: usize, ends: *mut u16, ends_length: usize,
+        words: *mut u16, words_length: usize, tables: *mut u16, tables_length: usize, chains: *mut u16, chains_length: usize,
+        taken: *mut usize, written: *mut usize,
+    ) -> u8;
+}
+
+/// A call of the library: the slice that is read, those that are written, what is told beside the number. A slice is a pointer and a length.
+macro_rules! call {
+    ($function:ident($read:expr; $($written:expr),*; $($told:expr),*)) => {
+        unsafe { $function($read.as_ptr(), $read.len(), $($written.as_mut_ptr(), $written.len(),)* $($told),*) }
     };
 }
-functions!(Entry(
-    symbol: *const u8, symbol_length: usize, out: *mut u8, out_length: usize, text: *mut u8, text_length: usize,
-    store: *mut u8, store_length: usize, ends: *mut u16, ends_length: usize, bytes: *mut usize
-) -> u8: patchname_demangle, patchname_normalize);
-functions!(Lister(
-    input: *const u8, input_length: usize, out: *mut u8, out_length: usize, name: *mut u8, name_length: usize,
-    text: *mut u8, text_length: usize, store: *mut u8, store_length: usize, ends: *mut u16, ends_length: usize,
-    taken: *mut usize, written: *mut usize
-) -> u8: patchname_list_names, patchname_list_normal_symbols);
 
 /// What a call is lent for work. The contents don't matter before it, and are zero after it.
 struct Work<'a> {
@@ -61,31 +72,36 @@ struct Work<'a> {
     ends: &'a mut [u16],
 }
 
-/// The length of the result, which is in the front of `out`.
-///
-/// # Safety
-///
-/// `entry` is a function of the library.
-unsafe fn call(entry: Entry, symbol: &[u8], out: &mut [u8], work: Work) -> Result<usize, Refusal> {
-    let mut bytes = 0;
-    let Work { text, store, ends } = work;
-    let number = entry(
-        symbol.as_ptr(),
-        symbol.len(),
-        out.as_mut_ptr(),
-        out.len(),
-        text.as_mut_ptr(),
-        text.len(),
-        store.as_mut_ptr(),
-        store.len(),
-        ends.as_mut_ptr(),
-        ends.len(),
-        &mut bytes,
-    );
+/// The same for normal symbols.
+struct NormalWork<'a> {
+    text: &'a mut [u8],
+    store: &'a mut [u8],
+    /// `ends`, `words`, `tables` and `chains`.
+    numbers: [&'a mut [u16]; 4],
+}
+
+/// What was told, where the number is 0.
+fn told<T>(number: u8, told: T) -> Result<T, Refusal> {
     match number {
-        0 => Ok(bytes),
+        0 => Ok(told),
         _ => Err(Refusal::of(number).expect("the library has another refusal")),
     }
+}
+
+/// The length of the name, which is in the front of `out`.
+fn name_into(symbol: &[u8], out: &mut [u8], work: Work) -> Result<usize, Refusal> {
+    let mut bytes = 0;
+    let Work { text, store, ends } = work;
+    let number = call!(patchname_demangle(symbol; out, text, store, ends; &mut bytes));
+    told(number, bytes)
+}
+
+/// The length of the normal symbol, which is in the front of `out`.
+fn normal_symbol_into(symbol: &[u8], out: &mut [u8], work: NormalWork) -> Result<usize, Refusal> {
+    let mut bytes = 0;
+    let NormalWork { text, store, numbers: [ends, words, tables, chains] } = work;
+    let number = call!(patchname_normalize(symbol; out, text, store, ends, words, tables, chains; &mut bytes));
+    told(number, bytes)
 }
 
 /// How much was taken of the input, and how much was written to the output. Nothing is taken where the input has no line feed.
@@ -97,48 +113,29 @@ pub struct Listed {
     pub written: usize,
 }
 
-/// # Safety
-///
-/// `lister` is a function of the library.
-unsafe fn list(lister: Lister, input: &[u8], out: &mut [u8], name: &mut [u8], work: Work) -> Result<Listed, Refusal> {
+fn list_names_into(input: &[u8], out: &mut [u8], name: &mut [u8], work: Work) -> Result<Listed, Refusal> {
     let mut listed = Listed { taken: 0, written: 0 };
     let Work { text, store, ends } = work;
-    let number = lister(
-        input.as_ptr(),
-        input.len(),
-        out.as_mut_ptr(),
-        out.len(),
-        name.as_mut_ptr(),
-        name.len(),
-        text.as_mut_ptr(),
-        text.len(),
-        store.as_mut_ptr(),
-        store.len(),
-        ends.as_mut_ptr(),
-        ends.len(),
-        &mut listed.taken,
-        &mut listed.written,
-    );
-    match number {
-        0 => Ok(listed),
-        _ => Err(Refusal::of(number).expect("the library has another refusal")),
-    }
+    let number = call!(patchname_list_names(input; out, name, text, store, ends; &mut listed.taken, &mut listed.written));
+    told(number, listed)
 }
 
-fn name_into(symbol: &[u8], out: &mut [u8], work: Work) -> Result<usize, Refusal> {
-    unsafe { call(patchname_demangle, symbol, out, work) }
+fn list_normal_symbols_into(input: &[u8], out: &mut [u8], name: &mut [u8], work: NormalWork) -> Result<Listed, Refusal> {
+    let mut listed = Listed { taken: 0, written: 0 };
+    let NormalWork { text, store, numbers: [ends, words, tables, chains] } = work;
+    let number = call!(patchname_list_normal_symbols(
+        input; out, name, text, store, ends, words, tables, chains; &mut listed.taken, &mut listed.written
+    ));
+    told(number, listed)
 }
 
-fn normal_symbol_into(symbol: &[u8], out: &mut [u8], work: Work) -> Result<usize, Refusal> {
-    unsafe { call(patchname_normalize, symbol, out, work) }
-}
-
-/// Names symbols, one after another. It has all the memory that this takes, 182,272 bytes, allocated once.
+/// Names symbols, one after another. It has all the memory that this takes, 395,264 bytes, allocated once.
 pub struct Demangler {
     out: Box<[u8]>,
     text: Box<[u8]>,
     store: Box<[u8]>,
-    ends: Box<[u16]>,
+    /// `ends`, `words`, `tables` and `chains`.
+    numbers: [Box<[u16]>; 4],
 }
 
 impl Demangler {
@@ -148,13 +145,13 @@ impl Demangler {
             out: vec![0; NAME_BYTES].into(),
             text: vec![0; TEXT_LENGTH].into(),
             store: vec![0; STORE_LENGTH].into(),
-            ends: vec![0; NORMALIZE_ENDS_LENGTH].into(),
+            numbers: std::array::from_fn(|_| vec![0; NORMALIZE_NUMBERS_LENGTH].into()),
         }
     }
 
     /// The name of a symbol. It stays until the next call.
     pub fn name(&mut self, symbol: &[u8]) -> Result<&[u8], Refusal> {
-        let (out, work) = self.lent(ENDS_LENGTH);
+        let (out, work) = self.lent();
         let bytes = name_into(symbol, out, work)?;
         Ok(&self.out[..bytes])
     }
@@ -162,7 +159,7 @@ impl Demangler {
     /// The normal symbol of a catalogue symbol. Two of them have the same one exactly when they have the same name. It stays until the next
     /// call.
     pub fn normal_symbol(&mut self, symbol: &[u8]) -> Result<&[u8], Refusal> {
-        let (out, work) = self.lent(NORMALIZE_ENDS_LENGTH);
+        let (out, work) = self.lent_for_normal_symbols();
         let bytes = normal_symbol_into(symbol, out, work)?;
         Ok(&self.out[..bytes])
     }
@@ -172,19 +169,24 @@ impl Demangler {
     /// `out` is too short for the first one: [`Refusal::OutputTooShort`], never with [`LINE_BYTES`]. For many symbols this is faster than
     /// [`Demangler::name`], which clears the work memory for each.
     pub fn list_names(&mut self, input: &[u8], out: &mut [u8]) -> Result<Listed, Refusal> {
-        let (name, work) = self.lent(ENDS_LENGTH);
-        unsafe { list(patchname_list_names, input, out, name, work) }
+        let (name, work) = self.lent();
+        list_names_into(input, out, name, work)
     }
 
     /// The same with normal symbols in the names' place.
     pub fn list_normal_symbols(&mut self, input: &[u8], out: &mut [u8]) -> Result<Listed, Refusal> {
-        let (name, work) = self.lent(NORMALIZE_ENDS_LENGTH);
-        unsafe { list(patchname_list_normal_symbols, input, out, name, work) }
+        let (name, work) = self.lent_for_normal_symbols();
+        list_normal_symbols_into(input, out, name, work)
     }
 
-    fn lent(&mut self, ends_length: usize) -> (&mut [u8], Work<'_>) {
-        let work = Work { text: &mut self.text, store: &mut self.store, ends: &mut self.ends[..ends_length] };
+    fn lent(&mut self) -> (&mut [u8], Work<'_>) {
+        let work = Work { text: &mut self.text, store: &mut self.store, ends: &mut self.numbers[0][..ENDS_LENGTH] };
         (&mut self.out, work)
+    }
+
+    fn lent_for_normal_symbols(&mut self) -> (&mut [u8], NormalWork<'_>) {
+        let numbers = self.numbers.each_mut().map(|numbers| &mut numbers[..]);
+        (&mut self.out, NormalWork { text: &mut self.text, store: &mut self.store, numbers })
     }
 }
 

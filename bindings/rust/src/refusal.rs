@@ -5,7 +5,7 @@ use std::fmt;
 #[derive(Clone, Copy, PartialEq, Eq, Hash, Debug)]
 #[repr(u8)]
 pub enum Refusal {
-    /// The symbol is longer than 4,096 bytes.
+    /// The symbol is longer than 16,384 bytes.
     SymbolTooLong = 1,
     /// The symbol has a byte of 128 or more.
     HighByte = 2,
@@ -29,9 +29,10 @@ pub enum Refusal {
     TextTooLong = 11,
     /// The output is shorter than the result: never that of a [`Demangler`](crate::Demangler).
     OutputTooShort = 12,
-    /// The normal symbol is longer than 4,096 bytes. Only normal symbols are refused so.
+    /// The normal symbol is longer than 16,384 bytes. Only normal symbols are refused so.
     NormalSymbolTooLong = 13,
-    /// A work slice is below its least length: never one of a [`Demangler`](crate::Demangler).
+    /// A work slice is below its least length: never one of a [`Demangler`](crate::Demangler). A caller of the C functions that lends what was enough for
+    /// normal symbols of 4,096 bytes, an `ends` of 24,576 numbers, gets it.
     WorkTooShort = 14,
 }
 
@@ -67,7 +68,7 @@ impl Refusal {
     /// What it says.
     pub fn message(self) -> &'static str {
         match self {
-            Refusal::SymbolTooLong => "the symbol is longer than 4,096 bytes",
+            Refusal::SymbolTooLong => "the symbol is longer than 16,384 bytes",
             Refusal::HighByte => "the symbol has a byte of 128 or more",
             Refusal::NoPrefix => "neither _Z nor __Z stands in front",
             Refusal::Unreadable => "no rule of the reading fits",
@@ -79,7 +80,7 @@ impl Refusal {
             Refusal::ArgumentsFull => "a template argument past 1,024, or template arguments past 32,768 bytes",
             Refusal::TextTooLong => "a text longer than 16,384 bytes",
             Refusal::OutputTooShort => "the output is shorter than the result",
-            Refusal::NormalSymbolTooLong => "the normal symbol is longer than 4,096 bytes",
+            Refusal::NormalSymbolTooLong => "the normal symbol is longer than 16,384 bytes",
             Refusal::WorkTooShort => "a work slice is below its least length",
         }
     }

@@ -62,8 +62,12 @@ fn refusals_of_document_01() {
 
 #[test]
 fn limits_of_names() {
-    assert_eq!(named(&format!("_Z1fv.{}", times("!", 4090))), Ok("f(void)".to_string()));
-    assert_eq!(named(&format!("_Z1fv.{}", times("!", 4091))), Err(Refusal::SymbolTooLong));
+    for length in [4096, 4097, SYMBOL_BYTES - 1, SYMBOL_BYTES] {
+        assert_eq!(named(&format!("_Z1fv.{}", times("!", length - 6))), Ok("f(void)".to_string()), "{length}");
+    }
+    assert_eq!(named(&format!("_Z1fv.{}", times("!", SYMBOL_BYTES - 5))), Err(Refusal::SymbolTooLong));
+    assert_eq!(named(&format!("_Z1fv.{}\u{80}", times("!", SYMBOL_BYTES - 7))), Err(Refusal::SymbolTooLong));
+    assert_eq!(named(&format!("_Z1fv.{}\u{80}", times("!", SYMBOL_BYTES - 8))), Err(Refusal::HighByte));
     assert_eq!(named(&format!("_Z1f{}", times("1a", 1024))).map(|name| name.len()), Ok(1024 * 3 + 1));
     assert_eq!(named(&format!("_Z1f{}", times("1a", 1025))), Err(Refusal::TableFull));
     assert_eq!(named(&format!("_Z1fI{}E", times("i", 1024))).map(|name| name.len()), Ok(1024 * 5 + 1));
@@ -100,7 +104,7 @@ fn usable_after_any_answer() {
         format!("_Z1fI{}E", times("i", 1025)),
         format!("_Z1f{}{}", long_word(4000), times("S_", 4)),
         format!("_Z1f{}i", times("P", 96)),
-        times("a", 5000),
+        times("a", SYMBOL_BYTES + 1),
         "_Z1fS_".to_string(),
         "_ZTV1a1b".to_string(),
     ];
@@ -108,8 +112,16 @@ fn usable_after_any_answer() {
         assert!(demangler.name(symbol.as_bytes()).is_err());
         assert_eq!(demangler.name(METHOD).map(text_of), Ok("a::b(int) const".to_string()));
         assert!(demangler.text.iter().chain(demangler.store.iter()).all(|byte| *byte == 0));
-        assert!(demangler.ends.iter().all(|number| *number == 0));
+        assert!(demangler.numbers.iter().all(|slice| slice.iter().all(|number| *number == 0)));
     }
+}
+
+#[test]
+fn a_name_as_long_as_a_symbol_may_be() {
+    let symbol = format!("_Z{}", long_word(SYMBOL_BYTES - 7));
+    assert_eq!(symbol.len(), SYMBOL_BYTES);
+    assert_eq!(named(&symbol), Ok(times("a", SYMBOL_BYTES - 7)));
+    assert_eq!(named(&format!("_Z{}", long_word(SYMBOL_BYTES - 6))), Err(Refusal::SymbolTooLong));
 }
 
 #[test]
@@ -184,16 +196,40 @@ mod normal_symbols {
         assert_eq!(normal(&deep), Err(Refusal::TooDeep));
     }
 
-    /// 53 classes, the last of them 971 times more: of these each becomes `S1F_`, longer by two bytes.
-    fn growing(letters: usize) -> String {
+    /// A name of so many bytes, 53 classes, and the last of them so many times more: of these each becomes `S1F_`, longer by two bytes.
+    fn growing(name: usize, more: usize) -> String {
         let classes: String = ('a'..='z').chain('A'..='Z').chain(['_']).map(|letter| format!("1{letter}")).collect();
-        format!("_Z1f{classes}{}{}", times("1_", 971), times("i", letters))
+        format!("_Z{}{classes}{}", long_word(name), times("1_", more))
     }
 
     #[test]
     fn limits() {
-        assert_eq!(normal(&growing(102)).map(|symbol| symbol.len()), Ok(NORMAL_SYMBOL_BYTES));
-        assert_eq!(normal(&growing(103)), Err(Refusal::NormalSymbolTooLong));
+        for (name, more) in [(12387, 971), (16071, 50)] {
+            let (full, over) = (growing(name, more), growing(name + 1, more));
+            assert_eq!(full.len(), NORMAL_SYMBOL_BYTES - 2 * more);
+            assert_eq!(normal(&full).map(|symbol| symbol.len()), Ok(NORMAL_SYMBOL_BYTES), "{name}");
+            assert_eq!(normal(&over), Err(Refusal::NormalSymbolTooLong), "{name}");
+            assert_eq!(named(&over).map(|name| name.len()), Ok(name + 1 + 2 + 3 * (53 + more) - 2));
+        }
+    }
+
+    #[test]
+    fn longer_than_4096_bytes() {
+        let symbol = growing(100, 1000 - 29);
+        assert_eq!(symbol.len(), 2 + 103 + 2 * 1024);
+        assert_eq!(normal(&symbol).map(|symbol| symbol.len()), Ok(2 + 103 + 2 * 53 + 4 * 971));
+        let full = format!("_Z{}", long_word(SYMBOL_BYTES - 7));
+        assert_eq!(normal(&full), Ok(full.clone()));
+        assert_eq!(normal(&format!("_Z{}", long_word(SYMBOL_BYTES - 6))), Err(Refusal::SymbolTooLong));
+    }
+
+    #[test]
+    fn a_normal_symbol_is_its_own() {
+        let mut demangler = Demangler::new();
+        let normal = demangler.normal_symbol(growing(12387, 971).as_bytes()).unwrap().to_vec();
+        assert_eq!(demangler.normal_symbol(&normal), Ok(&normal[..]));
+        let name = demangler.name(&normal).unwrap().to_vec();
+        assert_eq!(demangler.name(growing(12387, 971).as_bytes()), Ok(&name[..]));
     }
 
     #[test]
@@ -205,15 +241,36 @@ mod normal_symbols {
         assert_eq!(demangler.normal_symbol(b"_Z1fv"), Ok(&b"_Z1fv"[..]));
     }
 
+    /// An output of so many bytes and slices of numbers of so many.
+    fn run(out: usize, numbers: [usize; 4]) -> (Result<usize, Refusal>, Vec<u8>) {
+        let mut out = vec![7; out];
+        let mut numbers = numbers.map(|length| vec![7; length]);
+        let numbers = numbers.each_mut().map(|slice| &mut slice[..]);
+        let work = NormalWork { text: &mut vec![7; TEXT_LENGTH], store: &mut vec![7; STORE_LENGTH], numbers };
+        (normal_symbol_into(b"_Z1fP1aP1a", &mut out, work), out)
+    }
+
+    const FULL: [usize; 4] = [NORMALIZE_NUMBERS_LENGTH; 4];
+
     #[test]
     fn outputs_and_work_slices() {
-        let run = |out: usize, ends: usize| {
-            let work = Work { text: &mut vec![7; TEXT_LENGTH], store: &mut vec![7; STORE_LENGTH], ends: &mut vec![7; ends] };
-            normal_symbol_into(b"_Z1fP1aP1a", &mut vec![7; out], work)
-        };
-        assert_eq!(run(10, NORMALIZE_ENDS_LENGTH), Ok(10));
-        assert_eq!(run(9, NORMALIZE_ENDS_LENGTH), Err(Refusal::OutputTooShort));
-        assert_eq!(run(10, NORMALIZE_ENDS_LENGTH - 1), Err(Refusal::WorkTooShort));
+        assert_eq!(run(10, FULL), (Ok(10), b"_Z1fP1aS0_".to_vec()));
+        assert_eq!(run(9, FULL), (Err(Refusal::OutputTooShort), vec![7; 9]));
+        for i in 0..4 {
+            let with = |length: usize| std::array::from_fn(|k| if k == i { length } else { FULL[k] });
+            assert_eq!(run(10, with(NORMALIZE_NUMBERS_LENGTH + 1)).0, Ok(10), "{i}");
+            for length in [NORMALIZE_NUMBERS_LENGTH - 1, 0] {
+                assert_eq!(run(10, with(length)), (Err(Refusal::WorkTooShort), vec![7; 10]), "{i}, {length}");
+            }
+        }
+    }
+
+    /// What was enough for 4,096 bytes.
+    #[test]
+    fn the_work_slices_of_shorter_symbols() {
+        for numbers in [[24576, 0, 0, 0], [24576; 4]] {
+            assert_eq!(run(10, numbers), (Err(Refusal::WorkTooShort), vec![7; 10]));
+        }
     }
 }
 
@@ -244,9 +301,15 @@ fn listing_with_little_output() {
 #[test]
 fn listing_with_little_work() {
     let mut demangler = Demangler::new();
-    let (name, work) = demangler.lent(ENDS_LENGTH - 1);
-    let listed = unsafe { list(patchname_list_names, b"_Z1fv\n", &mut [7; 12], name, work) };
-    assert_eq!(listed, Err(Refusal::WorkTooShort));
+    let (name, Work { text, store, ends }) = demangler.lent();
+    let work = Work { text, store, ends: &mut ends[1..] };
+    assert_eq!(list_names_into(b"_Z1fv\n", &mut [7; 12], name, work), Err(Refusal::WorkTooShort));
+    for i in 0..4 {
+        let (name, NormalWork { text, store, mut numbers }) = demangler.lent_for_normal_symbols();
+        numbers[i] = &mut std::mem::take(&mut numbers[i])[1..];
+        let work = NormalWork { text, store, numbers };
+        assert_eq!(list_normal_symbols_into(b"_Z1fv\n", &mut [7; 12], name, work), Err(Refusal::WorkTooShort), "{i}");
+    }
 }
 
 #[test]
@@ -255,10 +318,10 @@ fn listing_leaves_the_memory_zero() {
     demangler.out.fill(7);
     demangler.text.fill(7);
     demangler.store.fill(7);
-    demangler.ends.fill(7);
+    demangler.numbers.iter_mut().for_each(|slice| slice.fill(7));
     let mut out = vec![0; 3 * LINE_BYTES];
     let listed = demangler.list_normal_symbols(b"_Z1fP1aPS_\n_Z1f1aIiE1b\n_ZN1a1bEi\n", &mut out);
     assert_eq!(listed.map(|l| l.taken), Ok(33));
     assert!(demangler.out.iter().chain(demangler.text.iter()).chain(demangler.store.iter()).all(|&x| x == 0));
-    assert!(demangler.ends.iter().all(|&x| x == 0));
+    assert!(demangler.numbers.iter().all(|slice| slice.iter().all(|&x| x == 0)));
 }
