@@ -118,7 +118,8 @@ pub extern "C" fn patchname_list_normal_symbols(
 ) -> u8
     ensures { λ r. ⌜ Returns-listing (listed Symbols (now (input .entry)) (now (out .entry))
         (normal-slices (now (name .entry)) (now (text .entry)) (now (store .entry)) (now (ends .entry)) (now (words .entry)) (now (tables .entry)) (now (chains .entry))))
-        (now (out .exit)) (normal-slices (now (name .exit)) (now (text .exit)) (now (store .exit)) (now (ends .exit)) (now (words .exit)) (now (tables .exit)) (now (chains .exit))) r (now (taken .exit)) (now (written .exit)) ⌝ }
+        (now (out .exit)) (normal-slices (now (name .exit)) (now (text .exit)) (now (store .exit)) (now (ends .exit)) (now (words .exit)) (now (tables .exit)) (now (chains .exit)))
+        r (now (taken .exit)) (now (written .exit)) ⌝ }
 {
     let listed = list_lines(
         Kind::Symbols,

@@ -37,10 +37,12 @@ unfolding normal-after length-of
 after-short s (named x) = told-short (normal-in (classify s))
 after-short s (refusal r) = omega arith
 
-normal-is : (l : Slices) (s : Text) → most-text-bytes ≤ length (l .out) → normal-work-fits most-symbol-bytes (lent l) ≡ true → normal-answer most-symbol-bytes (lent l) s ≡ normal-symbol most-symbol-bytes s
+normal-is : (l : Slices) (s : Text) → most-text-bytes ≤ length (l .out) → normal-work-fits most-symbol-bytes (lent l) ≡ true
+    → normal-answer most-symbol-bytes (lent l) s ≡ normal-symbol most-symbol-bytes s
 unfolding normal-answer normal-symbol demangle if_then_else_
 normal-is l s h k = ap (front most-symbol-bytes s) (λ i u. step u i) ∙ normal-behind s where
-  step : (u : Text) → (if normal-work-fits most-symbol-bytes (lent l) then within (length (l .out)) (normal-after most-symbol-bytes s (mangled-name u)) else refusal 14) ≡ normal-after most-symbol-bytes s (mangled-name u)
+  step : (u : Text) → (if normal-work-fits most-symbol-bytes (lent l) then within (length (l .out)) (normal-after most-symbol-bytes s (mangled-name u)) else refusal 14)
+      ≡ normal-after most-symbol-bytes s (mangled-name u)
   step u =
       let a = normal-after most-symbol-bytes s (mangled-name u) in
       ap (λ (q : Bool). if q then within (length (l .out)) a else refusal 14) k

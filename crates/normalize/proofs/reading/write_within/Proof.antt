@@ -1,6 +1,6 @@
 -- `normalize::reading::write_within` meets its contract: what is cut from the work slices has its length. Assumes nothing.
 use mathlib.Core.Path.{sym}
-use lib.Seq.{length-take-le}
+use lib.Seq.{length-front, length-take-le}
 use borrow.Author.Needs.{needs}
 use Rattle.catalogue.specs.Answer.{least-numbers}
 use Rattle.normal_steps.specs.Limits.{out-length}
@@ -26,12 +26,23 @@ write-requires : tie.Need-write-requires
 write-requires c κs =
     let a = c .before .before .before .before .before .before .before .before .before .before .before .before .before in
     let n = a .pre .1 in (
-      (a .pre .0 .0, (length-take-le out-length (a .args .store .now) (a .pre .0 .1 .0), length-take-le least-numbers (a .args .ends .now) (a .pre .0 .1 .1))),
-      (length-take-le least-numbers (a .args .words .now) (n .words), (length-take-le least-numbers (a .args .tables .now) (n .tables), length-take-le least-numbers (a .args .chains .now) (n .chains))),
+      a .pre .0 .0,
+      (
+        length-take-le out-length (a .args .store .now) (a .pre .0 .1 .0),
+        record {
+          ends = length-take-le least-numbers (a .args .ends .now) (a .pre .0 .1 .1);
+          words = length-take-le least-numbers (a .args .words .now) (n .words);
+          tables = length-take-le least-numbers (a .args .tables .now) (n .tables);
+          chains = length-take-le least-numbers (a .args .chains .now) (n .chains);
+        },
+      ),
     )
 
 returns : tie.Need-returns
 returns c = c .before .before .before .before .before .before .before .before .before .before .before .before .write .ensures
+
+same-length-6 : tie.Need-same-length-6
+same-length-6 c = search (length-front, c .before .before .before .before .before .before .before .before .before .before .before .before .write .kept)
 
 pub write-within-spec : {M : Type 1} → statement M
 write-within-spec =
@@ -53,5 +64,5 @@ write-within-spec =
     (λ c. search needs)
     (λ c. search needs)
     (λ c. search needs)
-    (λ c. search needs)
+    same-length-6
     returns)
