@@ -9,10 +9,12 @@
 //! ```
 #![warn(missing_docs)]
 
+mod functions;
 mod refusal;
 #[cfg(test)]
 mod tests;
 
+use functions::{call, patchname_demangle, patchname_list_names, patchname_list_normal_symbols, patchname_normalize};
 pub use refusal::Refusal;
 
 /// The longest symbol that is read, in bytes.
@@ -33,37 +35,6 @@ const STORE_LENGTH: usize = 65536;
 const ENDS_LENGTH: usize = 2048;
 /// For normal symbols, of each of the slices of numbers.
 const NORMALIZE_NUMBERS_LENGTH: usize = 32768;
-
-// include/patchname.h says what a caller owes. Slices of Rust fulfil it: they are never null, and those that can be written overlap nothing.
-extern "C" {
-    fn patchname_demangle(
-        symbol: *const u8, symbol_length: usize, out: *mut u8, out_length: usize, text: *mut u8, text_length: usize,
-        store: *mut u8, store_length: usize, ends: *mut u16, ends_length: usize, bytes: *mut usize,
-    ) -> u8;
-    fn patchname_normalize(
-        symbol: *const u8, symbol_length: usize, out: *mut u8, out_length: usize, text: *mut u8, text_length: usize,
-        store: *mut u8, store_length: usize, ends: *mut u16, ends_length: usize, words: *mut u16, words_length: usize,
-        tables: *mut u16, tables_length: usize, chains: *mut u16, chains_length: usize, bytes: *mut usize,
-    ) -> u8;
-    fn patchname_list_names(
-        input: *const u8, input_length: usize, out: *mut u8, out_length: usize, name: *mut u8, name_length: usize,
-        text: *mut u8, text_length: usize, store: *mut u8, store_length: usize, ends: *mut u16, ends_length: usize,
-        taken: *mut usize, written: *mut usize,
-    ) -> u8;
-    fn patchname_list_normal_symbols(
-        input: *const u8, input_length: usize, out: *mut u8, out_length: usize, name: *mut u8, name_length: usize,
-        text: *mut u8, text_length: usize, store: *mut u8, store_length: usize, ends: *mut u16, ends_length: usize,
-        words: *mut u16, words_length: usize, tables: *mut u16, tables_length: usize, chains: *mut u16, chains_length: usize,
-        taken: *mut usize, written: *mut usize,
-    ) -> u8;
-}
-
-/// A call of the library: the slice that is read, those that are written, what is told beside the number. A slice is a pointer and a length.
-macro_rules! call {
-    ($function:ident($read:expr; $($written:expr),*; $($told:expr),*)) => {
-        unsafe { $function($read.as_ptr(), $read.len(), $($written.as_mut_ptr(), $written.len(),)* $($told),*) }
-    };
-}
 
 /// What a call is lent for work. The contents don't matter before it, and are zero after it.
 struct Work<'a> {

@@ -28,6 +28,10 @@ pub enum Alphabet {
 fn word_byte(c: u8) -> bool
     ensures { λ r. ⌜ r ≡ word-byte c ⌝ }
 {
+    // small letters first, since most bytes of names are
+    if b'a' <= c {
+        return c <= b'z';
+    }
     if numbers::digit_value(c) < 36 {
         return true;
     }

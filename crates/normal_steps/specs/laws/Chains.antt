@@ -13,7 +13,7 @@ use Rattle.catalogue.specs.Answer.{least-numbers}
 use Rattle.normal_nodes.specs.Nodes.{Node, same-node}
 use Rattle.normal_nodes.specs.laws.Nodes.{same-node-eq}
 use Rattle.normal_steps.specs.Limits.{middle}
-use Rattle.normal_steps.specs.Chains.{buckets, summed, bucket-of, Reaches, Linked}
+use Rattle.normal_steps.specs.Chains.{buckets, summed, ending, bucket-of, Reaches, Linked}
 
 summed-below : (k : ℕ) (t : Text) → k < buckets → summed k t < buckets
 unfolding summed
@@ -22,7 +22,7 @@ summed-below k (c ∷ t) l = summed-below ((31 * k + c) % buckets) t (omega arit
 
 pub bucket-below : (x : Node) → bucket-of x < buckets
 unfolding bucket-of
-bucket-below x = summed-below ((31 * x .of + x .tag) % buckets) (x .word) (omega arith)
+bucket-below x = summed-below ((31 * x .of + x .tag) % buckets) (ending (x .word)) (omega arith)
 
 -- ---------------------------------------------------------------- the search
 

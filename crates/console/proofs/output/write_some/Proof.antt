@@ -26,7 +26,9 @@ inside c =
     listed-inside (s .args .kind) (s .args .lines .now) (s .args .out .now) (s .args .buffer .from) (s .args .buffer .start) (work c) (c .list-lines .ensures) (p .first) (omega (arith, p .second, p .inside))
 
 add-t18 : tie.Need-add-t18
-add-t18 c = let s = at-start (c .before .before .before .before .before .before .before .before .before .before .before .before .before .before .before .before .before) in let p = s .pre .0 .0 in record { fits = omega (arith, (inside (c .before .before .before .before .before .before .before .before .before .before .before .before .before .before .before .before .before)) .0, p .second, p .inside, s .good .1 .0) }
+add-t18 c =
+    let b = c .before .before .before .before .before .before .before .before .before .before .before .before .before .before .before .before .before in
+    let s = at-start b in let p = s .pre .0 .0 in record { fits = omega (arith, (inside b) .0, p .second, p .inside, s .good .1 .0) }
 
 write-front-requires : tie.Need-write-front-requires
 write-front-requires c κs = omega (arith, (inside (c .before .before .before .before .before .before .before .before .before .before .before .before .before .before .before .before .before .before)) .1, c .before .before .before .before .before .before .before .before .before .before .before .before .before .before .before .before .before .before .list-lines .kept .1 .1 .0)

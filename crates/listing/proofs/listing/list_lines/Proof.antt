@@ -9,11 +9,15 @@ use Rattle.listing.proofs.listing.list_lines.Tie as tie
 
 returns : tie.Need-returns
 returns c =
-    let a = c .before .before .before .before .before .before .before .before .before .before .before .before .before .before .before .before .before .before .before .before .before .before .before .before .before .before .before .before .before .before .before .before .before .before .before .before .before .before .before .before .before .before .before .before .before .before .before .before .before .before .before .before .before .before .before .before .before .before .args in
-    let l = c .before .before .before .before .before .before .before .before .before .before .before .before .before .before .before .before .before .before .before .before .before .before .before .before .before .before .before .before .before .before .before .before .before .before .before .before .before .before .before .before .list-uncleared in
-    let n = c .before .before .before .before .before .before .before .before .before .before .before .before .before .before .before .before .before .before .before .before .before .before .clear in
-    let z = c .before .before .before .before .before .before .before .before .before .before .before .before .before .before .before .before .clear2 in
-    let m = c .before .before .before .before .before .before .clear-numbers in
+    let at-clear-numbers = c .before .before .before .before .before .before in let at-clear2 = at-clear-numbers .before .before .before .before .before .before .before .before .before .before in
+    let at-clear = at-clear2 .before .before .before .before .before .before in
+    let at-list-uncleared = at-clear .before .before .before .before .before .before .before .before .before .before .before .before .before .before .before .before .before .before in
+    let at-start = at-list-uncleared .before .before .before .before .before .before .before .before .before .before .before .before .before .before .before .before .before .before in
+    let a = at-start .args in
+    let l = at-list-uncleared .list-uncleared in
+    let n = at-clear .clear in
+    let z = at-clear2 .clear2 in
+    let m = at-clear-numbers .clear-numbers in
     let k = l .kept .1 .1 .1 in
     let j = k .1 .1 .1 .1 in
     goes-lists _ _ (normal-slices (a .name .now) (a .text .now) (a .store .now) (a .ends .now) (a .words .now) (a .tables .now) (a .chains .now))

@@ -19,7 +19,11 @@ write-lines-requires : tie.Need-write-lines-requires
 write-lines-requires c κs = least-lengths _ (work (c .before .before .before .before .before .before .before .before .before .before .before .before .before .before .before .before .before .before .before)) (c .before .before .before .before .before .before .before .before .before .long-enough .ensures) (not-false _ (c .before .before .before .before .before .before .before .before .if1 .left))
 
 returns-2 : tie.Need-returns-2
-returns-2 c = goes-some _ (work (c .before .before .before .before .before .before .before .before .before .before .before .before .before .before .before .before .before .before .before .before .before .before .before .before .before .before .before .before .before .before .before .before .before .before .before .before)) (c .before .before .before .before .before .before .before .before .before .before .before .before .before .before .before .before .before .before .before .before .before .before .before .before .before .before .long-enough .ensures) _ (not-false _ (c .before .before .before .before .before .before .before .before .before .before .before .before .before .before .before .before .before .before .before .before .before .before .before .before .before .if1 .left)) (c .before .before .before .before .before .before .before .before .before .before .before .before .before .before .before .before .write-lines .ensures)
+returns-2 c =
+    let at-write-lines = c .before .before .before .before .before .before .before .before .before .before .before .before .before .before .before .before in
+    let at-if1 = at-write-lines .before .before .before .before .before .before .before .before .before in
+    let at-before = at-if1 .before .before .before .before .before .before .before .before .before .before in
+    goes-some _ (work (at-before .before)) (at-if1 .before .long-enough .ensures) _ (not-false _ (at-if1 .if1 .left)) (at-write-lines .write-lines .ensures)
 
 pub list-uncleared-spec : {M : Type 1} → statement M
 list-uncleared-spec =

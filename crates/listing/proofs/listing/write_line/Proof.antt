@@ -19,11 +19,13 @@ slice-aggregate-print-line c = sym (length-take-le _ _ (omega (arith, short-told
 
 print-line-requires : tie.Need-print-line-requires
 print-line-requires c κs =
-    let a = c .before .before .before .before .before .before .before .before .before .before .before .before .before .before .before .before .before .before .answer in
+    let at-answer = c .before .before .before .before .before .before .before .before .before .before .before .before .before .before .before .before .before .before in
+    let at-start = at-answer .before .before .before .before .before .before .before .before .before .before .before .before .before .before .before .before .before in
+    let a = at-answer .answer in
     let e = short-told _ _ (a .ensures) in
     let b = c .before .before .bytes .ensures in
-    let k = length-take-le (c .before .before .bytes .result) (a .last .1 .1 .0) (omega (arith, e, b, a .kept .1 .1 .0, c .before .before .before .before .before .before .before .before .before .before .before .before .before .before .before .before .before .before .before .before .before .before .before .before .before .before .before .before .before .before .before .before .before .before .before .pre .1 .name)) in
-    (omega (arith, c .before .before .before .before .before .before .before .before .before .before .before .before .before .before .before .before .before .before .before .before .before .before .before .before .before .before .before .before .before .before .before .before .before .before .before .pre .0), (search needs, omega (arith, k, e, b)))
+    let k = length-take-le (c .before .before .bytes .result) (a .last .1 .1 .0) (omega (arith, e, b, a .kept .1 .1 .0, at-start .pre .1 .name)) in
+    (omega (arith, at-start .pre .0), (search needs, omega (arith, k, e, b)))
 
 returns : tie.Need-returns
 unfolding listing-line

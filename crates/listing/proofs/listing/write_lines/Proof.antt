@@ -31,28 +31,52 @@ returns : tie.Need-returns Inv-loop μ-loop
 returns c = gone-feed (c .before .before .before .loop .inv .0) (omega (arith, c .before .line-end .ensures .0))
 
 same-length-9 : tie.Need-same-length-9 Inv-loop μ-loop
-same-length-9 c = omega (arith, c .before .before .before .before .before .before .before .before .before .before .before .before .before .before .before .before .before .before .write-line .kept, c .before .before .before .before .before .before .before .before .before .before .before .before .before .before .before .before .before .before .before .before .before .before .before .before .before .before .before .before .before .before .before .loop .inv)
+same-length-9 c =
+    let at-write-line = c .before .before .before .before .before .before .before .before .before .before .before .before .before .before .before .before .before .before in
+    let at-loop = at-write-line .before .before .before .before .before .before .before .before .before .before .before .before .before in
+    omega (arith, at-write-line .write-line .kept, at-loop .loop .inv)
 
 same-length-10 : tie.Need-same-length-10 Inv-loop μ-loop
-same-length-10 c = omega (arith, c .before .before .before .before .before .before .before .before .before .before .before .before .before .before .before .before .before .before .write-line .kept, c .before .before .before .before .before .before .before .before .before .before .before .before .before .before .before .before .before .before .before .before .before .before .before .before .before .before .before .before .before .before .before .loop .inv)
+same-length-10 c =
+    let at-write-line = c .before .before .before .before .before .before .before .before .before .before .before .before .before .before .before .before .before .before in
+    let at-loop = at-write-line .before .before .before .before .before .before .before .before .before .before .before .before .before in
+    omega (arith, at-write-line .write-line .kept, at-loop .loop .inv)
 
 same-length-11 : tie.Need-same-length-11 Inv-loop μ-loop
-same-length-11 c = omega (arith, c .before .before .before .before .before .before .before .before .before .before .before .before .before .before .before .before .before .before .write-line .kept, c .before .before .before .before .before .before .before .before .before .before .before .before .before .before .before .before .before .before .before .before .before .before .before .before .before .before .before .before .before .before .before .loop .inv)
+same-length-11 c =
+    let at-write-line = c .before .before .before .before .before .before .before .before .before .before .before .before .before .before .before .before .before .before in
+    let at-loop = at-write-line .before .before .before .before .before .before .before .before .before .before .before .before .before in
+    omega (arith, at-write-line .write-line .kept, at-loop .loop .inv)
 
 same-length-12 : tie.Need-same-length-12 Inv-loop μ-loop
-same-length-12 c = omega (arith, c .before .before .before .before .before .before .before .before .before .before .before .before .before .before .before .before .before .before .write-line .kept, c .before .before .before .before .before .before .before .before .before .before .before .before .before .before .before .before .before .before .before .before .before .before .before .before .before .before .before .before .before .before .before .loop .inv)
+same-length-12 c =
+    let at-write-line = c .before .before .before .before .before .before .before .before .before .before .before .before .before .before .before .before .before .before in
+    let at-loop = at-write-line .before .before .before .before .before .before .before .before .before .before .before .before .before in
+    omega (arith, at-write-line .write-line .kept, at-loop .loop .inv)
 
 same-length-13 : tie.Need-same-length-13 Inv-loop μ-loop
-same-length-13 c = omega (arith, c .before .before .before .before .before .before .before .before .before .before .before .before .before .before .before .before .before .before .write-line .kept, c .before .before .before .before .before .before .before .before .before .before .before .before .before .before .before .before .before .before .before .before .before .before .before .before .before .before .before .before .before .before .before .loop .inv)
+same-length-13 c =
+    let at-write-line = c .before .before .before .before .before .before .before .before .before .before .before .before .before .before .before .before .before .before in
+    let at-loop = at-write-line .before .before .before .before .before .before .before .before .before .before .before .before .before in
+    omega (arith, at-write-line .write-line .kept, at-loop .loop .inv)
 
 same-length-14 : tie.Need-same-length-14 Inv-loop μ-loop
-same-length-14 c = omega (arith, c .before .before .before .before .before .before .before .before .before .before .before .before .before .before .before .before .before .before .write-line .kept, c .before .before .before .before .before .before .before .before .before .before .before .before .before .before .before .before .before .before .before .before .before .before .before .before .before .before .before .before .before .before .before .loop .inv)
+same-length-14 c =
+    let at-write-line = c .before .before .before .before .before .before .before .before .before .before .before .before .before .before .before .before .before .before in
+    let at-loop = at-write-line .before .before .before .before .before .before .before .before .before .before .before .before .before in
+    omega (arith, at-write-line .write-line .kept, at-loop .loop .inv)
 
 same-length-15 : tie.Need-same-length-15 Inv-loop μ-loop
-same-length-15 c = omega (arith, c .before .before .before .before .before .before .before .before .before .before .before .before .before .before .before .before .before .before .write-line .kept, c .before .before .before .before .before .before .before .before .before .before .before .before .before .before .before .before .before .before .before .before .before .before .before .before .before .before .before .before .before .before .before .loop .inv)
+same-length-15 c =
+    let at-write-line = c .before .before .before .before .before .before .before .before .before .before .before .before .before .before .before .before .before .before in
+    let at-loop = at-write-line .before .before .before .before .before .before .before .before .before .before .before .before .before in
+    omega (arith, at-write-line .write-line .kept, at-loop .loop .inv)
 
 same-length-16 : tie.Need-same-length-16 Inv-loop μ-loop
-same-length-16 c = omega (arith, c .before .before .before .before .before .before .before .before .before .before .before .before .before .before .before .before .before .before .write-line .kept, c .before .before .before .before .before .before .before .before .before .before .before .before .before .before .before .before .before .before .before .before .before .before .before .before .before .before .before .before .before .before .before .loop .inv)
+same-length-16 c =
+    let at-write-line = c .before .before .before .before .before .before .before .before .before .before .before .before .before .before .before .before .before .before in
+    let at-loop = at-write-line .before .before .before .before .before .before .before .before .before .before .before .before .before in
+    omega (arith, at-write-line .write-line .kept, at-loop .loop .inv)
 
 returns-2 : tie.Need-returns-2 Inv-loop μ-loop
 returns-2 c =
@@ -60,7 +84,10 @@ returns-2 c =
     gone-full (at-else1 .before .before .before .loop .inv .0) (at-else1 .before .line-end .ensures .0) (at-else1 .if1 .left) (at-write-line .write-line .ensures) (c .before .if2 .taken) (c .full .ensures)
 
 add-at : tie.Need-add-at Inv-loop μ-loop
-add-at c = omega (arith, c .before .before .before .before .before .before .before .before .before .before .before .before .before .before .before .before .before .before .before .before .before .before .before .before .before .before .before .if1 .left, c .before .before .before .before .before .before .before .before .before .before .before .before .before .before .before .before .before .before .before .before .before .before .before .before .before .before .before .before .before .before .before .before .before .before .before .before .before .before .before .before .good .1 .0)
+add-at c =
+    let at-if1 = c .before .before .before .before .before .before .before .before .before .before .before .before .before .before .before .before .before .before .before .before .before .before .before .before .before .before .before in
+    let at-good = at-if1 .before .before .before .before .before .before .before .before .before .before .before .before .before in
+    omega (arith, at-if1 .if1 .left, at-good .good .1 .0)
 
 add-end : tie.Need-add-end Inv-loop μ-loop
 add-end c =
@@ -69,7 +96,9 @@ add-end c =
     omega (arith, more .room, c .before .before .before .before .before .before .before .before .before .before .before .before .before .before .before .before .before .before .before .before .before .before .before .before .before .before .before .before .before .before .before .before .before .before .before .before .before .before .before .before .good .1 .1 .0 .0)
 
 loop-less : tie.Need-loop-less Inv-loop μ-loop
-loop-less c = omega (arith, c .before .before .before .before .before .before .before .before .before .before .before .before .before .before .before .before .before .before .before .before .before .before .before .before .before .before .before .if1 .left, c .before .before .before .before .before .before .before .before .before .before .before .before .before .before .before .before .before .before .before .before .before .before .before .before .before .before .before .before .line-end .ensures .0, c .before .before .before .before .before .before .before .before .before .before .before .before .before .before .before .before .before .before .before .before .before .before .before .before .before .before .before .before .before .loop-test .taken)
+loop-less c =
+    let at-if1 = c .before .before .before .before .before .before .before .before .before .before .before .before .before .before .before .before .before .before .before .before .before .before .before .before .before .before .before in
+    omega (arith, at-if1 .if1 .left, at-if1 .before .line-end .ensures .0, at-if1 .before .before .loop-test .taken)
 
 loop-again : tie.Need-loop-again Inv-loop μ-loop
 loop-again c =

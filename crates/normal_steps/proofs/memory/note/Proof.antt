@@ -10,7 +10,7 @@ use Rattle.normal_steps.proofs.memory.note.Statement.{statement}
 use Rattle.normal_steps.proofs.memory.note.Tie as tie
 
 bucket-requires : tie.Need-bucket-requires
-bucket-requires c κs = let q = c .before .before .before .before .before .pre in (q .0, q .1 .0 .1)
+bucket-requires c κs = let q = c .before .before .before .before .before .pre in (q .0, q .1 .0)
 
 node-place-requires : tie.Need-node-place-requires
 node-place-requires c κs = let q = c .before .before .before .before .before .before .before .before .before .pre in let h = q .1 .1 .1 .1 .1 in (h .found, (q .1 .0, c .before .before .before .bucket .ensures))
@@ -54,10 +54,12 @@ add-t27 c = let q = c .before .before .before .before .before .before .before .b
 
 returns-2 : tie.Need-returns-2
 returns-2 c ws σ h =
-    let q = c .before .before .before .before .before .before .before .before .before .before .before .before .before .before .before .before .before .before .before .before .before .before .before .before .pre in
-    let a = c .before .before .before .before .before .before .before .before .before .before .before .before .before .before .before .before .before .before .before .before .before .before .before .before .args in
-    note-written h (q .1 .1 .0) (a .tag) (a .of) (a .from) (a .to) (q .1 .0) (c .noted .result) (c .before .before .before .before .before .before .before .before .before .before .before .put-two .ensures) (c .before .before .before .before .before .before .before .put-two2 .ensures)
-    (c .before .before .before .link .ensures ∙ ap (linked-at (a .chains .now) (a .p .nodes)) (c .before .before .before .before .before .before .before .before .before .before .before .before .before .before .before .before .before .before .bucket .ensures)) (c .noted .ensures) (c .before .before .before .before .before .before .before .before .before .before .before .before .before .before .node-place .ensures .missing (c .before .before .before .before .before .before .before .before .before .before .before .before .before .if1 .left))
+    let at-put-two2 = c .before .before .before .before .before .before .before in let at-if1 = at-put-two2 .before .before .before .before .before .before in
+    let at-bucket = at-if1 .before .before .before .before .before in let at-start = at-bucket .before .before .before .before .before .before in
+    let q = at-start .pre in
+    let a = at-start .args in
+    note-written h (q .1 .1 .0) (a .tag) (a .of) (a .from) (a .to) (q .1 .0) (c .noted .result) (at-put-two2 .before .before .before .before .put-two .ensures) (at-put-two2 .put-two2 .ensures)
+    (c .before .before .before .link .ensures ∙ ap (linked-at (a .chains .now) (a .p .nodes)) (at-bucket .bucket .ensures)) (c .noted .ensures) (at-if1 .before .node-place .ensures .missing (at-if1 .if1 .left))
 
 pub note-spec : {M : Type 1} → statement M
 note-spec =

@@ -64,18 +64,21 @@ note-requires c κs =
 
 returns-2 : tie.Need-returns-2
 returns-2 c σ h =
-    let a = c .before .before .before .before .before .before .before .before .before .before .before .before .before .before .before .before .before .before .before .before .before .before .before .before .before .before .before .before .before .before .before .before .before .args in
-    let x = literal-at (a .s .now) (a .p .at) (c .before .before .before .before .before .before .before .before .before .before .before .before .before .before .before .before .before .before .before .before .before .before .before .before .before .before .literal .ensures) (c .before .before .before .before .before .before .before .before .before .before .before .before .before .before .before .before .before .before .before .before .before .before .before .before .to .given .1) in
+    let at-note = c .before .before .before .before .before .before .before .before in let at-put-part = at-note .before .before .before .before .before .before .before .before in
+    let at-moved = at-put-part .before .before .before .before .before in let at-literal = at-moved .before .before .before .before .before in
+    let at-start = at-literal .before .before .before .before .before .before .before in
+    let a = at-start .args in
+    let x = literal-at (a .s .now) (a .p .at) (at-literal .literal .ensures) (at-moved .before .before .before .to .given .1) in
     let v = x .0 in
-    let e = c .before .before .before .before .before .before .before .before .before .before .before .before .before .before .before .before .before .before .before .before .before .moved .ensures in
-    let y = c .before .before .before .before .before .before .before .before .before .before .before .before .before .before .before .before .before .before .before .before .put-byte .ensures in
-    let z = c .before .before .before .before .before .before .before .before .before .before .before .before .before .before .before .before .put-part .ensures in
+    let e = at-moved .moved .ensures in
+    let y = at-put-part .before .before .before .before .put-byte .ensures in
+    let z = at-put-part .put-part .ensures in
     let w = literal-wrote h v (x .1) e y z in
     let k = v .some in
     let j = x .1 in
-    by (literal-is h v (x .1) _ (c .before .before .before .before .before .before .before .before .before .signed .ensures))
+    by (literal-is h v (x .1) _ (at-note .before .signed .ensures))
     (within (λ q l. let g = l .at in (omega arith, spent w l (omega arith) (omega arith) (omega arith) (omega (arith, h .short, w .out))))
-    (c .before .before .before .before .before .before .before .before .note .ensures (work-of (literal-held h v (x .1) e y z)) _ (literal-held h v (x .1) e y z)))
+    (at-note .note .ensures (work-of (literal-held h v (x .1) e y z)) _ (literal-held h v (x .1) e y z)))
 
 pub literal-spec : {M : Type 1} → statement M
 literal-spec =

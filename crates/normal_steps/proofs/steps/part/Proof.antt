@@ -37,15 +37,17 @@ note-requires c κs =
 
 returns-2 : tie.Need-returns-2
 returns-2 c σ h =
-    let a = c .before .before .before .before .before .before .before .before .before .before .before .before .before .before .before .before .before .before .before .before .before .before .before .before .before .before .before .before .args in
-    let x = name-at (a .s .now) (a .p .at) (c .before .before .before .before .before .before .before .before .before .before .before .before .before .before .before .before .before .before .before .before .before .source-name .ensures) (c .before .before .before .before .before .before .before .before .before .before .before .before .before .before .before .before .before .before .before .from .given .1) in
-    let e = c .before .before .before .before .before .before .before .before .before .before .before .before .before .before .before .before .moved .ensures in
-    let y = c .before .before .before .before .before .before .before .before .before .before .before .before .before .before .before .put-name .ensures in
+    let at-note = c .before .before .before .before .before .before .before .before in let at-put-name = at-note .before .before .before .before .before .before .before in
+    let at-source-name = at-put-name .before .before .before .before .before .before in let at-start = at-source-name .before .before .before .before .before .before .before in
+    let a = at-start .args in
+    let x = name-at (a .s .now) (a .p .at) (at-source-name .source-name .ensures) (at-put-name .before .before .before .before .from .given .1) in
+    let e = at-put-name .before .moved .ensures in
+    let y = at-put-name .put-name .ensures in
     let z = name-size x in
     let w = name-wrote x h refl e y in
     by (with-some _ (ap name (h .rest) ∙ x .is))
     (within (λ q l. let g = l .at in (omega arith, spent w l (omega arith) (omega arith) (omega arith) (omega (arith, h .short, w .out))))
-    (c .before .before .before .before .before .before .before .before .note .ensures (work-of (name-held x h refl e y)) _ (name-held x h refl e y)))
+    (at-note .note .ensures (work-of (name-held x h refl e y)) _ (name-held x h refl e y)))
 
 pub part-spec : {M : Type 1} → statement M
 part-spec =

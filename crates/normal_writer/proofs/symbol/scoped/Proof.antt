@@ -96,19 +96,34 @@ same-length-10 : tie.Need-same-length-10
 same-length-10 c = omega (arith, c .before .before .before .before .before .before .before .before .before .before .before .before .before .before .before .before .before .parts .kept, c .before .before .before .before .before .before .before .before .before .before .before .before .before .before .before .before .before .before .before .before .before .before .before .before .before .begin .kept)
 
 same-length-11 : tie.Need-same-length-11
-same-length-11 c = omega (arith, c .before .before .close .kept, c .before .before .before .before .before .before .before .before .before .before .before .before .before .before .before .before .before .before .before .before .before .parts .kept, c .before .before .before .before .before .before .before .before .before .before .before .before .before .before .before .before .before .before .before .before .before .before .before .before .before .before .before .before .before .begin .kept)
+same-length-11 c =
+    let at-parts = c .before .before .before .before .before .before .before .before .before .before .before .before .before .before .before .before .before .before .before .before .before in
+    let at-begin = before-parts at-parts in
+    omega (arith, c .before .before .close .kept, at-parts .parts .kept, at-begin .begin .kept)
 
 same-length-12 : tie.Need-same-length-12
-same-length-12 c = omega (arith, c .before .before .close .kept, c .before .before .before .before .before .before .before .before .before .before .before .before .before .before .before .before .before .before .before .before .before .parts .kept, c .before .before .before .before .before .before .before .before .before .before .before .before .before .before .before .before .before .before .before .before .before .before .before .before .before .before .before .before .before .begin .kept)
+same-length-12 c =
+    let at-parts = c .before .before .before .before .before .before .before .before .before .before .before .before .before .before .before .before .before .before .before .before .before in
+    let at-begin = before-parts at-parts in
+    omega (arith, c .before .before .close .kept, at-parts .parts .kept, at-begin .begin .kept)
 
 same-length-13 : tie.Need-same-length-13
-same-length-13 c = omega (arith, c .before .before .close .kept, c .before .before .before .before .before .before .before .before .before .before .before .before .before .before .before .before .before .before .before .before .before .parts .kept, c .before .before .before .before .before .before .before .before .before .before .before .before .before .before .before .before .before .before .before .before .before .before .before .before .before .before .before .before .before .begin .kept)
+same-length-13 c =
+    let at-parts = c .before .before .before .before .before .before .before .before .before .before .before .before .before .before .before .before .before .before .before .before .before in
+    let at-begin = before-parts at-parts in
+    omega (arith, c .before .before .close .kept, at-parts .parts .kept, at-begin .begin .kept)
 
 same-length-14 : tie.Need-same-length-14
-same-length-14 c = omega (arith, c .before .before .close .kept, c .before .before .before .before .before .before .before .before .before .before .before .before .before .before .before .before .before .before .before .before .before .parts .kept, c .before .before .before .before .before .before .before .before .before .before .before .before .before .before .before .before .before .before .before .before .before .before .before .before .before .before .before .before .before .begin .kept)
+same-length-14 c =
+    let at-parts = c .before .before .before .before .before .before .before .before .before .before .before .before .before .before .before .before .before .before .before .before .before in
+    let at-begin = before-parts at-parts in
+    omega (arith, c .before .before .close .kept, at-parts .parts .kept, at-begin .begin .kept)
 
 same-length-15 : tie.Need-same-length-15
-same-length-15 c = omega (arith, c .before .before .close .kept, c .before .before .before .before .before .before .before .before .before .before .before .before .before .before .before .before .before .before .before .before .before .parts .kept, c .before .before .before .before .before .before .before .before .before .before .before .before .before .before .before .before .before .before .before .before .before .before .before .before .before .before .before .before .before .begin .kept)
+same-length-15 c =
+    let at-parts = c .before .before .before .before .before .before .before .before .before .before .before .before .before .before .before .before .before .before .before .before .before in
+    let at-begin = before-parts at-parts in
+    omega (arith, c .before .before .close .kept, at-parts .parts .kept, at-begin .begin .kept)
 
 pub scoped-spec : {M : Type 1} → statement M
 scoped-spec =

@@ -55,7 +55,7 @@ loop-again : tie.Need-loop-again Inv-loop μ-loop
 loop-again c =
     let at-ty = c .before .before .before .before .before .before .before .before .before .before .before .before .before .before .before .before in
     record {
-      same = record { out = omega (arith, at-ty .before .before .before .before .before .before .before .before .loop .inv .same, at-ty .ty .kept); ends = omega (arith, at-ty .before .before .before .before .before .before .before .before .loop .inv .same, at-ty .ty .kept); words = omega (arith, at-ty .before .before .before .before .before .before .before .before .loop .inv .same, at-ty .ty .kept); tables = omega (arith, at-ty .before .before .before .before .before .before .before .before .loop .inv .same, at-ty .ty .kept); chains = omega (arith, at-ty .before .before .before .before .before .before .before .before .loop .inv .same, at-ty .ty .kept) };
+      same = let j = at-ty .before .before .before .before .before .before .before .before .loop .inv .same in let k = at-ty .ty .kept in record { out = omega (arith, j, k); ends = omega (arith, j, k); words = omega (arith, j, k); tables = omega (arith, j, k); chains = omega (arith, j, k) };
       goes = λ σ h m k. turn-more (at-ty .before .before .before .before .before .before .before .before .loop .inv .goes σ h m k) (at-ty .before .before .before .before .before .before .if1 .taken) (at-ty .ty .ensures) (c .before .before .before .before .q .given .1) (c .before .tag-of .ensures) (c .if2 .left);
     }
 

@@ -69,49 +69,79 @@ returns-6 c =
     symbol-writes y (at-function .function .ensures) (at-types .before .before .before .before .before .before .before .before .p .given .1) h (at-types .types .ensures) (c .before .before .before .q .given .1) (c .if4 .left)
 
 same-length-11 : tie.Need-same-length-11
-same-length-11 c = omega (arith, c .before .before .before .before .before .before .before .before .before .before .before .before .types .kept, c .before .before .before .before .before .before .before .before .before .before .before .before .before .before .before .before .before .before .before .before .before .before .before .before .before .before .before .before .before .before .before .before .function .kept)
+same-length-11 c =
+    let at-types = c .before .before .before .before .before .before .before .before .before .before .before .before in let at-function = before-types at-types in
+    omega (arith, at-types .types .kept, at-function .function .kept)
 
 same-length-12 : tie.Need-same-length-12
-same-length-12 c = omega (arith, c .before .before .before .before .before .before .before .before .before .before .before .before .types .kept, c .before .before .before .before .before .before .before .before .before .before .before .before .before .before .before .before .before .before .before .before .before .before .before .before .before .before .before .before .before .before .before .before .function .kept)
+same-length-12 c =
+    let at-types = c .before .before .before .before .before .before .before .before .before .before .before .before in let at-function = before-types at-types in
+    omega (arith, at-types .types .kept, at-function .function .kept)
 
 same-length-13 : tie.Need-same-length-13
-same-length-13 c = omega (arith, c .before .before .before .before .before .before .before .before .before .before .before .before .types .kept, c .before .before .before .before .before .before .before .before .before .before .before .before .before .before .before .before .before .before .before .before .before .before .before .before .before .before .before .before .before .before .before .before .function .kept)
+same-length-13 c =
+    let at-types = c .before .before .before .before .before .before .before .before .before .before .before .before in let at-function = before-types at-types in
+    omega (arith, at-types .types .kept, at-function .function .kept)
 
 same-length-14 : tie.Need-same-length-14
-same-length-14 c = omega (arith, c .before .before .before .before .before .before .before .before .before .before .before .before .types .kept, c .before .before .before .before .before .before .before .before .before .before .before .before .before .before .before .before .before .before .before .before .before .before .before .before .before .before .before .before .before .before .before .before .function .kept)
+same-length-14 c =
+    let at-types = c .before .before .before .before .before .before .before .before .before .before .before .before in let at-function = before-types at-types in
+    omega (arith, at-types .types .kept, at-function .function .kept)
 
 same-length-15 : tie.Need-same-length-15
-same-length-15 c = omega (arith, c .before .before .before .before .before .before .before .before .before .before .before .before .types .kept, c .before .before .before .before .before .before .before .before .before .before .before .before .before .before .before .before .before .before .before .before .before .before .before .before .before .before .before .before .before .before .before .before .function .kept)
+same-length-15 c =
+    let at-types = c .before .before .before .before .before .before .before .before .before .before .before .before in let at-function = before-types at-types in
+    omega (arith, at-types .types .kept, at-function .function .kept)
 
 same-length-16 : tie.Need-same-length-16
-same-length-16 c = omega (arith, c .before .before .before .before .before .before .before .before .before .before .before .before .before .before .before .types .kept, c .before .before .before .before .before .before .before .before .before .before .before .before .before .before .before .before .before .before .before .before .before .before .before .before .before .before .before .before .before .before .before .before .before .before .before .function .kept)
+same-length-16 c =
+    let at-types = c .before .before .before .before .before .before .before .before .before .before .before .before .before .before .before in let at-function = before-types at-types in
+    omega (arith, at-types .types .kept, at-function .function .kept)
 
 same-length-17 : tie.Need-same-length-17
-same-length-17 c = omega (arith, c .before .before .before .before .before .before .before .before .before .before .before .before .before .before .before .types .kept, c .before .before .before .before .before .before .before .before .before .before .before .before .before .before .before .before .before .before .before .before .before .before .before .before .before .before .before .before .before .before .before .before .before .before .before .function .kept)
+same-length-17 c =
+    let at-types = c .before .before .before .before .before .before .before .before .before .before .before .before .before .before .before in let at-function = before-types at-types in
+    omega (arith, at-types .types .kept, at-function .function .kept)
 
 same-length-18 : tie.Need-same-length-18
-same-length-18 c = omega (arith, c .before .before .before .before .before .before .before .before .before .before .before .before .before .before .before .types .kept, c .before .before .before .before .before .before .before .before .before .before .before .before .before .before .before .before .before .before .before .before .before .before .before .before .before .before .before .before .before .before .before .before .before .before .before .function .kept)
+same-length-18 c =
+    let at-types = c .before .before .before .before .before .before .before .before .before .before .before .before .before .before .before in let at-function = before-types at-types in
+    omega (arith, at-types .types .kept, at-function .function .kept)
 
 same-length-19 : tie.Need-same-length-19
-same-length-19 c = omega (arith, c .before .before .before .before .before .before .before .before .before .before .before .before .before .before .before .types .kept, c .before .before .before .before .before .before .before .before .before .before .before .before .before .before .before .before .before .before .before .before .before .before .before .before .before .before .before .before .before .before .before .before .before .before .before .function .kept)
+same-length-19 c =
+    let at-types = c .before .before .before .before .before .before .before .before .before .before .before .before .before .before .before in let at-function = before-types at-types in
+    omega (arith, at-types .types .kept, at-function .function .kept)
 
 same-length-20 : tie.Need-same-length-20
-same-length-20 c = omega (arith, c .before .before .before .before .before .before .before .before .before .before .before .before .before .before .before .types .kept, c .before .before .before .before .before .before .before .before .before .before .before .before .before .before .before .before .before .before .before .before .before .before .before .before .before .before .before .before .before .before .before .before .before .before .before .function .kept)
+same-length-20 c =
+    let at-types = c .before .before .before .before .before .before .before .before .before .before .before .before .before .before .before in let at-function = before-types at-types in
+    omega (arith, at-types .types .kept, at-function .function .kept)
 
 same-length-21 : tie.Need-same-length-21
-same-length-21 c = omega (arith, c .before .before .before .before .before .before .before .before .before .before .before .before .before .before .before .types .kept, c .before .before .before .before .before .before .before .before .before .before .before .before .before .before .before .before .before .before .before .before .before .before .before .before .before .before .before .before .before .before .before .before .before .before .before .function .kept)
+same-length-21 c =
+    let at-types = c .before .before .before .before .before .before .before .before .before .before .before .before .before .before .before in let at-function = before-types at-types in
+    omega (arith, at-types .types .kept, at-function .function .kept)
 
 same-length-22 : tie.Need-same-length-22
-same-length-22 c = omega (arith, c .before .before .before .before .before .before .before .before .before .before .before .before .before .before .before .types .kept, c .before .before .before .before .before .before .before .before .before .before .before .before .before .before .before .before .before .before .before .before .before .before .before .before .before .before .before .before .before .before .before .before .before .before .before .function .kept)
+same-length-22 c =
+    let at-types = c .before .before .before .before .before .before .before .before .before .before .before .before .before .before .before in let at-function = before-types at-types in
+    omega (arith, at-types .types .kept, at-function .function .kept)
 
 same-length-23 : tie.Need-same-length-23
-same-length-23 c = omega (arith, c .before .before .before .before .before .before .before .before .before .before .before .before .before .before .before .types .kept, c .before .before .before .before .before .before .before .before .before .before .before .before .before .before .before .before .before .before .before .before .before .before .before .before .before .before .before .before .before .before .before .before .before .before .before .function .kept)
+same-length-23 c =
+    let at-types = c .before .before .before .before .before .before .before .before .before .before .before .before .before .before .before in let at-function = before-types at-types in
+    omega (arith, at-types .types .kept, at-function .function .kept)
 
 same-length-24 : tie.Need-same-length-24
-same-length-24 c = omega (arith, c .before .before .before .before .before .before .before .before .before .before .before .before .before .before .before .types .kept, c .before .before .before .before .before .before .before .before .before .before .before .before .before .before .before .before .before .before .before .before .before .before .before .before .before .before .before .before .before .before .before .before .before .before .before .function .kept)
+same-length-24 c =
+    let at-types = c .before .before .before .before .before .before .before .before .before .before .before .before .before .before .before in let at-function = before-types at-types in
+    omega (arith, at-types .types .kept, at-function .function .kept)
 
 same-length-25 : tie.Need-same-length-25
-same-length-25 c = omega (arith, c .before .before .before .before .before .before .before .before .before .before .before .before .before .before .before .types .kept, c .before .before .before .before .before .before .before .before .before .before .before .before .before .before .before .before .before .before .before .before .before .before .before .before .before .before .before .before .before .before .before .before .before .before .before .function .kept)
+same-length-25 c =
+    let at-types = c .before .before .before .before .before .before .before .before .before .before .before .before .before .before .before in let at-function = before-types at-types in
+    omega (arith, at-types .types .kept, at-function .function .kept)
 
 pub write-symbol-spec : {M : Type 1} → statement M
 write-symbol-spec =

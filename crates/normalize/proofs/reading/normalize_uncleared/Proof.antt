@@ -68,8 +68,10 @@ write-within-requires c κs =
 
 returns-5 : tie.Need-returns-5
 returns-5 c =
-    let at-accepted = c .before .before .before .before .before .before .before .before .before .before .before .before .before .before .before .before .before .before .before .before .before .before .before .before .before .before in let at-else2 = before-accepted at-accepted in let at-else1 = before-else2 at-else2 in
-    reading-accepts (at-else1 .before .before .before .before .behind-front .ensures) (at-else1 .before .before .enum-told .given .1) (lent-at (before-else1 at-else1)) (work-is at-else1) (numbers-are at-else2) (at-accepted .accepted .ensures) (c .before .before .before .before .before .before .before .before .before .before .before .before .before .before .before .before .before .before .before .if3 .left) (c .before .before .before .before .before .before .before .before .before .before .before .before .write-within .ensures)
+    let at-write-within = c .before .before .before .before .before .before .before .before .before .before .before .before in
+    let at-if3 = at-write-within .before .before .before .before .before .before .before in let at-before = at-if3 .before .before .before .before .before .before in
+    let at-accepted = at-before .before in let at-else2 = before-accepted at-accepted in let at-else1 = before-else2 at-else2 in
+    reading-accepts (at-else1 .before .before .before .before .behind-front .ensures) (at-else1 .before .before .enum-told .given .1) (lent-at (before-else1 at-else1)) (work-is at-else1) (numbers-are at-else2) (at-accepted .accepted .ensures) (at-if3 .if3 .left) (at-write-within .write-within .ensures)
 
 pub normalize-uncleared-spec : {M : Type 1} → statement M
 normalize-uncleared-spec =

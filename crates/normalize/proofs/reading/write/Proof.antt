@@ -6,7 +6,10 @@ use Rattle.normalize.proofs.reading.write.Statement.{statement}
 use Rattle.normalize.proofs.reading.write.Tie as tie
 
 returns : tie.Need-returns
-returns c = let a = c .before .before .before .before .before .before .before .before .before .before .before .before .before .before .before .before .before .before .before .before .before .before .before .before .before .args in told-6 (a .s .now) (a .out .now) (not-written (c .before .before .before .before .before .before .before .before .before .before .before .before .write-symbol .ensures) (c .enum-told .given .1))
+returns c =
+    let at-write-symbol = c .before .before .before .before .before .before .before .before .before .before .before .before in
+    let at-start = at-write-symbol .before .before .before .before .before .before .before .before .before .before .before .before .before in
+    let a = at-start .args in told-6 (a .s .now) (a .out .now) (not-written (at-write-symbol .write-symbol .ensures) (c .enum-told .given .1))
 
 print-requires : tie.Need-print-requires
 print-requires c κs = written-fits (was-written (c .before .before .before .before .before .before .before .before .before .before .before .before .before .before .before .write-symbol .ensures) (c .before .before .before .p .given .1) .1 .1)

@@ -86,31 +86,61 @@ pub same-length-5 : (t : ℕ) → lts.Need-same-length-5 (args-calls t) (args-at
 same-length-5 t c = omega (arith, c .before .before .before .before .before .before .before .before .before .before .before .before .ty .kept, c .before .before .before .before .before .before .before .before .before .before .before .before .before .before .before .before .before .before .loop .inv .same)
 
 pub same-length-6 : (t : ℕ) → lts.Need-same-length-6 (args-calls t) (args-at t) args.Post Inv-loop μ-loop
-same-length-6 t c = omega (arith, c .before .before .before .before .before .before .before .before .before .before .arg .kept, c .before .before .before .before .before .before .before .before .before .before .before .before .before .before .before .before .before .before .before .before .before .before .before .before .before .before .before .before .ty .kept, c .before .before .before .before .before .before .before .before .before .before .before .before .before .before .before .before .before .before .before .before .before .before .before .before .before .before .before .before .before .before .before .before .before .before .loop .inv .same)
+same-length-6 t c =
+    let at-arg = c .before .before .before .before .before .before .before .before .before .before in let at-ty = before-arg t at-arg in
+    let at-loop = at-ty .before .before .before .before .before .before in
+    omega (arith, at-arg .arg .kept, at-ty .ty .kept, at-loop .loop .inv .same)
 
 pub same-length-7 : (t : ℕ) → lts.Need-same-length-7 (args-calls t) (args-at t) args.Post Inv-loop μ-loop
-same-length-7 t c = omega (arith, c .before .before .before .before .before .before .before .before .before .before .arg .kept, c .before .before .before .before .before .before .before .before .before .before .before .before .before .before .before .before .before .before .before .before .before .before .before .before .before .before .before .before .ty .kept, c .before .before .before .before .before .before .before .before .before .before .before .before .before .before .before .before .before .before .before .before .before .before .before .before .before .before .before .before .before .before .before .before .before .before .loop .inv .same)
+same-length-7 t c =
+    let at-arg = c .before .before .before .before .before .before .before .before .before .before in let at-ty = before-arg t at-arg in
+    let at-loop = at-ty .before .before .before .before .before .before in
+    omega (arith, at-arg .arg .kept, at-ty .ty .kept, at-loop .loop .inv .same)
 
 pub same-length-8 : (t : ℕ) → lts.Need-same-length-8 (args-calls t) (args-at t) args.Post Inv-loop μ-loop
-same-length-8 t c = omega (arith, c .before .before .before .before .before .before .before .before .before .before .arg .kept, c .before .before .before .before .before .before .before .before .before .before .before .before .before .before .before .before .before .before .before .before .before .before .before .before .before .before .before .before .ty .kept, c .before .before .before .before .before .before .before .before .before .before .before .before .before .before .before .before .before .before .before .before .before .before .before .before .before .before .before .before .before .before .before .before .before .before .loop .inv .same)
+same-length-8 t c =
+    let at-arg = c .before .before .before .before .before .before .before .before .before .before in let at-ty = before-arg t at-arg in
+    let at-loop = at-ty .before .before .before .before .before .before in
+    omega (arith, at-arg .arg .kept, at-ty .ty .kept, at-loop .loop .inv .same)
 
 pub same-length-9 : (t : ℕ) → lts.Need-same-length-9 (args-calls t) (args-at t) args.Post Inv-loop μ-loop
-same-length-9 t c = omega (arith, c .before .before .before .before .before .before .before .before .before .before .arg .kept, c .before .before .before .before .before .before .before .before .before .before .before .before .before .before .before .before .before .before .before .before .before .before .before .before .before .before .before .before .ty .kept, c .before .before .before .before .before .before .before .before .before .before .before .before .before .before .before .before .before .before .before .before .before .before .before .before .before .before .before .before .before .before .before .before .before .before .loop .inv .same)
+same-length-9 t c =
+    let at-arg = c .before .before .before .before .before .before .before .before .before .before in let at-ty = before-arg t at-arg in
+    let at-loop = at-ty .before .before .before .before .before .before in
+    omega (arith, at-arg .arg .kept, at-ty .ty .kept, at-loop .loop .inv .same)
 
 pub same-length-10 : (t : ℕ) → lts.Need-same-length-10 (args-calls t) (args-at t) args.Post Inv-loop μ-loop
-same-length-10 t c = omega (arith, c .before .before .before .before .before .before .before .before .before .before .arg .kept, c .before .before .before .before .before .before .before .before .before .before .before .before .before .before .before .before .before .before .before .before .before .before .before .before .before .before .before .before .ty .kept, c .before .before .before .before .before .before .before .before .before .before .before .before .before .before .before .before .before .before .before .before .before .before .before .before .before .before .before .before .before .before .before .before .before .before .loop .inv .same)
+same-length-10 t c =
+    let at-arg = c .before .before .before .before .before .before .before .before .before .before in let at-ty = before-arg t at-arg in
+    let at-loop = at-ty .before .before .before .before .before .before in
+    omega (arith, at-arg .arg .kept, at-ty .ty .kept, at-loop .loop .inv .same)
 
 pub same-length-11 : (t : ℕ) → lts.Need-same-length-11 (args-calls t) (args-at t) args.Post Inv-loop μ-loop
-same-length-11 t c = omega (arith, c .before .before .before .before .before .before .before .before .before .before .before .before .before .before .before .arg .kept, c .before .before .before .before .before .before .before .before .before .before .before .before .before .before .before .before .before .before .before .before .before .before .before .before .before .before .before .before .before .before .before .before .before .ty .kept, c .before .before .before .before .before .before .before .before .before .before .before .before .before .before .before .before .before .before .before .before .before .before .before .before .before .before .before .before .before .before .before .before .before .before .before .before .before .before .before .loop .inv .same)
+same-length-11 t c =
+    let at-arg = c .before .before .before .before .before .before .before .before .before .before .before .before .before .before .before in let at-ty = before-arg t at-arg in
+    let at-loop = at-ty .before .before .before .before .before .before in
+    omega (arith, at-arg .arg .kept, at-ty .ty .kept, at-loop .loop .inv .same)
 
 pub same-length-12 : (t : ℕ) → lts.Need-same-length-12 (args-calls t) (args-at t) args.Post Inv-loop μ-loop
-same-length-12 t c = omega (arith, c .before .before .before .before .before .before .before .before .before .before .before .before .before .before .before .arg .kept, c .before .before .before .before .before .before .before .before .before .before .before .before .before .before .before .before .before .before .before .before .before .before .before .before .before .before .before .before .before .before .before .before .before .ty .kept, c .before .before .before .before .before .before .before .before .before .before .before .before .before .before .before .before .before .before .before .before .before .before .before .before .before .before .before .before .before .before .before .before .before .before .before .before .before .before .before .loop .inv .same)
+same-length-12 t c =
+    let at-arg = c .before .before .before .before .before .before .before .before .before .before .before .before .before .before .before in let at-ty = before-arg t at-arg in
+    let at-loop = at-ty .before .before .before .before .before .before in
+    omega (arith, at-arg .arg .kept, at-ty .ty .kept, at-loop .loop .inv .same)
 
 pub same-length-13 : (t : ℕ) → lts.Need-same-length-13 (args-calls t) (args-at t) args.Post Inv-loop μ-loop
-same-length-13 t c = omega (arith, c .before .before .before .before .before .before .before .before .before .before .before .before .before .before .before .arg .kept, c .before .before .before .before .before .before .before .before .before .before .before .before .before .before .before .before .before .before .before .before .before .before .before .before .before .before .before .before .before .before .before .before .before .ty .kept, c .before .before .before .before .before .before .before .before .before .before .before .before .before .before .before .before .before .before .before .before .before .before .before .before .before .before .before .before .before .before .before .before .before .before .before .before .before .before .before .loop .inv .same)
+same-length-13 t c =
+    let at-arg = c .before .before .before .before .before .before .before .before .before .before .before .before .before .before .before in let at-ty = before-arg t at-arg in
+    let at-loop = at-ty .before .before .before .before .before .before in
+    omega (arith, at-arg .arg .kept, at-ty .ty .kept, at-loop .loop .inv .same)
 
 pub same-length-14 : (t : ℕ) → lts.Need-same-length-14 (args-calls t) (args-at t) args.Post Inv-loop μ-loop
-same-length-14 t c = omega (arith, c .before .before .before .before .before .before .before .before .before .before .before .before .before .before .before .arg .kept, c .before .before .before .before .before .before .before .before .before .before .before .before .before .before .before .before .before .before .before .before .before .before .before .before .before .before .before .before .before .before .before .before .before .ty .kept, c .before .before .before .before .before .before .before .before .before .before .before .before .before .before .before .before .before .before .before .before .before .before .before .before .before .before .before .before .before .before .before .before .before .before .before .before .before .before .before .loop .inv .same)
+same-length-14 t c =
+    let at-arg = c .before .before .before .before .before .before .before .before .before .before .before .before .before .before .before in let at-ty = before-arg t at-arg in
+    let at-loop = at-ty .before .before .before .before .before .before in
+    omega (arith, at-arg .arg .kept, at-ty .ty .kept, at-loop .loop .inv .same)
 
 pub same-length-15 : (t : ℕ) → lts.Need-same-length-15 (args-calls t) (args-at t) args.Post Inv-loop μ-loop
-same-length-15 t c = omega (arith, c .before .before .before .before .before .before .before .before .before .before .before .before .before .before .before .arg .kept, c .before .before .before .before .before .before .before .before .before .before .before .before .before .before .before .before .before .before .before .before .before .before .before .before .before .before .before .before .before .before .before .before .before .ty .kept, c .before .before .before .before .before .before .before .before .before .before .before .before .before .before .before .before .before .before .before .before .before .before .before .before .before .before .before .before .before .before .before .before .before .before .before .before .before .before .before .loop .inv .same)
+same-length-15 t c =
+    let at-arg = c .before .before .before .before .before .before .before .before .before .before .before .before .before .before .before in let at-ty = before-arg t at-arg in
+    let at-loop = at-ty .before .before .before .before .before .before in
+    omega (arith, at-arg .arg .kept, at-ty .ty .kept, at-loop .loop .inv .same)

@@ -93,14 +93,15 @@ loop-less t c =
 
 pub loop-again : (t : ℕ) → lts.Need-loop-again (more-calls t) (more-at t) more.Post Inv-loop μ-loop
 loop-again t c =
-    let at-behind = c .before .before .before .before .before .before .before .before .before .before .before in let at-part = before-behind t at-behind in
+    let at-if2 = c .before .before .before .before .before .before .before in
+    let at-behind = at-if2 .before .before .before .before in let at-part = before-behind t at-behind in
     let at-starts-with = before-part t at-part in
     let a = part-next (at-starts-with .before .before .loop .of) (at-starts-with .before .before .loop .alone) _
     (sym (at-starts-with .starts-with .ensures) ∙ not-true _ (at-part .before .before .before .before .before .before .if1 .taken)) (at-part .part .ensures) (at-behind .behind .given .1)
     (at-starts-with .before .before .loop .inv .0) (at-starts-with .before .before .loop .inv .1 .ready) in
     more-again a (c .before .before .before .before .enter .ensures) (at-starts-with .before .before .loop .alone) false
-    (sym (c .before .before .before .before .before .before .before .before .starts-with2 .ensures) ∙ c .before .before .before .before .before .before .before .if2 .left)
-    (record { out = omega (arith, c .before .before .before .before .enter .kept, at-part .part .kept); ends = omega (arith, c .before .before .before .before .enter .kept, at-part .part .kept); words = omega (arith, c .before .before .before .before .enter .kept, at-part .part .kept); tables = omega (arith, c .before .before .before .before .enter .kept, at-part .part .kept); chains = omega (arith, c .before .before .before .before .enter .kept, at-part .part .kept) })
+    (sym (at-if2 .before .starts-with2 .ensures) ∙ at-if2 .if2 .left)
+    (let j = c .before .before .before .before .enter .kept in let k = at-part .part .kept in record { out = omega (arith, j, k); ends = omega (arith, j, k); words = omega (arith, j, k); tables = omega (arith, j, k); chains = omega (arith, j, k) })
     (λ ws r x. part-answer _ _ _ (sym (at-starts-with .starts-with .ensures) ∙ not-true _ (at-part .before .before .before .before .before .before .if1 .taken)) (at-part .part .ensures)
     (at-behind .behind .given .1) x) (at-starts-with .before .before .loop .inv .1)
 
@@ -201,14 +202,15 @@ loop-less-2 t c =
 
 pub loop-again-2 : (t : ℕ) → lts.Need-loop-again-2 (more-calls t) (more-at t) more.Post Inv-loop μ-loop
 loop-again-2 t c =
-    let at-close = c .before .before .before .before .before .before .before .before .before .before .before .before in let at-args2 = before-close t at-close in
+    let at-if4 = c .before .before .before .before .before .before .before in
+    let at-close = at-if4 .before .before .before .before .before in let at-args2 = before-close t at-close in
     let at-copy-byte = before-args2 t at-args2 in let at-starts-with = before-copy-byte t at-copy-byte in
     let a = args-closed _ (sym (at-starts-with .starts-with .ensures) ∙ not-false _ (at-copy-byte .before .before .before .before .before .before .if1 .left))
     (at-copy-byte .copy-byte .ensures) (at-args2 .args2 .ensures) (at-close .before .before .before .last .given .1) (at-starts-with .before .before .loop .inv .1 .ready)
     (at-starts-with .before .before .loop .inv .0) (at-close .close .ensures) in
     more-again a (c .before .before .before .before .enter2 .ensures) (at-starts-with .before .before .loop .alone) (at-starts-with .before .before .loop .alone)
-    (sym (c .before .before .before .before .before .before .before .before .starts-with3 .ensures) ∙ c .before .before .before .before .before .before .before .if4 .left)
-    (record { out = omega (arith, c .before .before .before .before .enter2 .kept, at-close .close .kept, at-args2 .args2 .kept, at-copy-byte .copy-byte .kept); ends = omega (arith, c .before .before .before .before .enter2 .kept, at-close .close .kept, at-args2 .args2 .kept, at-copy-byte .copy-byte .kept); words = omega (arith, c .before .before .before .before .enter2 .kept, at-close .close .kept, at-args2 .args2 .kept, at-copy-byte .copy-byte .kept); tables = omega (arith, c .before .before .before .before .enter2 .kept, at-close .close .kept, at-args2 .args2 .kept, at-copy-byte .copy-byte .kept); chains = omega (arith, c .before .before .before .before .enter2 .kept, at-close .close .kept, at-args2 .args2 .kept, at-copy-byte .copy-byte .kept) })
+    (sym (at-if4 .before .starts-with3 .ensures) ∙ at-if4 .if4 .left)
+    (let j = c .before .before .before .before .enter2 .kept in let k = at-close .close .kept in let l = at-args2 .args2 .kept in let m = at-copy-byte .copy-byte .kept in record { out = omega (arith, j, k, l, m); ends = omega (arith, j, k, l, m); words = omega (arith, j, k, l, m); tables = omega (arith, j, k, l, m); chains = omega (arith, j, k, l, m) })
     (λ ws r x. angled-answer _ _ _ (sym (at-starts-with .starts-with .ensures) ∙ not-false _ (at-copy-byte .before .before .before .before .before .before .if1 .left))
     (at-copy-byte .before .before .before .before .tag-of .ensures)
     (sym (at-copy-byte .before .before .before .bare .ensures) ∙ not-false _ (at-copy-byte .before .before .if3 .left)) (at-copy-byte .copy-byte .ensures)
@@ -230,19 +232,34 @@ pub same-length-5 : (t : ℕ) → lts.Need-same-length-5 (more-calls t) (more-at
 same-length-5 t c = omega (arith, c .before .before .before .before .before .before .before .before .before .before .before .before .part .kept, c .before .before .before .before .before .before .before .before .before .before .before .before .before .before .before .before .before .before .before .before .before .loop .inv .1 .same)
 
 pub same-length-6 : (t : ℕ) → lts.Need-same-length-6 (more-calls t) (more-at t) more.Post Inv-loop μ-loop
-same-length-6 t c = omega (arith, c .before .before .before .before .before .before .before .before .before .before .before .before .before .before .before .before .before .part .kept, c .before .before .before .before .before .before .before .before .before .before .before .before .before .before .before .before .before .before .before .before .before .before .before .before .before .before .loop .inv .1 .same)
+same-length-6 t c =
+    let at-part = c .before .before .before .before .before .before .before .before .before .before .before .before .before .before .before .before .before in
+    let at-loop = at-part .before .before .before .before .before .before .before .before .before in
+    omega (arith, at-part .part .kept, at-loop .loop .inv .1 .same)
 
 pub same-length-7 : (t : ℕ) → lts.Need-same-length-7 (more-calls t) (more-at t) more.Post Inv-loop μ-loop
-same-length-7 t c = omega (arith, c .before .before .before .before .before .before .before .before .before .before .before .before .before .before .before .before .before .part .kept, c .before .before .before .before .before .before .before .before .before .before .before .before .before .before .before .before .before .before .before .before .before .before .before .before .before .before .loop .inv .1 .same)
+same-length-7 t c =
+    let at-part = c .before .before .before .before .before .before .before .before .before .before .before .before .before .before .before .before .before in
+    let at-loop = at-part .before .before .before .before .before .before .before .before .before in
+    omega (arith, at-part .part .kept, at-loop .loop .inv .1 .same)
 
 pub same-length-8 : (t : ℕ) → lts.Need-same-length-8 (more-calls t) (more-at t) more.Post Inv-loop μ-loop
-same-length-8 t c = omega (arith, c .before .before .before .before .before .before .before .before .before .before .before .before .before .before .before .before .before .part .kept, c .before .before .before .before .before .before .before .before .before .before .before .before .before .before .before .before .before .before .before .before .before .before .before .before .before .before .loop .inv .1 .same)
+same-length-8 t c =
+    let at-part = c .before .before .before .before .before .before .before .before .before .before .before .before .before .before .before .before .before in
+    let at-loop = at-part .before .before .before .before .before .before .before .before .before in
+    omega (arith, at-part .part .kept, at-loop .loop .inv .1 .same)
 
 pub same-length-9 : (t : ℕ) → lts.Need-same-length-9 (more-calls t) (more-at t) more.Post Inv-loop μ-loop
-same-length-9 t c = omega (arith, c .before .before .before .before .before .before .before .before .before .before .before .before .before .before .before .before .before .part .kept, c .before .before .before .before .before .before .before .before .before .before .before .before .before .before .before .before .before .before .before .before .before .before .before .before .before .before .loop .inv .1 .same)
+same-length-9 t c =
+    let at-part = c .before .before .before .before .before .before .before .before .before .before .before .before .before .before .before .before .before in
+    let at-loop = at-part .before .before .before .before .before .before .before .before .before in
+    omega (arith, at-part .part .kept, at-loop .loop .inv .1 .same)
 
 pub same-length-10 : (t : ℕ) → lts.Need-same-length-10 (more-calls t) (more-at t) more.Post Inv-loop μ-loop
-same-length-10 t c = omega (arith, c .before .before .before .before .before .before .before .before .before .before .before .before .before .before .before .before .before .part .kept, c .before .before .before .before .before .before .before .before .before .before .before .before .before .before .before .before .before .before .before .before .before .before .before .before .before .before .loop .inv .1 .same)
+same-length-10 t c =
+    let at-part = c .before .before .before .before .before .before .before .before .before .before .before .before .before .before .before .before .before in
+    let at-loop = at-part .before .before .before .before .before .before .before .before .before in
+    omega (arith, at-part .part .kept, at-loop .loop .inv .1 .same)
 
 pub same-length-11 : (t : ℕ) → lts.Need-same-length-11 (more-calls t) (more-at t) more.Post Inv-loop μ-loop
 same-length-11 t c = omega (arith, c .before .before .before .before .before .before .before .loop .inv .1 .same)
@@ -260,46 +277,91 @@ pub same-length-15 : (t : ℕ) → lts.Need-same-length-15 (more-calls t) (more-
 same-length-15 t c = omega (arith, c .before .before .before .before .before .before .before .loop .inv .1 .same)
 
 pub same-length-16 : (t : ℕ) → lts.Need-same-length-16 (more-calls t) (more-at t) more.Post Inv-loop μ-loop
-same-length-16 t c = omega (arith, c .before .before .before .before .before .before .before .before .before .before .before .before .args2 .kept, c .before .before .before .before .before .before .before .before .before .before .before .before .before .before .before .before .before .before .before .before .copy-byte .kept, c .before .before .before .before .before .before .before .before .before .before .before .before .before .before .before .before .before .before .before .before .before .before .before .before .before .before .before .before .before .loop .inv .1 .same)
+same-length-16 t c =
+    let at-args2 = c .before .before .before .before .before .before .before .before .before .before .before .before in let at-copy-byte = before-args2 t at-args2 in
+    let at-loop = at-copy-byte .before .before .before .before .before .before .before .before .before in
+    omega (arith, at-args2 .args2 .kept, at-copy-byte .copy-byte .kept, at-loop .loop .inv .1 .same)
 
 pub same-length-17 : (t : ℕ) → lts.Need-same-length-17 (more-calls t) (more-at t) more.Post Inv-loop μ-loop
-same-length-17 t c = omega (arith, c .before .before .before .before .before .before .before .before .before .before .before .before .args2 .kept, c .before .before .before .before .before .before .before .before .before .before .before .before .before .before .before .before .before .before .before .before .copy-byte .kept, c .before .before .before .before .before .before .before .before .before .before .before .before .before .before .before .before .before .before .before .before .before .before .before .before .before .before .before .before .before .loop .inv .1 .same)
+same-length-17 t c =
+    let at-args2 = c .before .before .before .before .before .before .before .before .before .before .before .before in let at-copy-byte = before-args2 t at-args2 in
+    let at-loop = at-copy-byte .before .before .before .before .before .before .before .before .before in
+    omega (arith, at-args2 .args2 .kept, at-copy-byte .copy-byte .kept, at-loop .loop .inv .1 .same)
 
 pub same-length-18 : (t : ℕ) → lts.Need-same-length-18 (more-calls t) (more-at t) more.Post Inv-loop μ-loop
-same-length-18 t c = omega (arith, c .before .before .before .before .before .before .before .before .before .before .before .before .args2 .kept, c .before .before .before .before .before .before .before .before .before .before .before .before .before .before .before .before .before .before .before .before .copy-byte .kept, c .before .before .before .before .before .before .before .before .before .before .before .before .before .before .before .before .before .before .before .before .before .before .before .before .before .before .before .before .before .loop .inv .1 .same)
+same-length-18 t c =
+    let at-args2 = c .before .before .before .before .before .before .before .before .before .before .before .before in let at-copy-byte = before-args2 t at-args2 in
+    let at-loop = at-copy-byte .before .before .before .before .before .before .before .before .before in
+    omega (arith, at-args2 .args2 .kept, at-copy-byte .copy-byte .kept, at-loop .loop .inv .1 .same)
 
 pub same-length-19 : (t : ℕ) → lts.Need-same-length-19 (more-calls t) (more-at t) more.Post Inv-loop μ-loop
-same-length-19 t c = omega (arith, c .before .before .before .before .before .before .before .before .before .before .before .before .args2 .kept, c .before .before .before .before .before .before .before .before .before .before .before .before .before .before .before .before .before .before .before .before .copy-byte .kept, c .before .before .before .before .before .before .before .before .before .before .before .before .before .before .before .before .before .before .before .before .before .before .before .before .before .before .before .before .before .loop .inv .1 .same)
+same-length-19 t c =
+    let at-args2 = c .before .before .before .before .before .before .before .before .before .before .before .before in let at-copy-byte = before-args2 t at-args2 in
+    let at-loop = at-copy-byte .before .before .before .before .before .before .before .before .before in
+    omega (arith, at-args2 .args2 .kept, at-copy-byte .copy-byte .kept, at-loop .loop .inv .1 .same)
 
 pub same-length-20 : (t : ℕ) → lts.Need-same-length-20 (more-calls t) (more-at t) more.Post Inv-loop μ-loop
-same-length-20 t c = omega (arith, c .before .before .before .before .before .before .before .before .before .before .before .before .args2 .kept, c .before .before .before .before .before .before .before .before .before .before .before .before .before .before .before .before .before .before .before .before .copy-byte .kept, c .before .before .before .before .before .before .before .before .before .before .before .before .before .before .before .before .before .before .before .before .before .before .before .before .before .before .before .before .before .loop .inv .1 .same)
+same-length-20 t c =
+    let at-args2 = c .before .before .before .before .before .before .before .before .before .before .before .before in let at-copy-byte = before-args2 t at-args2 in
+    let at-loop = at-copy-byte .before .before .before .before .before .before .before .before .before in
+    omega (arith, at-args2 .args2 .kept, at-copy-byte .copy-byte .kept, at-loop .loop .inv .1 .same)
 
 pub same-length-21 : (t : ℕ) → lts.Need-same-length-21 (more-calls t) (more-at t) more.Post Inv-loop μ-loop
-same-length-21 t c = omega (arith, c .before .before .before .before .before .before .close .kept, c .before .before .before .before .before .before .before .before .before .before .before .before .before .before .before .before .before .before .before .before .before .args2 .kept, c .before .before .before .before .before .before .before .before .before .before .before .before .before .before .before .before .before .before .before .before .before .before .before .before .before .before .before .before .before .copy-byte .kept, c .before .before .before .before .before .before .before .before .before .before .before .before .before .before .before .before .before .before .before .before .before .before .before .before .before .before .before .before .before .before .before .before .before .before .before .before .before .before .loop .inv .1 .same)
+same-length-21 t c =
+    let at-close = c .before .before .before .before .before .before in let at-args2 = before-close t at-close in let at-copy-byte = before-args2 t at-args2 in
+    let at-loop = at-copy-byte .before .before .before .before .before .before .before .before .before in
+    omega (arith, at-close .close .kept, at-args2 .args2 .kept, at-copy-byte .copy-byte .kept, at-loop .loop .inv .1 .same)
 
 pub same-length-22 : (t : ℕ) → lts.Need-same-length-22 (more-calls t) (more-at t) more.Post Inv-loop μ-loop
-same-length-22 t c = omega (arith, c .before .before .before .before .before .before .close .kept, c .before .before .before .before .before .before .before .before .before .before .before .before .before .before .before .before .before .before .before .before .before .args2 .kept, c .before .before .before .before .before .before .before .before .before .before .before .before .before .before .before .before .before .before .before .before .before .before .before .before .before .before .before .before .before .copy-byte .kept, c .before .before .before .before .before .before .before .before .before .before .before .before .before .before .before .before .before .before .before .before .before .before .before .before .before .before .before .before .before .before .before .before .before .before .before .before .before .before .loop .inv .1 .same)
+same-length-22 t c =
+    let at-close = c .before .before .before .before .before .before in let at-args2 = before-close t at-close in let at-copy-byte = before-args2 t at-args2 in
+    let at-loop = at-copy-byte .before .before .before .before .before .before .before .before .before in
+    omega (arith, at-close .close .kept, at-args2 .args2 .kept, at-copy-byte .copy-byte .kept, at-loop .loop .inv .1 .same)
 
 pub same-length-23 : (t : ℕ) → lts.Need-same-length-23 (more-calls t) (more-at t) more.Post Inv-loop μ-loop
-same-length-23 t c = omega (arith, c .before .before .before .before .before .before .close .kept, c .before .before .before .before .before .before .before .before .before .before .before .before .before .before .before .before .before .before .before .before .before .args2 .kept, c .before .before .before .before .before .before .before .before .before .before .before .before .before .before .before .before .before .before .before .before .before .before .before .before .before .before .before .before .before .copy-byte .kept, c .before .before .before .before .before .before .before .before .before .before .before .before .before .before .before .before .before .before .before .before .before .before .before .before .before .before .before .before .before .before .before .before .before .before .before .before .before .before .loop .inv .1 .same)
+same-length-23 t c =
+    let at-close = c .before .before .before .before .before .before in let at-args2 = before-close t at-close in let at-copy-byte = before-args2 t at-args2 in
+    let at-loop = at-copy-byte .before .before .before .before .before .before .before .before .before in
+    omega (arith, at-close .close .kept, at-args2 .args2 .kept, at-copy-byte .copy-byte .kept, at-loop .loop .inv .1 .same)
 
 pub same-length-24 : (t : ℕ) → lts.Need-same-length-24 (more-calls t) (more-at t) more.Post Inv-loop μ-loop
-same-length-24 t c = omega (arith, c .before .before .before .before .before .before .close .kept, c .before .before .before .before .before .before .before .before .before .before .before .before .before .before .before .before .before .before .before .before .before .args2 .kept, c .before .before .before .before .before .before .before .before .before .before .before .before .before .before .before .before .before .before .before .before .before .before .before .before .before .before .before .before .before .copy-byte .kept, c .before .before .before .before .before .before .before .before .before .before .before .before .before .before .before .before .before .before .before .before .before .before .before .before .before .before .before .before .before .before .before .before .before .before .before .before .before .before .loop .inv .1 .same)
+same-length-24 t c =
+    let at-close = c .before .before .before .before .before .before in let at-args2 = before-close t at-close in let at-copy-byte = before-args2 t at-args2 in
+    let at-loop = at-copy-byte .before .before .before .before .before .before .before .before .before in
+    omega (arith, at-close .close .kept, at-args2 .args2 .kept, at-copy-byte .copy-byte .kept, at-loop .loop .inv .1 .same)
 
 pub same-length-25 : (t : ℕ) → lts.Need-same-length-25 (more-calls t) (more-at t) more.Post Inv-loop μ-loop
-same-length-25 t c = omega (arith, c .before .before .before .before .before .before .close .kept, c .before .before .before .before .before .before .before .before .before .before .before .before .before .before .before .before .before .before .before .before .before .args2 .kept, c .before .before .before .before .before .before .before .before .before .before .before .before .before .before .before .before .before .before .before .before .before .before .before .before .before .before .before .before .before .copy-byte .kept, c .before .before .before .before .before .before .before .before .before .before .before .before .before .before .before .before .before .before .before .before .before .before .before .before .before .before .before .before .before .before .before .before .before .before .before .before .before .before .loop .inv .1 .same)
+same-length-25 t c =
+    let at-close = c .before .before .before .before .before .before in let at-args2 = before-close t at-close in let at-copy-byte = before-args2 t at-args2 in
+    let at-loop = at-copy-byte .before .before .before .before .before .before .before .before .before in
+    omega (arith, at-close .close .kept, at-args2 .args2 .kept, at-copy-byte .copy-byte .kept, at-loop .loop .inv .1 .same)
 
 pub same-length-26 : (t : ℕ) → lts.Need-same-length-26 (more-calls t) (more-at t) more.Post Inv-loop μ-loop
-same-length-26 t c = omega (arith, c .before .before .before .before .before .before .before .close .kept, c .before .before .before .before .before .before .before .before .before .before .before .before .before .before .before .before .before .before .before .before .before .before .args2 .kept, c .before .before .before .before .before .before .before .before .before .before .before .before .before .before .before .before .before .before .before .before .before .before .before .before .before .before .before .before .before .before .copy-byte .kept, c .before .before .before .before .before .before .before .before .before .before .before .before .before .before .before .before .before .before .before .before .before .before .before .before .before .before .before .before .before .before .before .before .before .before .before .before .before .before .before .loop .inv .1 .same)
+same-length-26 t c =
+    let at-close = c .before .before .before .before .before .before .before in let at-args2 = before-close t at-close in let at-copy-byte = before-args2 t at-args2 in
+    let at-loop = at-copy-byte .before .before .before .before .before .before .before .before .before in
+    omega (arith, at-close .close .kept, at-args2 .args2 .kept, at-copy-byte .copy-byte .kept, at-loop .loop .inv .1 .same)
 
 pub same-length-27 : (t : ℕ) → lts.Need-same-length-27 (more-calls t) (more-at t) more.Post Inv-loop μ-loop
-same-length-27 t c = omega (arith, c .before .before .before .before .before .before .before .close .kept, c .before .before .before .before .before .before .before .before .before .before .before .before .before .before .before .before .before .before .before .before .before .before .args2 .kept, c .before .before .before .before .before .before .before .before .before .before .before .before .before .before .before .before .before .before .before .before .before .before .before .before .before .before .before .before .before .before .copy-byte .kept, c .before .before .before .before .before .before .before .before .before .before .before .before .before .before .before .before .before .before .before .before .before .before .before .before .before .before .before .before .before .before .before .before .before .before .before .before .before .before .before .loop .inv .1 .same)
+same-length-27 t c =
+    let at-close = c .before .before .before .before .before .before .before in let at-args2 = before-close t at-close in let at-copy-byte = before-args2 t at-args2 in
+    let at-loop = at-copy-byte .before .before .before .before .before .before .before .before .before in
+    omega (arith, at-close .close .kept, at-args2 .args2 .kept, at-copy-byte .copy-byte .kept, at-loop .loop .inv .1 .same)
 
 pub same-length-28 : (t : ℕ) → lts.Need-same-length-28 (more-calls t) (more-at t) more.Post Inv-loop μ-loop
-same-length-28 t c = omega (arith, c .before .before .before .before .before .before .before .close .kept, c .before .before .before .before .before .before .before .before .before .before .before .before .before .before .before .before .before .before .before .before .before .before .args2 .kept, c .before .before .before .before .before .before .before .before .before .before .before .before .before .before .before .before .before .before .before .before .before .before .before .before .before .before .before .before .before .before .copy-byte .kept, c .before .before .before .before .before .before .before .before .before .before .before .before .before .before .before .before .before .before .before .before .before .before .before .before .before .before .before .before .before .before .before .before .before .before .before .before .before .before .before .loop .inv .1 .same)
+same-length-28 t c =
+    let at-close = c .before .before .before .before .before .before .before in let at-args2 = before-close t at-close in let at-copy-byte = before-args2 t at-args2 in
+    let at-loop = at-copy-byte .before .before .before .before .before .before .before .before .before in
+    omega (arith, at-close .close .kept, at-args2 .args2 .kept, at-copy-byte .copy-byte .kept, at-loop .loop .inv .1 .same)
 
 pub same-length-29 : (t : ℕ) → lts.Need-same-length-29 (more-calls t) (more-at t) more.Post Inv-loop μ-loop
-same-length-29 t c = omega (arith, c .before .before .before .before .before .before .before .close .kept, c .before .before .before .before .before .before .before .before .before .before .before .before .before .before .before .before .before .before .before .before .before .before .args2 .kept, c .before .before .before .before .before .before .before .before .before .before .before .before .before .before .before .before .before .before .before .before .before .before .before .before .before .before .before .before .before .before .copy-byte .kept, c .before .before .before .before .before .before .before .before .before .before .before .before .before .before .before .before .before .before .before .before .before .before .before .before .before .before .before .before .before .before .before .before .before .before .before .before .before .before .before .loop .inv .1 .same)
+same-length-29 t c =
+    let at-close = c .before .before .before .before .before .before .before in let at-args2 = before-close t at-close in let at-copy-byte = before-args2 t at-args2 in
+    let at-loop = at-copy-byte .before .before .before .before .before .before .before .before .before in
+    omega (arith, at-close .close .kept, at-args2 .args2 .kept, at-copy-byte .copy-byte .kept, at-loop .loop .inv .1 .same)
 
 pub same-length-30 : (t : ℕ) → lts.Need-same-length-30 (more-calls t) (more-at t) more.Post Inv-loop μ-loop
-same-length-30 t c = omega (arith, c .before .before .before .before .before .before .before .close .kept, c .before .before .before .before .before .before .before .before .before .before .before .before .before .before .before .before .before .before .before .before .before .before .args2 .kept, c .before .before .before .before .before .before .before .before .before .before .before .before .before .before .before .before .before .before .before .before .before .before .before .before .before .before .before .before .before .before .copy-byte .kept, c .before .before .before .before .before .before .before .before .before .before .before .before .before .before .before .before .before .before .before .before .before .before .before .before .before .before .before .before .before .before .before .before .before .before .before .before .before .before .before .loop .inv .1 .same)
+same-length-30 t c =
+    let at-close = c .before .before .before .before .before .before .before in let at-args2 = before-close t at-close in let at-copy-byte = before-args2 t at-args2 in
+    let at-loop = at-copy-byte .before .before .before .before .before .before .before .before .before in
+    omega (arith, at-close .close .kept, at-args2 .args2 .kept, at-copy-byte .copy-byte .kept, at-loop .loop .inv .1 .same)

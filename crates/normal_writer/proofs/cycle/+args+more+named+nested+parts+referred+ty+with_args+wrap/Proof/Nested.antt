@@ -68,16 +68,31 @@ pub same-length-5 : (t : ℕ) → lts.Need-same-length-5 (nested-calls t) (neste
 same-length-5 t c = omega (arith, c .before .before .before .before .before .before .before .before .before .before .before .before .parts .kept, c .before .before .before .before .before .before .before .before .before .before .before .before .before .before .before .before .before .before .before .before .copy-byte .kept)
 
 pub same-length-6 : (t : ℕ) → lts.Need-same-length-6 (nested-calls t) (nested-at t) nested.Post
-same-length-6 t c = omega (arith, c .before .before .before .before .enter-nested .kept, c .before .before .before .before .before .before .before .before .before .before .close .kept, c .before .before .before .before .before .before .before .before .before .before .before .before .before .before .before .before .before .before .before .before .before .before .before .before .before .parts .kept, c .before .before .before .before .before .before .before .before .before .before .before .before .before .before .before .before .before .before .before .before .before .before .before .before .before .before .before .before .before .before .before .before .before .copy-byte .kept)
+same-length-6 t c =
+    let at-close = c .before .before .before .before .before .before .before .before .before .before in
+    let at-parts = at-close .before .before .before .before .before .before .before .before .before .before .before .before .before .before .before in let at-copy-byte = before-parts t at-parts in
+    omega (arith, c .before .before .before .before .enter-nested .kept, at-close .close .kept, at-parts .parts .kept, at-copy-byte .copy-byte .kept)
 
 pub same-length-7 : (t : ℕ) → lts.Need-same-length-7 (nested-calls t) (nested-at t) nested.Post
-same-length-7 t c = omega (arith, c .before .before .before .before .enter-nested .kept, c .before .before .before .before .before .before .before .before .before .before .close .kept, c .before .before .before .before .before .before .before .before .before .before .before .before .before .before .before .before .before .before .before .before .before .before .before .before .before .parts .kept, c .before .before .before .before .before .before .before .before .before .before .before .before .before .before .before .before .before .before .before .before .before .before .before .before .before .before .before .before .before .before .before .before .before .copy-byte .kept)
+same-length-7 t c =
+    let at-close = c .before .before .before .before .before .before .before .before .before .before in
+    let at-parts = at-close .before .before .before .before .before .before .before .before .before .before .before .before .before .before .before in let at-copy-byte = before-parts t at-parts in
+    omega (arith, c .before .before .before .before .enter-nested .kept, at-close .close .kept, at-parts .parts .kept, at-copy-byte .copy-byte .kept)
 
 pub same-length-8 : (t : ℕ) → lts.Need-same-length-8 (nested-calls t) (nested-at t) nested.Post
-same-length-8 t c = omega (arith, c .before .before .before .before .enter-nested .kept, c .before .before .before .before .before .before .before .before .before .before .close .kept, c .before .before .before .before .before .before .before .before .before .before .before .before .before .before .before .before .before .before .before .before .before .before .before .before .before .parts .kept, c .before .before .before .before .before .before .before .before .before .before .before .before .before .before .before .before .before .before .before .before .before .before .before .before .before .before .before .before .before .before .before .before .before .copy-byte .kept)
+same-length-8 t c =
+    let at-close = c .before .before .before .before .before .before .before .before .before .before in
+    let at-parts = at-close .before .before .before .before .before .before .before .before .before .before .before .before .before .before .before in let at-copy-byte = before-parts t at-parts in
+    omega (arith, c .before .before .before .before .enter-nested .kept, at-close .close .kept, at-parts .parts .kept, at-copy-byte .copy-byte .kept)
 
 pub same-length-9 : (t : ℕ) → lts.Need-same-length-9 (nested-calls t) (nested-at t) nested.Post
-same-length-9 t c = omega (arith, c .before .before .before .before .enter-nested .kept, c .before .before .before .before .before .before .before .before .before .before .close .kept, c .before .before .before .before .before .before .before .before .before .before .before .before .before .before .before .before .before .before .before .before .before .before .before .before .before .parts .kept, c .before .before .before .before .before .before .before .before .before .before .before .before .before .before .before .before .before .before .before .before .before .before .before .before .before .before .before .before .before .before .before .before .before .copy-byte .kept)
+same-length-9 t c =
+    let at-close = c .before .before .before .before .before .before .before .before .before .before in
+    let at-parts = at-close .before .before .before .before .before .before .before .before .before .before .before .before .before .before .before in let at-copy-byte = before-parts t at-parts in
+    omega (arith, c .before .before .before .before .enter-nested .kept, at-close .close .kept, at-parts .parts .kept, at-copy-byte .copy-byte .kept)
 
 pub same-length-10 : (t : ℕ) → lts.Need-same-length-10 (nested-calls t) (nested-at t) nested.Post
-same-length-10 t c = omega (arith, c .before .before .before .before .enter-nested .kept, c .before .before .before .before .before .before .before .before .before .before .close .kept, c .before .before .before .before .before .before .before .before .before .before .before .before .before .before .before .before .before .before .before .before .before .before .before .before .before .parts .kept, c .before .before .before .before .before .before .before .before .before .before .before .before .before .before .before .before .before .before .before .before .before .before .before .before .before .before .before .before .before .before .before .before .before .copy-byte .kept)
+same-length-10 t c =
+    let at-close = c .before .before .before .before .before .before .before .before .before .before in
+    let at-parts = at-close .before .before .before .before .before .before .before .before .before .before .before .before .before .before .before in let at-copy-byte = before-parts t at-parts in
+    omega (arith, c .before .before .before .before .enter-nested .kept, at-close .close .kept, at-parts .parts .kept, at-copy-byte .copy-byte .kept)

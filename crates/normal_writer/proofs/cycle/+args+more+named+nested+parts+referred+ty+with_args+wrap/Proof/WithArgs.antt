@@ -95,16 +95,31 @@ pub same-length-6 : (t : ℕ) → lts.Need-same-length-6 (with-args-calls t) (wi
 same-length-6 t c = omega (arith, c .before .before .before .before .before .before .before .before .before .before .before .before .args2 .kept, c .before .before .before .before .before .before .before .before .before .before .before .before .before .before .before .before .before .before .before .before .copy-byte .kept)
 
 pub same-length-7 : (t : ℕ) → lts.Need-same-length-7 (with-args-calls t) (with-args-at t) with-args.Post
-same-length-7 t c = omega (arith, c .before .before .before .before .enter .kept, c .before .before .before .before .before .before .before .before .before .close .kept, c .before .before .before .before .before .before .before .before .before .before .before .before .before .before .before .before .before .before .before .before .before .before .before .before .args2 .kept, c .before .before .before .before .before .before .before .before .before .before .before .before .before .before .before .before .before .before .before .before .before .before .before .before .before .before .before .before .before .before .before .before .copy-byte .kept)
+same-length-7 t c =
+    let at-close = c .before .before .before .before .before .before .before .before .before in
+    let at-args2 = at-close .before .before .before .before .before .before .before .before .before .before .before .before .before .before .before in let at-copy-byte = before-args2 t at-args2 in
+    omega (arith, c .before .before .before .before .enter .kept, at-close .close .kept, at-args2 .args2 .kept, at-copy-byte .copy-byte .kept)
 
 pub same-length-8 : (t : ℕ) → lts.Need-same-length-8 (with-args-calls t) (with-args-at t) with-args.Post
-same-length-8 t c = omega (arith, c .before .before .before .before .enter .kept, c .before .before .before .before .before .before .before .before .before .close .kept, c .before .before .before .before .before .before .before .before .before .before .before .before .before .before .before .before .before .before .before .before .before .before .before .before .args2 .kept, c .before .before .before .before .before .before .before .before .before .before .before .before .before .before .before .before .before .before .before .before .before .before .before .before .before .before .before .before .before .before .before .before .copy-byte .kept)
+same-length-8 t c =
+    let at-close = c .before .before .before .before .before .before .before .before .before in
+    let at-args2 = at-close .before .before .before .before .before .before .before .before .before .before .before .before .before .before .before in let at-copy-byte = before-args2 t at-args2 in
+    omega (arith, c .before .before .before .before .enter .kept, at-close .close .kept, at-args2 .args2 .kept, at-copy-byte .copy-byte .kept)
 
 pub same-length-9 : (t : ℕ) → lts.Need-same-length-9 (with-args-calls t) (with-args-at t) with-args.Post
-same-length-9 t c = omega (arith, c .before .before .before .before .enter .kept, c .before .before .before .before .before .before .before .before .before .close .kept, c .before .before .before .before .before .before .before .before .before .before .before .before .before .before .before .before .before .before .before .before .before .before .before .before .args2 .kept, c .before .before .before .before .before .before .before .before .before .before .before .before .before .before .before .before .before .before .before .before .before .before .before .before .before .before .before .before .before .before .before .before .copy-byte .kept)
+same-length-9 t c =
+    let at-close = c .before .before .before .before .before .before .before .before .before in
+    let at-args2 = at-close .before .before .before .before .before .before .before .before .before .before .before .before .before .before .before in let at-copy-byte = before-args2 t at-args2 in
+    omega (arith, c .before .before .before .before .enter .kept, at-close .close .kept, at-args2 .args2 .kept, at-copy-byte .copy-byte .kept)
 
 pub same-length-10 : (t : ℕ) → lts.Need-same-length-10 (with-args-calls t) (with-args-at t) with-args.Post
-same-length-10 t c = omega (arith, c .before .before .before .before .enter .kept, c .before .before .before .before .before .before .before .before .before .close .kept, c .before .before .before .before .before .before .before .before .before .before .before .before .before .before .before .before .before .before .before .before .before .before .before .before .args2 .kept, c .before .before .before .before .before .before .before .before .before .before .before .before .before .before .before .before .before .before .before .before .before .before .before .before .before .before .before .before .before .before .before .before .copy-byte .kept)
+same-length-10 t c =
+    let at-close = c .before .before .before .before .before .before .before .before .before in
+    let at-args2 = at-close .before .before .before .before .before .before .before .before .before .before .before .before .before .before .before in let at-copy-byte = before-args2 t at-args2 in
+    omega (arith, c .before .before .before .before .enter .kept, at-close .close .kept, at-args2 .args2 .kept, at-copy-byte .copy-byte .kept)
 
 pub same-length-11 : (t : ℕ) → lts.Need-same-length-11 (with-args-calls t) (with-args-at t) with-args.Post
-same-length-11 t c = omega (arith, c .before .before .before .before .enter .kept, c .before .before .before .before .before .before .before .before .before .close .kept, c .before .before .before .before .before .before .before .before .before .before .before .before .before .before .before .before .before .before .before .before .before .before .before .before .args2 .kept, c .before .before .before .before .before .before .before .before .before .before .before .before .before .before .before .before .before .before .before .before .before .before .before .before .before .before .before .before .before .before .before .before .copy-byte .kept)
+same-length-11 t c =
+    let at-close = c .before .before .before .before .before .before .before .before .before in
+    let at-args2 = at-close .before .before .before .before .before .before .before .before .before .before .before .before .before .before .before in let at-copy-byte = before-args2 t at-args2 in
+    omega (arith, c .before .before .before .before .enter .kept, at-close .close .kept, at-args2 .args2 .kept, at-copy-byte .copy-byte .kept)

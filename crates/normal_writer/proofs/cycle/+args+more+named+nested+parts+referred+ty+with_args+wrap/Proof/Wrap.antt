@@ -56,16 +56,36 @@ pub same-length-5 : (t : ℕ) → lts.Need-same-length-5 (wrap-calls t) (wrap-at
 same-length-5 t c = omega (arith, c .before .before .before .before .before .before .before .before .before .before .before .before .ty .kept, c .before .before .before .before .before .before .before .before .before .before .before .before .before .before .before .before .before .before .before .before .copy-byte .kept)
 
 pub same-length-6 : (t : ℕ) → lts.Need-same-length-6 (wrap-calls t) (wrap-at t) wrap.Post
-same-length-6 t c = omega (arith, c .before .before .before .before .before .before .before .before .before .before .wrap .kept, c .before .before .before .before .before .before .before .before .before .before .before .before .before .before .before .before .before .before .before .before .before .before .before .before .before .before .before .before .before .ty .kept, c .before .before .before .before .before .before .before .before .before .before .before .before .before .before .before .before .before .before .before .before .before .before .before .before .before .before .before .before .before .before .before .before .before .before .before .before .before .copy-byte .kept)
+same-length-6 t c =
+    let at-wrap = c .before .before .before .before .before .before .before .before .before .before in
+    let at-ty = at-wrap .before .before .before .before .before .before .before .before .before .before .before .before .before .before .before .before .before .before .before in
+    let at-copy-byte = before-ty t at-ty in
+    omega (arith, at-wrap .wrap .kept, at-ty .ty .kept, at-copy-byte .copy-byte .kept)
 
 pub same-length-7 : (t : ℕ) → lts.Need-same-length-7 (wrap-calls t) (wrap-at t) wrap.Post
-same-length-7 t c = omega (arith, c .before .before .before .before .before .before .before .before .before .before .wrap .kept, c .before .before .before .before .before .before .before .before .before .before .before .before .before .before .before .before .before .before .before .before .before .before .before .before .before .before .before .before .before .ty .kept, c .before .before .before .before .before .before .before .before .before .before .before .before .before .before .before .before .before .before .before .before .before .before .before .before .before .before .before .before .before .before .before .before .before .before .before .before .before .copy-byte .kept)
+same-length-7 t c =
+    let at-wrap = c .before .before .before .before .before .before .before .before .before .before in
+    let at-ty = at-wrap .before .before .before .before .before .before .before .before .before .before .before .before .before .before .before .before .before .before .before in
+    let at-copy-byte = before-ty t at-ty in
+    omega (arith, at-wrap .wrap .kept, at-ty .ty .kept, at-copy-byte .copy-byte .kept)
 
 pub same-length-8 : (t : ℕ) → lts.Need-same-length-8 (wrap-calls t) (wrap-at t) wrap.Post
-same-length-8 t c = omega (arith, c .before .before .before .before .before .before .before .before .before .before .wrap .kept, c .before .before .before .before .before .before .before .before .before .before .before .before .before .before .before .before .before .before .before .before .before .before .before .before .before .before .before .before .before .ty .kept, c .before .before .before .before .before .before .before .before .before .before .before .before .before .before .before .before .before .before .before .before .before .before .before .before .before .before .before .before .before .before .before .before .before .before .before .before .before .copy-byte .kept)
+same-length-8 t c =
+    let at-wrap = c .before .before .before .before .before .before .before .before .before .before in
+    let at-ty = at-wrap .before .before .before .before .before .before .before .before .before .before .before .before .before .before .before .before .before .before .before in
+    let at-copy-byte = before-ty t at-ty in
+    omega (arith, at-wrap .wrap .kept, at-ty .ty .kept, at-copy-byte .copy-byte .kept)
 
 pub same-length-9 : (t : ℕ) → lts.Need-same-length-9 (wrap-calls t) (wrap-at t) wrap.Post
-same-length-9 t c = omega (arith, c .before .before .before .before .before .before .before .before .before .before .wrap .kept, c .before .before .before .before .before .before .before .before .before .before .before .before .before .before .before .before .before .before .before .before .before .before .before .before .before .before .before .before .before .ty .kept, c .before .before .before .before .before .before .before .before .before .before .before .before .before .before .before .before .before .before .before .before .before .before .before .before .before .before .before .before .before .before .before .before .before .before .before .before .before .copy-byte .kept)
+same-length-9 t c =
+    let at-wrap = c .before .before .before .before .before .before .before .before .before .before in
+    let at-ty = at-wrap .before .before .before .before .before .before .before .before .before .before .before .before .before .before .before .before .before .before .before in
+    let at-copy-byte = before-ty t at-ty in
+    omega (arith, at-wrap .wrap .kept, at-ty .ty .kept, at-copy-byte .copy-byte .kept)
 
 pub same-length-10 : (t : ℕ) → lts.Need-same-length-10 (wrap-calls t) (wrap-at t) wrap.Post
-same-length-10 t c = omega (arith, c .before .before .before .before .before .before .before .before .before .before .wrap .kept, c .before .before .before .before .before .before .before .before .before .before .before .before .before .before .before .before .before .before .before .before .before .before .before .before .before .before .before .before .before .ty .kept, c .before .before .before .before .before .before .before .before .before .before .before .before .before .before .before .before .before .before .before .before .before .before .before .before .before .before .before .before .before .before .before .before .before .before .before .before .before .copy-byte .kept)
+same-length-10 t c =
+    let at-wrap = c .before .before .before .before .before .before .before .before .before .before in
+    let at-ty = at-wrap .before .before .before .before .before .before .before .before .before .before .before .before .before .before .before .before .before .before .before in
+    let at-copy-byte = before-ty t at-ty in
+    omega (arith, at-wrap .wrap .kept, at-ty .ty .kept, at-copy-byte .copy-byte .kept)
