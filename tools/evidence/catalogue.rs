@@ -801,10 +801,9 @@ pub const RULES: &[(&str, u8, &str)] = &[
     ("_Z1f1a1aP1aS1_", 0, "_Z1f1aS_PS_S_"),
     ("_Z1f1a1a1bS1_", 0, "_Z1f1aS_1bS0_"),
     ("_Z1f1a1a1bS0_", 0, "_Z1f1aS_1bS_"),
-    // the same sum, each byte counted 31 times as much as the one behind it, and another name
-    ("_Z1f2Aa2BB", 0, "_Z1f2Aa2BB"),
-    ("_Z1f2Aa2BB2Aa2BB", 0, "_Z1f2Aa2BBS_S0_"),
-    ("_Z1f4aaaa4baaa4aaaa4baaa", 0, "_Z1f4aaaa4baaaS_S0_"),
+    // the same sum, each byte counted 9 times as much as the one behind it, and another name
+    ("_Z1f2aj2ba", 0, "_Z1f2aj2ba"),
+    ("_Z1f2aj2ba2aj2ba", 0, "_Z1f2aj2baS_S0_"),
     // references
     ("_Z1f1a1bS00_", 6, ""),
     ("_Z1f1a1bS0_", 0, "_Z1f1a1bS0_"),
@@ -1227,29 +1226,21 @@ pub fn long_texts(texts: std::ops::RangeInclusive<usize>, arguments: std::ops::R
     out
 }
 
-/// The word number i of so many letters of the alphabet.
-fn word_of(alphabet: &[u8], length: usize, i: usize) -> impl Iterator<Item = u8> + '_ {
-    (0..length).rev().map(move |k| alphabet[i / alphabet.len().pow(k as u32) % alphabet.len()])
-}
-
-/// So many words of the alphabet that have the same sum in 14 bits, each byte counted 31 times as much as the one behind it. Equal classes and literals
+/// So many words of the alphabet that have the same sum in 14 bits, each byte counted 9 times as much as the one behind it. Equal classes and literals
 /// may be sought by such a sum, and others be met on the way.
-fn of_equal_sums(alphabet: &[u8], length: usize, count: usize) -> Vec<String> {
-    let front = |i: usize| word_of(alphabet, length - 1, i);
-    let last = |i: usize| front(i).fold(0, |sum, byte| 31 * (sum + byte as usize)).wrapping_neg() % 16384;
-    let fitting = (0..alphabet.len().pow(length as u32 - 1)).filter(|i| u8::try_from(last(*i)).is_ok_and(|byte| alphabet.contains(&byte)));
+fn alike(alphabet: &[u8], length: usize, count: usize) -> Vec<String> {
+    let base = alphabet.len();
+    let front = |i: usize| (0..length - 1).rev().map(move |k| alphabet[i / base.pow(k as u32) % base]);
+    let last = |i: usize| front(i).fold(0, |sum, byte| 9 * (sum + byte as usize)).wrapping_neg() % 16384;
+    let fitting = (0..base.pow(length as u32 - 1)).filter(|i| u8::try_from(last(*i)).is_ok_and(|byte| alphabet.contains(&byte)));
     fitting.take(count).map(|i| front(i).chain([last(i) as u8]).map(char::from).collect()).collect()
 }
 
-/// So many words of the alphabet with the same last four bytes, by which they may be sought too.
-fn of_equal_endings(alphabet: &[u8], length: usize, count: usize) -> Vec<String> {
-    (0..count).map(|i| word_of(alphabet, length - 4, i).chain([alphabet[0]; 4]).map(char::from).collect()).collect()
-}
-
 /// Classes and literals that only their words tell apart, in full and once more.
-fn told_by_words(names: &[String], values: &[String]) -> Vec<String> {
+pub fn equal_sums() -> Vec<String> {
+    let (names, values) = (alike(b"abcdefghijklmnopqrstuvwxyz", 5, 250), alike(b"123456789", 8, 400));
     let mut out = vec![];
-    for n in [2, 3, 40, names.len()] {
+    for n in [2, 3, 40, 250] {
         let shape = |before: &str, after: &str| names[..n].iter().map(|name| format!("{before}{}{after}", source(name))).collect::<Vec<_>>();
         for (before, after) in [("", ""), ("P", ""), ("N1a", "E"), ("", "IiE"), ("N1a", "IiEE"), ("RK", "")] {
             let mut all = shape(before, after);
@@ -1258,22 +1249,11 @@ fn told_by_words(names: &[String], values: &[String]) -> Vec<String> {
             out.extend([format!("_Z1f{once}{once}"), format!("_Z1f{once}{}", all.concat()), format!("_ZN1a1fE{once}")]);
         }
     }
-    for n in [2, 3, 40, values.len()] {
+    for n in [2, 3, 40, 400] {
         let list: String = values[..n].iter().map(|value| format!("Li{value}E")).collect();
         out.extend([format!("_Z1f1aI{list}E1aI{list}E"), format!("_Z1f1aI{list}E1bI{list}ES_I{list}E")]);
     }
     out
-}
-
-const SMALL: &[u8] = b"abcdefghijklmnopqrstuvwxyz";
-const DIGITS: &[u8] = b"123456789";
-
-pub fn equal_sums() -> Vec<String> {
-    told_by_words(&of_equal_sums(SMALL, 5, 250), &of_equal_sums(DIGITS, 8, 400))
-}
-
-pub fn equal_endings() -> Vec<String> {
-    told_by_words(&of_equal_endings(SMALL, 6, 250), &of_equal_endings(DIGITS, 7, 400))
 }
 
 /// A lone function name so long that `fixed` bytes and the name are `total`. Lengths that no name makes are passed over.

@@ -560,7 +560,6 @@ fn limits(seed: u64, wide: usize) -> Vec<(&'static str, Vec<Vec<u8>>)> {
         ("catalogue symbols by entries", bytes(catalogue::full_tables(about(1024), about(32768)))),
         ("catalogue symbols by references", bytes(catalogue::references())),
         ("catalogue symbols of equal sums", bytes(catalogue::equal_sums())),
-        ("catalogue symbols of equal endings", bytes(catalogue::equal_endings())),
         ("catalogue symbols by texts", bytes(catalogue::long_texts(about(16384), about(32768)))),
         ("catalogue symbols by lengths", bytes(lengths(seed, about(4096), 40))),
         ("long catalogue symbols by lengths", bytes(long_lengths(seed, about(catalogue::MOST_NORMAL), 24))),

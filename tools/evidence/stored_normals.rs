@@ -170,7 +170,6 @@ fn groups(real: &str, seed: u64) -> Vec<(&'static str, Vec<Vec<u8>>)> {
     out.push(("high bytes", (0..10).map(|_| symbols::high(&mut rng, &grammar.any())).collect()));
     out.push(("thunks", thunks_by_hand(seed)));
     out.push(("equal sums", bytes(catalogue::equal_sums())));
-    out.push(("equal endings", bytes(catalogue::equal_endings())));
     out.push(("long", long(seed)));
     // a last line without line feed
     out.push(("the last", vec![b"_Z4last1a1bS0_".to_vec()]));

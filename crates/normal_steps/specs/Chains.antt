@@ -2,8 +2,8 @@
 use mathlib.Core.Bool.{true}
 use mathlib.Core.List.{List, [], _∷_}
 use mathlib.Core.Path.{_≡_}
-use Prim.Native.Nat.{ℕ, _+_, _-_, _*_, _%_, _≤_, _<_}
-use lib.ListN.{length, drop, getD}
+use Prim.Native.Nat.{ℕ, _+_, _*_, _%_, _≤_, _<_}
+use lib.ListN.{length, getD}
 use Rattle.grammar.specs.Text.{Text}
 use Rattle.grammar.specs.Limits.{most-symbol-bytes}
 use Rattle.catalogue.specs.Answer.{least-numbers}
@@ -17,14 +17,10 @@ buckets = most-symbol-bytes
 
 unfoldable pub summed : ℕ → Text → ℕ
 summed k [] = k
-summed k (c ∷ t) = summed ((31 * k + c) % buckets) t
-
--- the last three bytes of a word, which tell most words apart
-abbrev pub ending : Text → Text
-ending w = drop (length w - 3) w
+summed k (c ∷ t) = summed ((9 * k + c) % buckets) t
 
 unfoldable pub bucket-of : Node → ℕ
-bucket-of x = summed ((31 * x .of + x .tag) % buckets) (ending (x .word))
+bucket-of x = summed ((9 * x .of + x .tag) % buckets) (x .word)
 
 -- node i is behind node k or is it, before the bound, and in bucket b
 abbrev pub Reaches : (ℕ → Node) → ℕ → ℕ → ℕ → ℕ → Type 0

@@ -121,26 +121,15 @@ pub fn push(tables: &mut [u16], p: Writer, d: usize) -> Writer
     p.entered(n + 1, m + 1)
 }
 
-// Where the last bytes of a word begin.
-fn ending(from: usize, to: usize) -> usize
-    requires { ⌜ from ≤ to ⌝ }
-    ensures { λ r. ⌜ r ≡ from + ((to - from) - 3) ⌝ }
-{
-    if to - from <= 3 {
-        return from;
-    }
-    to - 3
-}
-
 // The bucket of a node: nodes in different buckets are different.
 fn bucket(s: &[u8], tag: usize, of: usize, from: usize, to: usize) -> usize
-    requires { ⌜ ((tag < most-note) × (of < most-note)) × ((from ≤ to) × (to ≤ length (now s))) ⌝ }
+    requires { ⌜ ((tag < most-note) × (of < most-note)) × (to ≤ length (now s)) ⌝ }
     ensures { λ r. ⌜ r ≡ bucket-of (node tag of (part (now (s .entry)) from to)) ⌝ }
 {
-    let mut sum = (31 * of + tag) % Parser::SYMBOL;
-    let mut i = ending(from, to);
+    let mut sum = (9 * of + tag) % Parser::SYMBOL;
+    let mut i = from;
     while i < to {
-        sum = (31 * sum + s[i] as usize) % Parser::SYMBOL;
+        sum = (9 * sum + s[i] as usize) % Parser::SYMBOL;
         i += 1;
     }
     sum

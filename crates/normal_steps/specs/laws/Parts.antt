@@ -5,7 +5,7 @@ use mathlib.Core.Path.{_≡_, refl, sym, ap, _∙_}
 use Prim.Native.Nat.{ℕ, suc, _+_, _-_, _≤_, _<_}
 use native.Mathlib.Omega.{arith}
 use lib.ListN.{length, take, drop, getD, length-take, length-drop}
-use lib.Seq.{length-take-le, take-add, drop-drop, take-at, drop-at}
+use lib.Seq.{drop-drop, take-at}
 use Rattle.grammar.specs.Text.{Text, run, past}
 use Rattle.grammar.specs.laws.Places.{rest-some, past-run}
 use Rattle.catalogue.specs.Bytes.{all}
@@ -22,14 +22,6 @@ module _ (s : Text) (i : ℕ) where
 
     pub part-more : i < to → to ≤ length s → part s i to ≡ getD s i 0 ∷ part s (i + 1) to
     part-more h l = let e : to - i ≡ suc (to - (i + 1)) = omega arith in rw (e, rest-some s i (omega arith)) refl
-
--- a part without its first bytes
-pub part-behind : (s : Text) (i k to : ℕ) → i + k ≤ to → to ≤ length s → drop k (part s i to) ≡ part s (i + k) to
-part-behind s i k to h l =
-    ap (λ (j : ℕ). drop k (take j (drop i s))) {x = to - i} {y = k + (to - (i + k))} (omega arith)
-    ∙ ap (drop k) (take-add k (to - (i + k)) (drop i s))
-    ∙ drop-at (take k (drop i s)) (take (to - (i + k)) (drop k (drop i s))) k (length-take-le k (drop i s) (omega (arith, length-drop i s)))
-    ∙ ap (take (to - (i + k))) (drop-drop k i s)
 
 module _ (p : ℕ → Bool) where
   -- a part's bytes, one at a time

@@ -1,12 +1,12 @@
--- `normal_steps::memory::bucket` sums up the last bytes of a word. The loop's invariant: the sum over the bytes left is that over all. The measure is what is left. Assumes nothing.
+-- `normal_steps::memory::bucket` sums up the bytes of a word. The loop's invariant: the sum over the bytes left is that over all. The measure is what is left. Assumes nothing.
 use mathlib.Core.Path.{_≡_, refl, sym, ap, _∙_}
-use Prim.Native.Nat.{ℕ, _+_, _-_, _*_, _%_, _<_}
+use Prim.Native.Nat.{ℕ, _-_, _<_, _≤_}
 use lib.ListN.{length, getD}
 use Rattle.grammar.specs.Text.{Text}
 use Rattle.normal_nodes.specs.Nodes.{node}
 use Rattle.normal_steps.specs.Parts.{part}
 use Rattle.normal_steps.specs.Chains.{buckets, summed, bucket-of}
-use Rattle.normal_steps.specs.laws.Parts.{part-length, part-none, part-more, part-behind}
+use Rattle.normal_steps.specs.laws.Parts.{part-more, part-none}
 use borrow.Author.Needs.{needs}
 use native.Mathlib.Omega.{arith}
 use Rattle.normal_steps.proofs.memory.bucket.Statement.{statement}
@@ -20,34 +20,26 @@ abbrev μ-loop : tie.MeasureT-loop
 
 loop-holds : tie.Need-loop-holds Inv-loop μ-loop
 unfolding bucket-of
-loop-holds c =
-    let a = c .before .before .args in
-    let n = part-length (a .s .now) (a .from) (a .to) (omega arith) in
-    let i : c .ending .result ≡ a .from + (length (part (a .s .now) (a .from) (a .to)) - 3) = c .ending .ensures ∙ ap (λ (j : ℕ). a .from + (j - 3)) (sym n) in
-    let k = (31 * a .of + a .tag) % buckets in (
-      omega arith,
-      ap (λ (j : ℕ). summed k (part (a .s .now) j (a .to))) i
-          ∙ ap (summed k) (sym (part-behind (a .s .now) (a .from) (length (part (a .s .now) (a .from) (a .to)) - 3) (a .to) (omega (arith, n)) (omega arith))),
-    )
+loop-holds c = (omega arith, refl)
 
 cast-sum : tie.Need-cast-sum Inv-loop μ-loop
-cast-sum c = omega (arith, c .shared-slice-known2 .given (c .before .before .loop .i))
+cast-sum c = omega (arith, c .shared-slice-known .given (c .before .before .loop .i))
 
 add-sum-2 : tie.Need-add-sum-2 Inv-loop μ-loop
-add-sum-2 c = omega (arith, c .shared-slice-known2 .given (c .before .before .loop .i), c .before .before .loop .inv .0)
+add-sum-2 c = omega (arith, c .shared-slice-known .given (c .before .before .loop .i), c .before .before .loop .inv .0)
 
 loop-again : tie.Need-loop-again Inv-loop μ-loop
 unfolding summed
 loop-again c =
     let l = c .before .before .loop in
-    let a = c .before .before .before .before .before .args in
+    let a = c .before .before .before .args in
     (omega arith, sym (ap (summed (l .sum)) (part-more (a .s .now) (l .i) (a .to) (omega arith) (omega arith))) ∙ l .inv .1)
 
 returns : tie.Need-returns Inv-loop μ-loop
 unfolding summed
 returns c =
     let l = c .before .loop in
-    let a = c .before .before .before .before .args in
+    let a = c .before .before .args in
     sym (ap (summed (l .sum)) (part-none (a .s .now) (l .i) (a .to) (omega arith))) ∙ l .inv .1
 
 pub bucket-spec : {M : Type 1} → statement M
@@ -58,7 +50,6 @@ bucket-spec =
     μ-loop
     (λ c. search needs)
     (λ c. search needs)
-    (λ c κs. search needs)
     loop-holds
     (λ c. search needs)
     (λ c. search needs)

@@ -10,7 +10,7 @@ use Rattle.normal_steps.proofs.memory.note.Statement.{statement}
 use Rattle.normal_steps.proofs.memory.note.Tie as tie
 
 bucket-requires : tie.Need-bucket-requires
-bucket-requires c κs = let q = c .before .before .before .before .before .pre in (q .0, q .1 .0)
+bucket-requires c κs = let q = c .before .before .before .before .before .pre in (q .0, q .1 .0 .1)
 
 node-place-requires : tie.Need-node-place-requires
 node-place-requires c κs = let q = c .before .before .before .before .before .before .before .before .before .pre in let h = q .1 .1 .1 .1 .1 in (h .found, (q .1 .0, c .before .before .before .bucket .ensures))
