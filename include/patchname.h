@@ -74,7 +74,8 @@ uint8_t patchname_demangle(
 #define PATCHNAME_NORMAL_SYMBOL_BYTES 16384
 
 /* The least length of each of `ends`, `words`, `tables` and `chains` for normal symbols, in numbers of 16 bits; `text` and `store` are as long as
- * for names. Symbols of 16,384 bytes need all four: an `ends` of 24,576 numbers, which was enough for 4,096 bytes, is refused with 14. */
+ * for names. Symbols of 16,384 bytes need all four: an `ends` of 24,576 numbers, which was enough for 4,096 bytes, is refused with 14. The functions
+ * for normal symbols have six parameters more than they had for 4,096 bytes, so that a caller is compiled anew. */
 #define PATCHNAME_NORMALIZE_NUMBERS_LENGTH 32768
 
 /* The normal symbol of a catalogue symbol: two of them have the same normal symbol exactly when they have the same name. Parameters, what is

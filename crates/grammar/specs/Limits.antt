@@ -1,4 +1,4 @@
--- The limits of document 01, and what follows from them for the memory of the reading.
+-- The limits of document 01, that on symbols as document 02 has it (T-07), and what follows from them for the memory of the reading.
 use Prim.Native.Nat.{ℕ, _+_, _*_}
 
 -- names, types and lists of template arguments that are open at once
@@ -9,7 +9,7 @@ most-open = 96
 abbrev pub most-entries : ℕ
 most-entries = 1024
 
--- bytes of a symbol
+-- bytes of a symbol, and of a normal symbol: "The limit on a symbol and on a normal symbol becomes 16,384"
 abbrev pub most-symbol-bytes : ℕ
 most-symbol-bytes = 16384
 

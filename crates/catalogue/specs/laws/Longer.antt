@@ -103,7 +103,8 @@ module _ {m n : ℕ} (h : m ≤ n) where
 
 -- ---- the limit before T-07, and the limit
 
--- "With work slices long enough for both, an answer that was neither 1 nor 13 under the old limit is the same under the new."
+-- "With work slices long enough for both, an answer that was neither 1 nor 13 under the old limit is the same under the new." The entry asked for
+-- 24,576 numbers in `ends` then and for no other slice of numbers; slices that are long enough now are long enough for that too.
 module _ (s : Text) where
   pub earlier-normal : (normal-symbol earlier-symbol-bytes s ≡ refusal 1 → ⊥) → (normal-symbol earlier-symbol-bytes s ≡ refusal 13 → ⊥)
       → normal-symbol most-symbol-bytes s ≡ normal-symbol earlier-symbol-bytes s

@@ -162,7 +162,8 @@ module _ {s : Text} {ws : Work} {p : Writer} {σ : Notes} (h : Carries s ws p σ
       nodes-more =
           let f = h .found in
           sym
-          (ap (λ (ns : List Node). ns ++ (node-at s e' w' (p .nodes) ∷ [])) (nodes-same s (ws .ends) (ws .words) e' w' (p .nodes) (node-old s (ws .ends) (ws .words) (p .nodes) tag of from to) ∙ sym (h .nodes-are))
+          (ap (λ (ns : List Node). ns ++ (node-at s e' w' (p .nodes) ∷ []))
+          (nodes-same s (ws .ends) (ws .words) e' w' (p .nodes) (node-old s (ws .ends) (ws .words) (p .nodes) tag of from to) ∙ sym (h .nodes-are))
           ∙ ap (λ (y : Node). σ .nodes ++ (y ∷ []))
           (node-new s (ws .ends) (ws .words) (p .nodes) tag of from to (omega (arith, node-room, f .ends-size)) (omega (arith, node-room, f .words-size))))
 
@@ -185,5 +186,6 @@ module _ {s : Text} {ws : Work} {p : Writer} {σ : Notes} (h : Carries s ws p σ
           → seek-by (same-node x) (nodes-of s (ws .ends) (ws .words) (p .nodes)) ≡ none
           → Refines s (Took 1 0 0 (p .out) p) (notes-to ws e₁ w₁ (set (ws .tables) (middle + p .nodes) 0) c₁) (Number q (256 + p .nodes)) (notes-node x σ)
       note-written {e₁} {w₁} {c₁} q i j k g e =
-          let R : Text → Text → Text → Type 0 = λ a b d. Refines s (Took 1 0 0 (p .out) p) (notes-to ws a b (set (ws .tables) (middle + p .nodes) 0) d) (Number q (256 + p .nodes)) (notes-node x σ) in
+          let R : Text → Text → Text → Type 0 = λ a b d.
+          Refines s (Took 1 0 0 (p .out) p) (notes-to ws a b (set (ws .tables) (middle + p .nodes) 0) d) (Number q (256 + p .nodes)) (notes-node x σ) in
           subst (λ (a : Text). R a w₁ c₁) (sym i) (subst (λ (b : Text). R e' b c₁) (sym j) (subst (λ (d : Text). R e' w' d) (sym k) (note-new q g e)))

@@ -16,7 +16,8 @@ use Rattle.grammar.specs.laws.Places.{starts-byte}
 use Rattle.normal_nodes.specs.laws.Numbered.{TellsNode, with-tells, number-in, parts-tell}
 use Rattle.normal_steps.specs.States.{moved-to}
 use Rattle.normal_steps.specs.Leads.{class}
-use Rattle.normal_steps.specs.Carries.{Work, out-to, ends-to, tables-to, Carries, Ready, Stretch, Spent, Refines, tells, refuses, Reads, Fueled, Does, Copies, Closes, Tag, most-number, at-part, closed}
+use Rattle.normal_steps.specs.Carries.{Work, out-to, ends-to, tables-to, Carries, Ready, Stretch, Spent, Refines, tells}
+use Rattle.normal_steps.specs.Carries.{refuses, Reads, Fueled, Does, Copies, Closes, Tag, most-number, at-part, closed}
 use Rattle.normal_writer.specs.Cycle.{Leads}
 use Rattle.normal_steps.specs.laws.Told.{Answered, answered, refused, by, within}
 use Rattle.normal_steps.specs.laws.Steps.{on-got, on-bad}

@@ -156,7 +156,8 @@ module _ {s : Text} {ws ws₂ : Work} {p p₂ : Writer} {d k : ℕ} {g : Got ℕ
   pub close-next : (Spare 1 p₂) × ((s : Text) × ReadyOut s (ws₂ .out) p₂)
   close-next = (omega (arith, w .limits .out), (_, ready-out (w .state, w .holds)))
 
-  pub closed-next : {from : ℕ} {o₃ : Text} {p₃ : Writer} → TellsNode g → from ≤ p .out → from + 9 ≤ 4 * p₂ .at → Closes (ws₂ .out) o₃ p₂ p₃ → Enclosed s (out-to ws₂ o₃) from p p₃ d
+  pub closed-next : {from : ℕ} {o₃ : Text} {p₃ : Writer} → TellsNode g → from ≤ p .out → from + 9 ≤ 4 * p₂ .at → Closes (ws₂ .out) o₃ p₂ p₃
+      → Enclosed s (out-to ws₂ o₃) from p p₃ d
   closed-next n l m v =
       let a = v s ws₂ (w .state) (w .holds) in
       let x = a .limits in
@@ -196,7 +197,8 @@ module _ {s : Text} {ws : Work} {p : Writer} (t from : ℕ) where
   without-args e l b σ h m f = by (byte-not h 73 _ _ e) (tells h (spent-nothing b) l)
 
   module _ (i : starts (drop (p .at) s) (73 ∷ []) ≡ true) {tag : ℕ} (g : Tag (ws .ends) p t tag) where
-    with-args-at : {σ : Notes} (m : ℕ) → Carries s ws p σ → {b : Bool} → eqb tag 48 ≡ b → note-with-args t from (λ v ρ. note-args m v ρ) σ ≡ when b (enclosed m t from (drop (p .at + 1) s) σ)
+    with-args-at : {σ : Notes} (m : ℕ) → Carries s ws p σ → {b : Bool} → eqb tag 48 ≡ b
+        → note-with-args t from (λ v ρ. note-args m v ρ) σ ≡ when b (enclosed m t from (drop (p .at + 1) s) σ)
     with-args-at {σ} m h {b} e =
         byte-next _ _ (byte-is h 73 i)
         ∙ ap (λ (x : ℕ). when (eqb x 48) (enclosed m t from (drop (p .at + 1) s) σ)) (sym (g s ws σ h))
@@ -265,7 +267,17 @@ module _ {s : Text} {ws ws₁ : Work} {p : Writer} {r₁ : Told} (t : ℕ) (u : 
         counted-at {σ} h m l =
             let w = answered e (u σ h m (omega arith)) in
             let a = answered i (v ws₁ (w .state) (w .holds)) in (
-              (a .state, (a .holds, (spent-stands (omega (arith, w .limits, a .limits)) (spent-took (w .limits) (a .limits) (omega arith) (omega arith) (omega (arith, w .limits .out))), (omega (arith, w .limits, a .limits), a .small)))),
+              (
+                a .state,
+                (
+                  a .holds,
+                  (
+                    spent-stands (omega (arith, w .limits, a .limits))
+                        (spent-took (w .limits) (a .limits) (omega arith) (omega arith) (omega (arith, w .limits .out))),
+                    (omega (arith, w .limits, a .limits), a .small),
+                  ),
+                ),
+              ),
               args-by m t σ ∙ on-got (λ x τ. next (counts-arg t x τ) (behind-arg m)) (w .is) ∙ on-got (behind-arg m) (a .is),
             )
 
@@ -301,12 +313,14 @@ module _ {s : Text} {ws : Work} {p : Writer} where
       → Fueled 1 4 (p .out) 0 note-type s ws ws' p r
   type-by i e u σ h zero f = absurd (omega arith)
   type-by {l = l} i e u σ h (suc m) f =
-      by (type-some σ m (first-byte h i) ∙ ap (λ (x : Lead). note-at-lead x (getD s (p .at) 0) (length (σ .out)) (drop (p .at + 1) s) σ (λ τ. note-type m τ) (λ v τ. note-args m v τ) (λ from τ. note-parts m from τ)) e)
+      by (type-some σ m (first-byte h i) ∙ ap (λ (x : Lead).
+      note-at-lead x (getD s (p .at) 0) (length (σ .out)) (drop (p .at + 1) s) σ (λ τ. note-type m τ) (λ v τ. note-args m v τ) (λ from τ. note-parts m from τ)) e)
       (u σ h m (omega arith) (drop (p .at + 1) s) (first-byte h i))
 
   pub letter-answer : {o' : Text} {q : Writer} (l : Letter) (c : ℕ) → c < most-number → Copies s (ws .out) o' p q → Leads (lead-letter l) c s ws (out-to ws o') p (Number q c)
   letter-answer l c y k σ h m f t e =
-      tells (k .1 ws σ h c t e) (let v = k .0 in record { at = omega arith; nodes = omega arith; table = omega arith; args = omega arith; out = omega (arith, h .short, v .at, v .out); stands = omega arith }) y
+      tells (k .1 ws σ h c t e)
+      (let v = k .0 in record { at = omega arith; nodes = omega arith; table = omega arith; args = omega arith; out = omega (arith, h .short, v .at, v .out); stands = omega arith }) y
 
   pub literal-answer : {ws' : Work} {q : Writer} {r : Told} (c : ℕ) → q ≡ moved-to p (p .at + 1) → Reads 1 (q .out) at-literal s ws ws' q r
       → Leads lead-L c s ws ws' p r
