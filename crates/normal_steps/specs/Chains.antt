@@ -20,7 +20,7 @@ summed k [] = k
 summed k (c ∷ t) = summed ((9 * k + c) % buckets) t
 
 unfoldable pub bucket-of : Node → ℕ
-bucket-of x = summed ((9 * x .of + x .tag) % buckets) (x .word)
+bucket-of x = (8 * summed (x .of % buckets) (x .word) + x .tag) % buckets
 
 -- node i is behind node k or is it, before the bound, and in bucket b
 abbrev pub Reaches : (ℕ → Node) → ℕ → ℕ → ℕ → ℕ → Type 0

@@ -126,13 +126,14 @@ fn bucket(s: &[u8], tag: usize, of: usize, from: usize, to: usize) -> usize
     requires { ⌜ ((tag < most-note) × (of < most-note)) × (to ≤ length (now s)) ⌝ }
     ensures { λ r. ⌜ r ≡ bucket-of (node tag of (part (now (s .entry)) from to)) ⌝ }
 {
-    let mut sum = (9 * of + tag) % Parser::SYMBOL;
+    let mut sum = of % Parser::SYMBOL;
     let mut i = from;
     while i < to {
         sum = (9 * sum + s[i] as usize) % Parser::SYMBOL;
         i += 1;
     }
-    sum
+    // the tag last, so that a class and a literal never meet
+    (8 * sum + tag) % Parser::SYMBOL
 }
 
 // Whether node i is that one.

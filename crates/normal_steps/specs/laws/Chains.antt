@@ -13,16 +13,11 @@ use Rattle.catalogue.specs.Answer.{least-numbers}
 use Rattle.normal_nodes.specs.Nodes.{Node, same-node}
 use Rattle.normal_nodes.specs.laws.Nodes.{same-node-eq}
 use Rattle.normal_steps.specs.Limits.{middle}
-use Rattle.normal_steps.specs.Chains.{buckets, summed, bucket-of, Reaches, Linked}
-
-summed-below : (k : ℕ) (t : Text) → k < buckets → summed k t < buckets
-unfolding summed
-summed-below k [] l = l
-summed-below k (c ∷ t) l = summed-below ((9 * k + c) % buckets) t (omega arith)
+use Rattle.normal_steps.specs.Chains.{buckets, bucket-of, Reaches, Linked}
 
 pub bucket-below : (x : Node) → bucket-of x < buckets
 unfolding bucket-of
-bucket-below x = summed-below ((9 * x .of + x .tag) % buckets) (x .word) (omega arith)
+bucket-below x = omega arith
 
 -- ---------------------------------------------------------------- the search
 
