@@ -1,11 +1,13 @@
 // The answer for a symbol, and the work slices that are lent for it.
+#![tactic(auto)]
+
 pub mod work;
 
 ghost use Rattle.std.specs.Prelude.{◌≡◌};
 ghost use Rattle.answer.specs.Told.{number_in, bytes_in};
 
 // The name of a symbol and its length, or the number of the first refusal.
-#[derive(Drop)]
+#[derive(Clone, Copy)]
 pub enum Answer {
     Name(usize),
     Refused(u8),

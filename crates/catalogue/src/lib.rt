@@ -1,4 +1,6 @@
 // The catalogue of document 01 is defined and its laws are proved in specs/. The code here is one number of it.
+#![tactic(auto)]
+
 ghost use Rattle.std.specs.Prelude.{◌≡◌};
 ghost use Rattle.catalogue.specs.Class.{most_arguments};
 

@@ -7,7 +7,7 @@ use crate::lines::keep;
 
 // The complete lines stand from `from` to `start`, the line without line feed from there to `end`. `ended`: the input has
 // no more.
-#[derive(Drop)]
+#[derive(Clone, Copy)]
 pub struct Buffer {
     pub from: usize,
     pub start: usize,
@@ -17,7 +17,7 @@ pub struct Buffer {
 
 // What a turn left: the buffer, how many bytes of the chunk were read and how many of the output handed over, and whether
 // there may be more to do: there is no more at the end, and after a call that failed.
-#[derive(Drop)]
+#[derive(Clone, Copy)]
 pub struct Turn {
     pub buffer: Buffer,
     pub got: usize,

@@ -1,4 +1,6 @@
 // A program over the listing: standard input to standard output.
+#![tactic(auto)]
+
 mod buffer;
 pub mod entry;
 mod input;

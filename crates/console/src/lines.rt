@@ -11,7 +11,7 @@ use listing::feeds::line_end;
 pub const MOST_KEPT: usize = Parser::SYMBOL + 1;
 
 // How many bytes of `lines` are used, and where the line begins that has no line feed yet.
-#[derive(Drop)]
+#[derive(Clone, Copy)]
 pub struct Kept {
     pub used: usize,
     pub start: usize,

@@ -22,7 +22,7 @@ fn put_header(out: &mut [u8]) -> usize
 }
 
 // So many bytes were handed over to be written, and whether the write went well.
-#[derive(Drop)]
+#[derive(Clone, Copy)]
 pub struct Handed {
     pub put: usize,
     pub went: bool,

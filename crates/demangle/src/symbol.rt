@@ -8,7 +8,7 @@ use grammar::state::Parser;
 use grammar::text as bytes;
 
 // The place behind _Z or __Z, or why there is none.
-#[derive(Drop)]
+#[derive(Clone, Copy)]
 pub enum Front {
     Behind(usize),
     Refused(u8),

@@ -8,7 +8,7 @@ ghost use Rattle.grammar.specs.Words.{longest_word, behind_type, at_slot, withou
 use crate::text;
 
 // The length of the word that was written; or the code has none.
-#[derive(Drop)]
+#[derive(Clone, Copy)]
 pub enum Word {
     Bytes(usize),
     Nothing,

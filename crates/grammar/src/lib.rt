@@ -1,4 +1,6 @@
 // The definition of the reading stands in specs/. The code here is the reader's state and the leaves.
+#![tactic(auto)]
+
 pub mod codes;
 pub mod numbers;
 pub mod state;

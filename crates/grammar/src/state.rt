@@ -3,7 +3,7 @@ ghost use Rattle.std.specs.Prelude.{◌≡◌, drop};
 ghost use Rattle.grammar.specs.States.{fresh, peeked, taken, eaten, entered, at_depth, moved_to, raised_to, subs_to, args_to, cv_to, templated_to};
 
 // How much of a table is used.
-#[derive(Drop)]
+#[derive(Clone, Copy)]
 pub struct Table {
     // its entries
     pub count: usize,
@@ -12,13 +12,13 @@ pub struct Table {
 }
 
 // A part of the symbol.
-#[derive(Drop)]
+#[derive(Clone, Copy)]
 pub struct Part {
     pub from: usize,
     pub to: usize,
 }
 
-#[derive(Drop)]
+#[derive(Clone, Copy)]
 pub struct Parser {
     // the place in the symbol of the next byte to be read
     pub at: usize,
@@ -37,25 +37,25 @@ pub struct Parser {
 }
 
 // A text of so many bytes is the newest on the stack, or the reading is refused.
-#[derive(Drop)]
+#[derive(Clone, Copy)]
 pub enum Read {
     Text(Parser, usize),
     Refused(u8),
 }
 
-#[derive(Drop)]
+#[derive(Clone, Copy)]
 pub enum Peeked {
     Byte(u8),
     End,
 }
 
-#[derive(Drop)]
+#[derive(Clone, Copy)]
 pub enum Taken {
     Byte(u8, Parser),
     End,
 }
 
-#[derive(Drop)]
+#[derive(Clone, Copy)]
 pub enum Eaten {
     Next(Parser),
     Nothing,

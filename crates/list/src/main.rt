@@ -1,4 +1,6 @@
 // Lists the names of the symbols on standard input, one a line.
+#![tactic(auto)]
+
 use listing::listing::Kind;
 
 fn main() {

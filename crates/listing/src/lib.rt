@@ -1,3 +1,5 @@
 // The listing of lines.
+#![tactic(auto)]
+
 pub mod feeds;
 pub mod listing;

@@ -19,7 +19,7 @@ use store::stack;
 pub const NAME: usize = Parser::TEXT;
 
 // What is listed of a symbol: its name, or its normal symbol.
-#[derive(Drop)]
+#[derive(Clone, Copy)]
 pub enum Kind {
     Names,
     Symbols,
@@ -27,7 +27,7 @@ pub enum Kind {
 
 // How many bytes of the input were taken, and how many of the output written. The number is 14 where a work slice is too
 // short, 12 where the output is too short for the first line, and 0 otherwise.
-#[derive(Drop)]
+#[derive(Clone, Copy)]
 pub struct Listed {
     pub number: u8,
     pub taken: usize,

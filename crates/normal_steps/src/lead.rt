@@ -7,7 +7,7 @@ ghost use Rattle.normal_steps.specs.Leads.{there, class};
 use grammar::numbers;
 
 // Which letter or wrapper it is, the byte says.
-#[derive(Drop)]
+#[derive(Clone, Copy)]
 pub enum Lead {
     Letter,
     Wrap,

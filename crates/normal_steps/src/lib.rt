@@ -1,4 +1,6 @@
 // The state of the writing of normal symbols, its work slices, and the steps that call no reading back.
+#![tactic(auto)]
+
 pub mod lead;
 pub mod marks;
 pub mod memory;

@@ -12,14 +12,14 @@ use crate::words::Alphabet;
 use grammar::{numbers, text};
 
 // The index, 65536 for all that are larger, and the place behind `_`.
-#[derive(Drop)]
+#[derive(Clone, Copy)]
 pub enum Referred {
     To(usize, usize),
     Bad,
 }
 
 // The place behind E, the byte of the kind, whether there is an n, and the place of the digits.
-#[derive(Drop)]
+#[derive(Clone, Copy)]
 pub enum Valued {
     To(usize, u8, bool, usize),
     Bad,

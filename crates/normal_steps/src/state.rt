@@ -4,7 +4,7 @@ ghost use Rattle.normal_steps.specs.States.{begun_at, moved_to, written_to, note
 
 use grammar::state::Parser;
 
-#[derive(Drop)]
+#[derive(Clone, Copy)]
 pub struct Writer {
     // the place in the symbol of the next byte to be read
     pub at: usize,
@@ -21,7 +21,7 @@ pub struct Writer {
 }
 
 // A tree was written, and has the number; or the symbol is outside the class.
-#[derive(Drop)]
+#[derive(Clone, Copy)]
 pub enum Told {
     Number(Writer, usize),
     Bad,

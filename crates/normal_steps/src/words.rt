@@ -11,14 +11,14 @@ ghost use Rattle.normal_steps.specs.Answers.{NameIs};
 use grammar::{numbers, text};
 use store::stack;
 
-#[derive(Drop)]
+#[derive(Clone, Copy)]
 pub enum Named {
     At(usize, usize),
     Bad,
 }
 
 // Letters, digits and `_`; or digits and capitals.
-#[derive(Drop)]
+#[derive(Clone, Copy)]
 pub enum Alphabet {
     Words,
     Capitals,

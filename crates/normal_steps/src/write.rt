@@ -23,7 +23,7 @@ fn digit_of(d: usize) -> u8
 const BASE: usize = 36;
 
 // A number by the base: how often it was taken off, and what is left.
-#[derive(Drop)]
+#[derive(Clone, Copy)]
 struct Split {
     high: usize,
     low: usize,

@@ -15,14 +15,14 @@ use normal_steps::words::Named;
 use normal_steps::{memory, steps, words};
 
 // The normal symbol is written; or the symbol is outside the class.
-#[derive(Drop)]
+#[derive(Clone, Copy)]
 pub enum Finished {
     Symbol(Writer),
     Bad,
 }
 
 // A function's name is written, and whether it has a K.
-#[derive(Drop)]
+#[derive(Clone, Copy)]
 pub enum Headed {
     Name(Writer, bool),
     Bad,

@@ -24,7 +24,7 @@ pub fn qualifiers(s: &[u8], at: usize) -> usize
     end
 }
 
-#[derive(Drop)]
+#[derive(Clone, Copy)]
 pub enum Skipped {
     To(usize),
     End,
@@ -127,7 +127,7 @@ pub fn std_ahead(s: &[u8], at: usize) -> bool
 }
 
 // A part of the newest bytes: so many, from so many below the top on.
-#[derive(Drop)]
+#[derive(Clone, Copy)]
 pub struct Class {
     pub back: usize,
     pub n: usize,

@@ -1,4 +1,6 @@
 // The readings that call no other reading back.
+#![tactic(auto)]
+
 pub mod leaf;
 pub mod literal;
 pub mod memory;

@@ -13,7 +13,7 @@ use grammar::state::{Parser, Read};
 use store::stack;
 
 // A literal is printed as true or false, with a suffix, which is a part of ull, or with its type in front.
-#[derive(Drop)]
+#[derive(Clone, Copy)]
 pub enum Kind {
     Truth,
     Suffix(usize, usize),

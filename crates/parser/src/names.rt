@@ -19,7 +19,7 @@ use grammar::state::{Eaten, Parser, Read, Taken};
 use grammar::text::{before, here};
 use grammar::{codes, numbers};
 
-#[derive(Drop)]
+#[derive(Clone, Copy)]
 pub enum Found {
     Part(usize, usize),
     Nothing,

@@ -1,4 +1,6 @@
 // The entries and the listing as C functions. A slice is a pointer and a length.
+#![tactic(auto)]
+
 ghost use Rattle.std.specs.Prelude.{◌≡◌};
 ghost use Rattle.answer.specs.Told.{slices, normal_slices, number_in, bytes_in};
 ghost use Rattle.entries.specs.Outcome.{demangled, normalized};

@@ -12,7 +12,7 @@ use parser::{leaf, memory};
 use store::stack;
 
 // What a list is made of, and where it stops.
-#[derive(Drop)]
+#[derive(Clone, Copy)]
 pub enum Kind {
     // types up to the end or a dot
     Parameters,
@@ -23,14 +23,14 @@ pub enum Kind {
 }
 
 // The texts of a list, with ", " between them: so many bytes and so many texts.
-#[derive(Drop)]
+#[derive(Clone, Copy)]
 pub enum Texts {
     Listed(Parser, usize, usize),
     Refused(u8),
 }
 
 // The parts of a nested name so far: all of them, and the last.
-#[derive(Drop)]
+#[derive(Clone, Copy)]
 pub struct Parts {
     pub n: usize,
     pub last: usize,
@@ -38,7 +38,7 @@ pub struct Parts {
     pub structor: bool,
 }
 
-#[derive(Drop)]
+#[derive(Clone, Copy)]
 pub enum Prefix {
     Parts(Parser, Parts),
     Refused(u8),

@@ -9,7 +9,7 @@ ghost use Rattle.store.specs.Table.{Front, Entries, Sized, Placed, ends_from};
 use grammar::text::copy_part;
 
 // Where an entry stands in `store`.
-#[derive(Drop)]
+#[derive(Clone, Copy)]
 pub struct Place {
     pub from: usize,
     pub to: usize,

@@ -106,6 +106,8 @@ module _ {A B : Type 0} {n : ℕ} {s : State} where
           Agree n (choose o (λ r v. onto (λ _. f r.0) (go_to r.1 v)) m s) (choose p (λ r v. onto (λ _. g r.0) (go_to r.1 v)) k s)
       go none none miss = i
       go (some r) (some q) (hit p l) = p _ l
+      go (some r) none x3 = elim x3 [ ]
+      go none (some q) x'' = elim x'' [ ]
 
   pub by_table_agree :
       (rows : List (Row A)) (f g : A → Reader B) (m k : Reader B) → T (all_coded rows) →
@@ -124,6 +126,8 @@ module _ {B : Type 0} {n : ℕ} {s : State} where
       go : (o p : Option (Reader B × Text)) → Hit (λ p q. Agree n (p s) (q s)) s.rest o p → Agree n (choose o (λ r. r.0) m s) (choose p (λ r. r.0) k s)
       go none none miss = i
       go (some r) (some q) (hit p l) = p
+      go (some r) none x3 = elim x3 [ ]
+      go none (some q) x'' = elim x'' [ ]
 
 -- ---------------------------------------------------------------- readers that may read nothing, and readers that read a byte
 

@@ -508,6 +508,7 @@ told limit t =
 told_number : (a : Answer) → Told a → a ≢ refusal 0
 told_number (named t) by_name e = let z : ◌≡◌ {A = ℕ} 0 1 = cc in omega arith
 told_number (refusal (suc r)) by_number e = let z : ◌≡◌ {A = ℕ} (suc r) 0 = cc in omega arith
+told_number (refusal zero) x4 e = elim x4 [ ]
 
 -- no symbol runs out of fuel
 pub never_0 : (limit : ℕ) (t : Text) → demangle limit t ≢ refusal 0

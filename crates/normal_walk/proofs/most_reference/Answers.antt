@@ -1,0 +1,6 @@
+use Rattle.normal_walk.specs.Laws.Sizes.{ref_length}
+use Rattle.normal_walk.proofs.most_reference.Goals as goal
+
+pub returns : goal.returns
+returns c =
+    ref_length
