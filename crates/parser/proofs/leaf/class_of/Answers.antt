@@ -31,7 +31,6 @@ overflow_sub-size c =
 pub returns-then-c-eq60 : goal.returns-then-c-eq60
 returns-then-c-eq60 c =
     let w = take c.args.top c.args.text.now in
-
     let x : get_or w c.loop-end.end 0 ≡ 60 = get_or-take c.args.top c.args.text.now c.loop-end.end 0 c.loop-end-test.true ∙ c.if-c-eq60.true in
     sought_last c.loop-end.invariant.1 c.args.top c.args.n c.loop-end.invariant.0 (omega arith) (run_stop _ w c.loop-end.end (omega arith) (rw x))
 
@@ -46,7 +45,6 @@ loop-end-smaller c =
 pub loop-end-preserved : goal.loop-end-preserved
 loop-end-preserved c =
     let w = take c.args.top c.args.text.now in
-
     let x : get_or w c.loop-end.end 0 ≡ get_or c.args.text.now c.loop-end.end 0 = get_or-take c.args.top c.args.text.now c.loop-end.end 0 c.loop-end-test.true in
     let r = sought_more c.loop-end.invariant.1 (omega arith) (λ e. c.if-c-eq60.false (sym x ∙ e)) in
     (c.loop-end.invariant.0, rw c.part_from-from.ensures (rw x at r))

@@ -36,6 +36,5 @@ slice_bounds-put-end c =
 pub returns : goal.returns
 returns c s bytes places l n b e i σ h =
     let q = c.place_of-place.ensures l _ n b e i in
-
     let z = part_size c.args.store.now {from = c.place_of-place.result.from} {to = c.place_of-place.result.to} (omega (arith, q.size)) (omega (arith, q.within, (entries_sized e).store_size)) in
     by (ap (λ (x : Text). give x σ) (sym q.is)) (wrote_one h c.put.ensures z (omega (arith, z, c.if-n-gt-TEXT.false)) (omega arith))

@@ -11,7 +11,7 @@ use Rattle.parser.specs.Laws.Halves.{newest_part, last_none, last_chosen}
 use Rattle.parser.proofs.memory.newest_entry.Goals as goal
 
 pub returns-then-count-eq0 : goal.returns-then-count-eq0
-returns-then-count-eq0 c k d s base from σ h l =
+returns-then-count-eq0 c k d s base from t σ h l =
     sym (last_none σ.subs t (omega (arith, c.if-count-eq0.true, h.holds.subs.count_is)))
 
 pub slice_bounds-place_of-end : goal.slice_bounds-place_of-end
@@ -32,9 +32,8 @@ overflow_sub-place c =
 
 pub returns-then-place-from : goal.returns-then-place-from
 unfolding low_ends
-returns-then-place-from c k d s base from σ g l =
+returns-then-place-from c k d s base from t σ g l =
     let h = g.holds in
-
     let i : c.args.p.subs.count - 1 < c.args.p.subs.count = omega (arith, c.if-count-eq0.false) in
     let q = c.place_of-place.ensures _ _ _ _ h.subs i in
     sym (last_chosen σ.subs (c.args.p.subs.count - 1) t (omega (arith, i, h.subs.count_is)) ∙ same_not t _ (λ x. c.if-place-from.true (omega (arith, q.size, g.size))))
@@ -52,16 +51,13 @@ same_long_part-requires c =
 
 pub returns : goal.returns
 unfolding low_bytes low_ends
-returns c k d s base from σ g l =
+returns c k d s base from t σ g l =
     let h = g.holds in
-
-
     let i : c.args.p.subs.count - 1 < c.args.p.subs.count = omega (arith, c.if-count-eq0.false) in
-
     let q = c.place_of-place.ensures _ _ _ _ h.subs i in
     let x = newest_part g (omega arith) in
     c.same_long_part.ensures
     ∙ ap₂ same
-    (ap (λ (c.args.p.subs.count : ℕ). take c.args.p.subs.count (drop (c.args.p.top - c.args.n) c.args.text.now)) {x = c.args.n} {y = c.args.p.top - (c.args.p.top - c.args.n)} (omega (arith, x.0)) ∙ x.1)
-    (ap (λ (c.args.p.subs.count : ℕ). take c.args.p.subs.count (drop c.place_of-place.result.from (take most_entry_bytes c.args.store.now))) {x = c.args.n} {y = c.place_of-place.result.to - c.place_of-place.result.from} (omega (arith, c.if-place-from.false)) ∙ q.is)
+    (ap (λ (j : ℕ). take j (drop (c.args.p.top - c.args.n) c.args.text.now)) {x = c.args.n} {y = c.args.p.top - (c.args.p.top - c.args.n)} (omega (arith, x.0)) ∙ x.1)
+    (ap (λ (j : ℕ). take j (drop c.place_of-place.result.from (take most_entry_bytes c.args.store.now))) {x = c.args.n} {y = c.place_of-place.result.to - c.place_of-place.result.from} (omega (arith, c.if-place-from.false)) ∙ q.is)
     ∙ sym (last_chosen σ.subs (c.args.p.subs.count - 1) t (omega (arith, i, h.subs.count_is)))

@@ -27,7 +27,7 @@ push-requires c =
     (entries_sized (args_lent c.requires.0.1.1), (c.requires.0.1.1.args.room, (omega (arith, c.requires.0.1.1.text.size, c.requires.0.1.1.text.most), c.requires.1)))
 
 pub returns-then-not-push : goal.returns-then-not-push
-returns-then-not-push c k d s base from σ h =
+returns-then-not-push c k d s base from t σ h =
     pushes_not h (args_lent h.holds) c.push.ensures (with_args (σ.args ++ (t ∷ [])) σ) 10 (push_arg_is t σ) c.if-not-push.true
 
 pub overflow_add-args-2 : goal.overflow_add-args-2
@@ -35,5 +35,5 @@ overflow_add-args-2 c =
     let (i, j) = c.push.ensures.room.yes c.if-not-push.false in omega arith
 
 pub returns : goal.returns
-returns c k d s base from σ h =
+returns c k d s base from t σ h =
     pushes_entry h (args_lent h.holds) c.push.ensures (with_args (σ.args ++ (t ∷ [])) σ) 10 (push_arg_is t σ) c.if-not-push.false c.with_args.ensures (holds_args h.holds)

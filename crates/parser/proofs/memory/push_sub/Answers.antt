@@ -33,7 +33,7 @@ push-requires c =
 
 pub returns-then-not-push : goal.returns-then-not-push
 unfolding low_bytes low_ends
-returns-then-not-push c k d s base from σ h =
+returns-then-not-push c k d s base from t σ h =
     pushes_not h h.holds.subs c.push.ensures (with_subs (σ.subs ++ (t ∷ [])) σ) 9 (push_sub_is t σ) c.if-not-push.true
 
 pub overflow_add-subs-2 : goal.overflow_add-subs-2
@@ -42,5 +42,5 @@ overflow_add-subs-2 c =
 
 pub returns : goal.returns
 unfolding low_bytes low_ends
-returns c k d s base from σ h =
+returns c k d s base from t σ h =
     pushes_entry h h.holds.subs c.push.ensures (with_subs (σ.subs ++ (t ∷ [])) σ) 9 (push_sub_is t σ) c.if-not-push.false c.with_subs.ensures (holds_subs h.holds)

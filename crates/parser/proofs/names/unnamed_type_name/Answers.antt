@@ -42,14 +42,14 @@ returns-then-kind-eq108 c =
 
 
 
-    let e = c.numbered-next.ensures.0 ∙ ap (λ (i : ℕ). behind_number c.args.s.now (i + 1)) ((let v : c.before-end.result ≡ c.args.p.at + 1 + length (run (λ c.numbered-next. not (eqb c.numbered-next 69)) (drop (c.args.p.at + 1) c.args.s.now)) = subst (λ (i : ℕ). c.before-end.result ≡ i + length (run (λ c.numbered-next. not (eqb c.numbered-next 69)) (drop i c.args.s.now))) ((let v : c.in-Byte.behind.at ≡ c.args.p.at + 1 = ap (λ (z : Parser). z.at) ((let v : Past c.args.s.now c.args.p c.in-Byte.kind c.in-Byte.behind = took _ _ c.take.ensures c.in-Byte.is in v)).next in v)) c.before-end.ensures.0 in v)) in
+    let e = c.numbered-next.ensures.0 ∙ ap (λ (i : ℕ). behind_number c.args.s.now (i + 1)) ((let v : c.before-end.result ≡ c.args.p.at + 1 + length (run (λ x. not (eqb x 69)) (drop (c.args.p.at + 1) c.args.s.now)) = subst (λ (i : ℕ). c.before-end.result ≡ i + length (run (λ x. not (eqb x 69)) (drop i c.args.s.now))) ((let v : c.in-Byte.behind.at ≡ c.args.p.at + 1 = ap (λ (z : Parser). z.at) ((let v : Past c.args.s.now c.args.p c.in-Byte.kind c.in-Byte.behind = took _ _ c.take.ensures c.in-Byte.is in v)).next in v)) c.before-end.ensures.0 in v)) in
     by
     (unnamed_lambda _ _ σ h.rest ((let v : Past c.args.s.now c.args.p c.in-Byte.kind c.in-Byte.behind = took _ _ c.take.ensures c.in-Byte.is in v)).inside
     (((let v : Past c.args.s.now c.args.p c.in-Byte.kind c.in-Byte.behind = took _ _ c.take.ensures c.in-Byte.is in v)).byte ∙ c.if-kind-eq108.true)
-    (omega (arith, (let v : c.before-end.result ≡ c.args.p.at + 1 + length (run (λ c.numbered-next. not (eqb c.numbered-next 69)) (drop (c.args.p.at + 1) c.args.s.now)) = subst (λ (i : ℕ). c.before-end.result ≡ i + length (run (λ c.numbered-next. not (eqb c.numbered-next 69)) (drop i c.args.s.now))) ((let v : c.in-Byte.behind.at ≡ c.args.p.at + 1 = ap (λ (z : Parser). z.at) ((let v : Past c.args.s.now c.args.p c.in-Byte.kind c.in-Byte.behind = took _ _ c.take.ensures c.in-Byte.is in v)).next in v)) c.before-end.ensures.0 in v), c.if-s-end.false))
+    (omega (arith, (let v : c.before-end.result ≡ c.args.p.at + 1 + length (run (λ x. not (eqb x 69)) (drop (c.args.p.at + 1) c.args.s.now)) = subst (λ (i : ℕ). c.before-end.result ≡ i + length (run (λ x. not (eqb x 69)) (drop i c.args.s.now))) ((let v : c.in-Byte.behind.at ≡ c.args.p.at + 1 = ap (λ (z : Parser). z.at) ((let v : Past c.args.s.now c.args.p c.in-Byte.kind c.in-Byte.behind = took _ _ c.take.ensures c.in-Byte.is in v)).next in v)) c.before-end.ensures.0 in v), c.if-s-end.false))
     ∙ ap (λ (i : ℕ). give lambda (moved (drop i c.args.s.now) σ)) (sym e))
     (wrote_one (holds_moved h c.numbered-next.result c.numbered-next.ensures.1) (puts_from ((let v : c.moved.result ≡ moved_to c.args.p c.numbered-next.result = c.moved.ensures ∙ ap (λ (z : Parser). moved_to z c.numbered-next.result) ((let v : Past c.args.s.now c.args.p c.in-Byte.kind c.in-Byte.behind = took _ _ c.take.ensures c.in-Byte.is in v)).next in v)) c.put.ensures) refl (omega arith)
-    (omega (arith, c.numbered-next.ensures.0, number_more c.args.s.now (c.before-end.result + 1), (let v : c.before-end.result ≡ c.args.p.at + 1 + length (run (λ c.numbered-next. not (eqb c.numbered-next 69)) (drop (c.args.p.at + 1) c.args.s.now)) = subst (λ (i : ℕ). c.before-end.result ≡ i + length (run (λ c.numbered-next. not (eqb c.numbered-next 69)) (drop i c.args.s.now))) ((let v : c.in-Byte.behind.at ≡ c.args.p.at + 1 = ap (λ (z : Parser). z.at) ((let v : Past c.args.s.now c.args.p c.in-Byte.kind c.in-Byte.behind = took _ _ c.take.ensures c.in-Byte.is in v)).next in v)) c.before-end.ensures.0 in v))))
+    (omega (arith, c.numbered-next.ensures.0, number_more c.args.s.now (c.before-end.result + 1), (let v : c.before-end.result ≡ c.args.p.at + 1 + length (run (λ x. not (eqb x 69)) (drop (c.args.p.at + 1) c.args.s.now)) = subst (λ (i : ℕ). c.before-end.result ≡ i + length (run (λ x. not (eqb x 69)) (drop i c.args.s.now))) ((let v : c.in-Byte.behind.at ≡ c.args.p.at + 1 = ap (λ (z : Parser). z.at) ((let v : Past c.args.s.now c.args.p c.in-Byte.kind c.in-Byte.behind = took _ _ c.take.ensures c.in-Byte.is in v)).next in v)) c.before-end.ensures.0 in v))))
 
 pub numbered-next-requires-2 : goal.numbered-next-requires-2
 numbered-next-requires-2 c =

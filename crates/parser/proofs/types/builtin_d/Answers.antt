@@ -31,19 +31,20 @@ ended : (σ : State) → σ.rest ≡ 68 ∷ [] → the-reader σ ≡ refused 4
 unfolding by_code onto choose find d_letters b starts if◌then◌else◌
 ended σ e = ap (λ (z : Text). choose (find d_letters z) (λ r v. onto (λ _. give (b r.0)) (go_to r.1 v)) (refuse 4) σ) e
 
-looked : the-reader σ ≡ choose (word_for d_letters (68 ∷ x ∷ [])) (λ t. read-on t u) (refuse 4) σ
-unfolding by_code onto all_of d_letters b
-looked =
-    ap (λ (z : Text). choose (find d_letters z) (λ r v. onto (λ _. give (b r.0)) (go_to r.1 v)) (refuse 4) σ) e
-    ∙ ap (λ (g : Reader Text). g σ) (by_word (68 ∷ x ∷ []) u read-on (refuse 4) d_letters tt)
+module _ (σ : State) {x : ℕ} {u : Text} (e : σ.rest ≡ 68 ∷ (x ∷ u)) where
+  looked : the-reader σ ≡ choose (word_for d_letters (68 ∷ x ∷ [])) (λ t. read-on t u) (refuse 4) σ
+  unfolding by_code onto all_of d_letters b
+  looked =
+      ap (λ (z : Text). choose (find d_letters z) (λ r v. onto (λ _. give (b r.0)) (go_to r.1 v)) (refuse 4) σ) e
+      ∙ ap (λ (g : Reader Text). g σ) (by_word (68 ∷ x ∷ []) u read-on (refuse 4) d_letters tt)
 
-known : {t : Text} → word_for d_letters (68 ∷ x ∷ []) ≡ some t → the-reader σ ≡ give t (moved u σ)
-unfolding choose onto go_to
-known f = looked ∙ ap (λ (o : Option Text). choose o (λ t. read-on t u) (refuse 4) σ) f
+  known : {t : Text} → word_for d_letters (68 ∷ x ∷ []) ≡ some t → the-reader σ ≡ give t (moved u σ)
+  unfolding choose onto go_to
+  known f = looked ∙ ap (λ (o : Option Text). choose o (λ t. read-on t u) (refuse 4) σ) f
 
-unknown : word_for d_letters (68 ∷ x ∷ []) ≡ none → the-reader σ ≡ refused 4
-unfolding choose
-unknown f = looked ∙ ap (λ (o : Option Text). choose o (λ t. read-on t u) (refuse 4) σ) f
+  unknown : word_for d_letters (68 ∷ x ∷ []) ≡ none → the-reader σ ≡ refused 4
+  unfolding choose
+  unknown f = looked ∙ ap (λ (o : Option Text). choose o (λ t. read-on t u) (refuse 4) σ) f
 
 pub returns-in_default : goal.returns-in_default
 returns-in_default c store ends rest σ e h =

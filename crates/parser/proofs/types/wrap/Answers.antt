@@ -36,7 +36,7 @@ words_of x u e =
     ∙ by_pair (x ∷ []) [] (λ t v w. some (t, v)) none wrappers tt)
 
 pub returns-in_default : goal.returns-in_default
-returns-in_default c k d s base from σ u e h =
+returns-in_default c k d s base from t σ u e h =
     absurd (some_not (sym (words_of _ u e).0 ∙ spelled_none c.wrapper.ensures c.in_default.is))
 
 pub put_word-next-requires : goal.put_word-next-requires
@@ -55,22 +55,21 @@ recorded-requires c =
     )
 
 pub returns-then-slots-eq0 : goal.returns-then-slots-eq0
-returns-then-slots-eq0 c k d s base from σ u e h =
+returns-then-slots-eq0 c k d s base from t σ u e h =
     let l : length t ≡ c.args.n = omega (arith, h.size, c.requires.1.1) in
     let x = spelled_at c.wrapper.ensures c.in-Bytes.is in
     let f = some_is (sym (words_of _ u e).0 ∙ x.0.0) in
     let g = (newest_part h (omega (arith, l, c.requires.1.1))).1 in
-
     by (ap (λ (y : Text). recorded y σ) (behind t (at_slots (b u.1) t) (t ++ b u.0) (ap slots_in (sym g) ∙ sym c.slots-slots.ensures.0 ∙ c.if-slots-eq0.true) ∙ ap (λ (y : Text). t ++ y) f))
     (c.recorded.ensures k d s base from _ σ
-    (stands_puts h c.put_word-next.ensures.1 (omega (arith, length-append t (take c.in-Bytes.more c.wrapper.new.0), c.put_word-next.ensures.0, l, x.1, c.requires.1.1))))
+    (stands_puts h c.put_word-next.ensures.1 (omega (arith, length-append t (take c.in-Bytes.more c.wrapper.new.word), c.put_word-next.ensures.0, l, x.1, c.requires.1.1))))
 
 pub wrap_slots-requires : goal.wrap_slots-requires
 wrap_slots-requires c =
     (c.requires.0, (c.requires.1.0, (c.requires.1.1, (omega (arith, c.slots-slots.ensures.1), c.slots-slots.ensures.0 ∙ ap slots_in (sym (drop_take (c.args.p.top - c.args.n) c.args.p.top c.args.text.now))))))
 
 pub returns : goal.returns
-returns c k d s base from σ u e h =
+returns c k d s base from t σ u e h =
     let g = (newest_part h (omega (arith, h.size, c.requires.1.1))).1 in
     by (ap (λ (y : Text). recorded y σ)
     (inside t (at_slots (b u.1) t) (t ++ b u.0)

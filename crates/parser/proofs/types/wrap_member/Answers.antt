@@ -7,14 +7,21 @@ use lib.ListN.{length, drop, length-append, length-drop}
 use lib.Seq.{length-take-le}
 use Rattle.grammar.specs.Text.{Text, b}
 use Rattle.grammar.specs.Limits.{most_entry_bytes}
-use Rattle.grammar.specs.Reader.{recorded}
+use Rattle.grammar.specs.Reader.{State, recorded}
 use Rattle.grammar.specs.Grammar.{at_slots}
 use Rattle.store.specs.Stack.{Stack, slots_in, lent, newest, below_newest}
 use Rattle.store.specs.Laws.Lists.{drop_take}
-use Rattle.parser.specs.Holds.{Puts}
+use Rattle.grammar.specs.declared.state.Parser.{Parser}
+use Rattle.parser.specs.Holds.{Memory, Stands, Puts}
 use Rattle.parser.specs.Laws.Holds.{by, puts_by, holds_puts}
 use Rattle.parser.specs.Laws.Wraps.{holds_cuts, puts_top, newest_size, below_text, end_text, woven_size, stands_replaced, behind, inside}
 use Rattle.parser.proofs.types.wrap_member.Goals as goal
+
+member :
+    {k d : ℕ} {s base : Text} {from : ℕ} {m : Memory} {p : Parser} {n j : ℕ} (x y : Text) {σ : State} →
+    Stands k d s base from m p n (x ++ y) σ → length (x ++ y) ≤ most_entry_bytes → length y ≡ j → lent m.text p.top j ≡ y
+member {m = m} {p = p} {j = j} x y h l f =
+    sym (drop_take (p.top - j) p.top m.text) ∙ ap (λ (i : ℕ). newest m.text p.top i) (sym f) ∙ end_text x y h l
 
 woven : {text : Text} {top slots : ℕ} (c m : ℕ) → Stack text top → c + m ≤ top → slots ≡ slots_in (lent text top m)
     → length (at_slots (below_newest text top m c ++ (58 ∷ 58 ∷ 42 ∷ [])) (newest text top m)) ≡ m + slots * (c + 3)

@@ -16,7 +16,7 @@ use Rattle.parser.specs.Laws.Wraps.{woven_size, stands_replaced}
 use Rattle.parser.proofs.types.wrap_slots.Goals as goal
 
 pub returns-in_default : goal.returns-in_default
-returns-in_default c k d s base from σ w e h =
+returns-in_default c k d s base from t σ w e h =
     absurd (some_not (sym e ∙ spelled_none c.slot_wrapper.ensures c.in_default.is))
 
 pub woven-size-requires : goal.woven-size-requires
@@ -24,7 +24,7 @@ woven-size-requires c =
     (omega (arith, c.requires.1.1.0), (omega (arith, c.requires.1.1.0, c.requires.1.1.1.0), omega (arith, ((let v : ((word_for at_slot (c.args.c ∷ []) ≡ some (take c.in-Bytes.each c.slot_wrapper.new.word)) × (length (take c.in-Bytes.each c.slot_wrapper.new.word) ≡ c.in-Bytes.each)) × (c.in-Bytes.each ≤ longest_word) = spelled_at c.slot_wrapper.ensures c.in-Bytes.is in v)).1)))
 
 pub returns-then-size-gt-TEXT : goal.returns-then-size-gt-TEXT
-returns-then-size-gt-TEXT c k d s base from σ w e h =
+returns-then-size-gt-TEXT c k d s base from t σ w e h =
     let l : length t ≡ c.args.n = omega (arith, h.size, c.requires.1.1.0) in
     let x = (let v : ((word_for at_slot (c.args.c ∷ []) ≡ some (take c.in-Bytes.each c.slot_wrapper.new.word)) × (length (take c.in-Bytes.each c.slot_wrapper.new.word) ≡ c.in-Bytes.each)) × (c.in-Bytes.each ≤ longest_word) = spelled_at c.slot_wrapper.ensures c.in-Bytes.is in v) in
     let f = some_is (sym x.0.0 ∙ e) in
@@ -42,7 +42,6 @@ slice_bounds-weave_word-end c =
 pub weave_word-put-requires : goal.weave_word-put-requires
 weave_word-put-requires c =
     let x = (let v : ((word_for at_slot (c.args.c ∷ []) ≡ some (take c.in-Bytes.each c.slot_wrapper.new.word)) × (length (take c.in-Bytes.each c.slot_wrapper.new.word) ≡ c.in-Bytes.each)) × (c.in-Bytes.each ≤ longest_word) = spelled_at c.slot_wrapper.ensures c.in-Bytes.is in v) in
-
     (c.requires.0.1.1.text, (omega (arith, x.0.1, x.1), (c.requires.1.0, omega (arith, c.if-size-gt-TEXT.false, c.woven-size.ensures, ap (λ (j : ℕ). j * c.in-Bytes.each) c.requires.1.1.1.1, ap (λ (j : ℕ). slots_in (newest c.args.text.now c.args.p.top c.args.n) * j) x.0.1))))
 
 pub cut-next-requires : goal.cut-next-requires
@@ -54,7 +53,6 @@ cut-next-requires c =
 pub recorded-requires : goal.recorded-requires
 recorded-requires c =
     let x = (let v : ((word_for at_slot (c.args.c ∷ []) ≡ some (take c.in-Bytes.each c.slot_wrapper.new.word)) × (length (take c.in-Bytes.each c.slot_wrapper.new.word) ≡ c.in-Bytes.each)) × (c.in-Bytes.each ≤ longest_word) = spelled_at c.slot_wrapper.ensures c.in-Bytes.is in v) in
-
     let z = woven_size (take c.in-Bytes.each c.slot_wrapper.new.word) (newest c.args.text.now c.args.p.top c.args.n) (newest_size c.args.n c.requires.0.1.1.text c.requires.1.0) (sym c.requires.1.1.1.1) x.0.1 in (
       (c.requires.0.0, (c.requires.0.1.0, holds_cuts c.cut-next.ensures (holds_puts c.weave_word-put.ensures c.requires.0.1.1))),
       omega (
@@ -68,13 +66,12 @@ recorded-requires c =
     )
 
 pub returns : goal.returns
-returns c k d s base from σ w e h =
+returns c k d s base from t σ w e h =
     let l : length t ≡ c.args.n = omega (arith, h.size, c.requires.1.1.0) in
     let x = (let v : ((word_for at_slot (c.args.c ∷ []) ≡ some (take c.in-Bytes.each c.slot_wrapper.new.word)) × (length (take c.in-Bytes.each c.slot_wrapper.new.word) ≡ c.in-Bytes.each)) × (c.in-Bytes.each ≤ longest_word) = spelled_at c.slot_wrapper.ensures c.in-Bytes.is in v) in
     let f = some_is (sym x.0.0 ∙ e) in
     let g = newest_text h (omega (arith, l, c.requires.1.1.0)) in
     let z = woven_size w t l (ap slots_in (sym g) ∙ sym c.requires.1.1.1.1) (ap length (sym f) ∙ x.0.1) in
-
     let u = subst (λ (y : Text). Puts c.args.text.now c.weave_word-put.new.text c.args.p c.weave_word-put.result y) (ap₂ at_slots f g) c.weave_word-put.ensures in
     c.recorded.ensures k d s base from (at_slots w t) σ
     (stands_replaced h u c.cut-next.ensures l
