@@ -30,7 +30,7 @@ use parser::leaf::Skipped;
 use parser::{leaf, literal, memory, names, types};
 
 // A name, or else a type, of x bytes with its arguments.
-#[cycle(arg_args_array_at_s_class_func_instance_item_items_lit_loc_fn_local_name_member_name_name_inner_nest_ty_nested_name_operator_pack_part_plain_px_px_arg_px_new_std_prefixed_ty_ty_inner_unq_wrap)]
+#[cycle(readers)]
 fn instance(
     s: &[u8],
     text: &mut [u8],
@@ -54,7 +54,7 @@ fn instance(
 }
 
 // <unscoped-name> ::= St <unqualified-name>
-#[cycle(arg_args_array_at_s_class_func_instance_item_items_lit_loc_fn_local_name_member_name_name_inner_nest_ty_nested_name_operator_pack_part_plain_px_px_arg_px_new_std_prefixed_ty_ty_inner_unq_wrap)]
+#[cycle(readers)]
 fn std_prefixed(s: &[u8], text: &mut [u8], store: &mut [u8], ends: &mut [u16], p: Parser) -> Read
     requires { (Ready s.now (mem text.old store.old ends.old) p) × (std_ahead (drop p.at s.now) ≡ true) }
     ensures { Reads (std_name reading) (keep p.depth) (p.at + 1) s.now
@@ -79,7 +79,7 @@ fn std_prefixed(s: &[u8], text: &mut [u8], store: &mut [u8], ends: &mut [u16], p
 }
 
 // <name> or else <type> ::= <substitution> [<template-args>] | St <unqualified-name>, at S
-#[cycle(arg_args_array_at_s_class_func_instance_item_items_lit_loc_fn_local_name_member_name_name_inner_nest_ty_nested_name_operator_pack_part_plain_px_px_arg_px_new_std_prefixed_ty_ty_inner_unq_wrap)]
+#[cycle(readers)]
 fn at_s(
     s: &[u8],
     text: &mut [u8],
@@ -108,7 +108,7 @@ fn at_s(
 }
 
 // <name> ::= <unscoped-name> [<template-args>]
-#[cycle(arg_args_array_at_s_class_func_instance_item_items_lit_loc_fn_local_name_member_name_name_inner_nest_ty_nested_name_operator_pack_part_plain_px_px_arg_px_new_std_prefixed_ty_ty_inner_unq_wrap)]
+#[cycle(readers)]
 fn plain(s: &[u8], text: &mut [u8], store: &mut [u8], ends: &mut [u16], p: Parser) -> Read
     requires { Ready s.now (mem text.old store.old ends.old) p }
     ensures { Reads (unscoped_name reading) (keep p.depth) (p.at + 1) s.now
@@ -130,7 +130,7 @@ fn plain(s: &[u8], text: &mut [u8], store: &mut [u8], ends: &mut [u16], p: Parse
 }
 
 // <name> <type>* E
-#[cycle(arg_args_array_at_s_class_func_instance_item_items_lit_loc_fn_local_name_member_name_name_inner_nest_ty_nested_name_operator_pack_part_plain_px_px_arg_px_new_std_prefixed_ty_ty_inner_unq_wrap)]
+#[cycle(readers)]
 fn loc_fn(s: &[u8], text: &mut [u8], store: &mut [u8], ends: &mut [u16], p: Parser) -> Read
     requires { Ready s.now (mem text.old store.old ends.old) p }
     ensures { Reads (local_encoding reading) (keep p.depth) (p.at + 1) s.now
@@ -159,7 +159,7 @@ fn loc_fn(s: &[u8], text: &mut [u8], store: &mut [u8], ends: &mut [u16], p: Pars
 }
 
 // <local-name> ::= Z <function encoding> E <entity name> | Z <function encoding> E s
-#[cycle(arg_args_array_at_s_class_func_instance_item_items_lit_loc_fn_local_name_member_name_name_inner_nest_ty_nested_name_operator_pack_part_plain_px_px_arg_px_new_std_prefixed_ty_ty_inner_unq_wrap)]
+#[cycle(readers)]
 fn local_name(s: &[u8], text: &mut [u8], store: &mut [u8], ends: &mut [u16], p: Parser) -> Read
     requires { Ready s.now (mem text.old store.old ends.old) p }
     ensures { Reads (local_name reading) (keep p.depth) (p.at + 1) s.now
@@ -184,7 +184,7 @@ fn local_name(s: &[u8], text: &mut [u8], store: &mut [u8], ends: &mut [u16], p: 
     memory::given(next, n + m + 2)
 }
 
-#[cycle(arg_args_array_at_s_class_func_instance_item_items_lit_loc_fn_local_name_member_name_name_inner_nest_ty_nested_name_operator_pack_part_plain_px_px_arg_px_new_std_prefixed_ty_ty_inner_unq_wrap)]
+#[cycle(readers)]
 fn name_inner(s: &[u8], text: &mut [u8], store: &mut [u8], ends: &mut [u16], p: Parser) -> Read
     requires { Ready s.now (mem text.old store.old ends.old) p }
     ensures { Reads (name_inner reading) (keep p.depth) (p.at + 1) s.now
@@ -203,7 +203,7 @@ fn name_inner(s: &[u8], text: &mut [u8], store: &mut [u8], ends: &mut [u16], p: 
 }
 
 // <name>
-#[cycle(arg_args_array_at_s_class_func_instance_item_items_lit_loc_fn_local_name_member_name_name_inner_nest_ty_nested_name_operator_pack_part_plain_px_px_arg_px_new_std_prefixed_ty_ty_inner_unq_wrap)]
+#[cycle(readers)]
 pub fn name(s: &[u8], text: &mut [u8], store: &mut [u8], ends: &mut [u16], p: Parser) -> Read
     requires { Ready s.now (mem text.old store.old ends.old) p }
     ensures { Reads (reading ⟨name⟩) (keep (p.depth + 1)) (p.at + 1) s.now
@@ -222,7 +222,7 @@ pub fn name(s: &[u8], text: &mut [u8], store: &mut [u8], ends: &mut [u16], p: Pa
 }
 
 // One part more, which begins with c.
-#[cycle(arg_args_array_at_s_class_func_instance_item_items_lit_loc_fn_local_name_member_name_name_inner_nest_ty_nested_name_operator_pack_part_plain_px_px_arg_px_new_std_prefixed_ty_ty_inner_unq_wrap)]
+#[cycle(readers)]
 fn px(
     s: &[u8],
     text: &mut [u8],
@@ -255,7 +255,7 @@ fn px(
 }
 
 // template arguments behind the last part
-#[cycle(arg_args_array_at_s_class_func_instance_item_items_lit_loc_fn_local_name_member_name_name_inner_nest_ty_nested_name_operator_pack_part_plain_px_px_arg_px_new_std_prefixed_ty_ty_inner_unq_wrap)]
+#[cycle(readers)]
 fn px_arg(
     s: &[u8],
     text: &mut [u8],
@@ -295,7 +295,7 @@ fn px_arg(
 }
 
 // an unqualified name or a template parameter: an entry, unless it is the last part
-#[cycle(arg_args_array_at_s_class_func_instance_item_items_lit_loc_fn_local_name_member_name_name_inner_nest_ty_nested_name_operator_pack_part_plain_px_px_arg_px_new_std_prefixed_ty_ty_inner_unq_wrap)]
+#[cycle(readers)]
 fn px_new(
     s: &[u8],
     text: &mut [u8],
@@ -327,7 +327,7 @@ fn px_new(
     Prefix::Parts(after, more)
 }
 
-#[cycle(arg_args_array_at_s_class_func_instance_item_items_lit_loc_fn_local_name_member_name_name_inner_nest_ty_nested_name_operator_pack_part_plain_px_px_arg_px_new_std_prefixed_ty_ty_inner_unq_wrap)]
+#[cycle(readers)]
 fn part(s: &[u8], text: &mut [u8], store: &mut [u8], ends: &mut [u16], p: Parser, c: u8) -> Read
     requires { Ready s.now (mem text.old store.old ends.old) p }
     ensures { ReadsPartText c s.now
@@ -344,7 +344,7 @@ fn part(s: &[u8], text: &mut [u8], store: &mut [u8], ends: &mut [u16], p: Parser
 }
 
 // <nested-name> ::= N [<CV-qualifiers>] [<ref-qualifier>] <prefix> <unqualified-name> E
-#[cycle(arg_args_array_at_s_class_func_instance_item_items_lit_loc_fn_local_name_member_name_name_inner_nest_ty_nested_name_operator_pack_part_plain_px_px_arg_px_new_std_prefixed_ty_ty_inner_unq_wrap)]
+#[cycle(readers)]
 fn nested_name(s: &[u8], text: &mut [u8], store: &mut [u8], ends: &mut [u16], p: Parser) -> Read
     requires { Ready s.now (mem text.old store.old ends.old) p }
     ensures { Reads (reading ⟨nested-name⟩) (keep p.depth) (p.at + 1) s.now
@@ -384,7 +384,7 @@ fn nested_name(s: &[u8], text: &mut [u8], store: &mut [u8], ends: &mut [u16], p:
 }
 
 // <unqualified-name> ::= <operator-name> | <ctor-dtor-name> | <source-name> | <unnamed-type-name>
-#[cycle(arg_args_array_at_s_class_func_instance_item_items_lit_loc_fn_local_name_member_name_name_inner_nest_ty_nested_name_operator_pack_part_plain_px_px_arg_px_new_std_prefixed_ty_ty_inner_unq_wrap)]
+#[cycle(readers)]
 fn unq(s: &[u8], text: &mut [u8], store: &mut [u8], ends: &mut [u16], p: Parser) -> Read
     requires { Ready s.now (mem text.old store.old ends.old) p }
     ensures { Reads (reading ⟨unqualified-name⟩) (keep p.depth) (p.at + 1) s.now
@@ -416,7 +416,7 @@ fn unq(s: &[u8], text: &mut [u8], store: &mut [u8], ends: &mut [u16], p: Parser)
 }
 
 // <operator-name> ::= nw | .. | cv <type>
-#[cycle(arg_args_array_at_s_class_func_instance_item_items_lit_loc_fn_local_name_member_name_name_inner_nest_ty_nested_name_operator_pack_part_plain_px_px_arg_px_new_std_prefixed_ty_ty_inner_unq_wrap)]
+#[cycle(readers)]
 fn operator(s: &[u8], text: &mut [u8], store: &mut [u8], ends: &mut [u16], p: Parser) -> Read
     requires { Ready s.now (mem text.old store.old ends.old) p }
     ensures { Reads (reading ⟨operator-name⟩) (keep p.depth) (p.at + 1) s.now
@@ -448,7 +448,7 @@ fn operator(s: &[u8], text: &mut [u8], store: &mut [u8], ends: &mut [u16], p: Pa
 }
 
 // P R O C K V r <type>, behind the letter
-#[cycle(arg_args_array_at_s_class_func_instance_item_items_lit_loc_fn_local_name_member_name_name_inner_nest_ty_nested_name_operator_pack_part_plain_px_px_arg_px_new_std_prefixed_ty_ty_inner_unq_wrap)]
+#[cycle(readers)]
 fn wrap(s: &[u8], text: &mut [u8], store: &mut [u8], ends: &mut [u16], p: Parser, c: u8) -> Read
     requires { Ready s.now (mem text.old store.old ends.old) p }
     ensures { ReadsWrapped c s.now
@@ -462,7 +462,7 @@ fn wrap(s: &[u8], text: &mut [u8], store: &mut [u8], ends: &mut [u16], p: Parser
 }
 
 // <function-type> ::= F <type> <type>* E, behind F
-#[cycle(arg_args_array_at_s_class_func_instance_item_items_lit_loc_fn_local_name_member_name_name_inner_nest_ty_nested_name_operator_pack_part_plain_px_px_arg_px_new_std_prefixed_ty_ty_inner_unq_wrap)]
+#[cycle(readers)]
 fn func(s: &[u8], text: &mut [u8], store: &mut [u8], ends: &mut [u16], p: Parser) -> Read
     requires { Ready s.now (mem text.old store.old ends.old) p }
     ensures { Reads (function_type reading) (keep p.depth) (p.at + 1) s.now
@@ -484,7 +484,7 @@ fn func(s: &[u8], text: &mut [u8], store: &mut [u8], ends: &mut [u16], p: Parser
 }
 
 // <array-type> ::= A [<dimension>] _ <type>, behind A
-#[cycle(arg_args_array_at_s_class_func_instance_item_items_lit_loc_fn_local_name_member_name_name_inner_nest_ty_nested_name_operator_pack_part_plain_px_px_arg_px_new_std_prefixed_ty_ty_inner_unq_wrap)]
+#[cycle(readers)]
 fn array(s: &[u8], text: &mut [u8], store: &mut [u8], ends: &mut [u16], p: Parser) -> Read
     requires { Ready s.now (mem text.old store.old ends.old) p }
     ensures { Reads (array_type reading) (keep p.depth) (p.at + 1) s.now
@@ -506,7 +506,7 @@ fn array(s: &[u8], text: &mut [u8], store: &mut [u8], ends: &mut [u16], p: Parse
 }
 
 // <pointer-to-member-type> ::= M <type> <type>, behind M
-#[cycle(arg_args_array_at_s_class_func_instance_item_items_lit_loc_fn_local_name_member_name_name_inner_nest_ty_nested_name_operator_pack_part_plain_px_px_arg_px_new_std_prefixed_ty_ty_inner_unq_wrap)]
+#[cycle(readers)]
 fn member(s: &[u8], text: &mut [u8], store: &mut [u8], ends: &mut [u16], p: Parser) -> Read
     requires { Ready s.now (mem text.old store.old ends.old) p }
     ensures { Reads (pointer_to_member_type reading) (keep p.depth) (p.at + 1) s.now
@@ -524,7 +524,7 @@ fn member(s: &[u8], text: &mut [u8], store: &mut [u8], ends: &mut [u16], p: Pars
 }
 
 // <class-enum-type> ::= <nested-name>
-#[cycle(arg_args_array_at_s_class_func_instance_item_items_lit_loc_fn_local_name_member_name_name_inner_nest_ty_nested_name_operator_pack_part_plain_px_px_arg_px_new_std_prefixed_ty_ty_inner_unq_wrap)]
+#[cycle(readers)]
 fn nest_ty(s: &[u8], text: &mut [u8], store: &mut [u8], ends: &mut [u16], p: Parser) -> Read
     requires { Ready s.now (mem text.old store.old ends.old) p }
     ensures { Reads (nested_type reading) (keep p.depth) (p.at + 1) s.now
@@ -541,7 +541,7 @@ fn nest_ty(s: &[u8], text: &mut [u8], store: &mut [u8], ends: &mut [u16], p: Par
 }
 
 // <class-enum-type> ::= <source-name> [<template-args>]
-#[cycle(arg_args_array_at_s_class_func_instance_item_items_lit_loc_fn_local_name_member_name_name_inner_nest_ty_nested_name_operator_pack_part_plain_px_px_arg_px_new_std_prefixed_ty_ty_inner_unq_wrap)]
+#[cycle(readers)]
 fn class(s: &[u8], text: &mut [u8], store: &mut [u8], ends: &mut [u16], p: Parser) -> Read
     requires { Ready s.now (mem text.old store.old ends.old) p }
     ensures { Reads (class_type reading) (keep p.depth) (p.at + 1) s.now
@@ -562,7 +562,7 @@ fn class(s: &[u8], text: &mut [u8], store: &mut [u8], ends: &mut [u16], p: Parse
     kept
 }
 
-#[cycle(arg_args_array_at_s_class_func_instance_item_items_lit_loc_fn_local_name_member_name_name_inner_nest_ty_nested_name_operator_pack_part_plain_px_px_arg_px_new_std_prefixed_ty_ty_inner_unq_wrap)]
+#[cycle(readers)]
 pub fn ty_inner(s: &[u8], text: &mut [u8], store: &mut [u8], ends: &mut [u16], p: Parser) -> Read
     requires { Ready s.now (mem text.old store.old ends.old) p }
     ensures { Reads (type_inner reading) (keep p.depth) (p.at + 1) s.now
@@ -591,7 +591,7 @@ pub fn ty_inner(s: &[u8], text: &mut [u8], store: &mut [u8], ends: &mut [u16], p
 }
 
 // <type>
-#[cycle(arg_args_array_at_s_class_func_instance_item_items_lit_loc_fn_local_name_member_name_name_inner_nest_ty_nested_name_operator_pack_part_plain_px_px_arg_px_new_std_prefixed_ty_ty_inner_unq_wrap)]
+#[cycle(readers)]
 pub fn ty(s: &[u8], text: &mut [u8], store: &mut [u8], ends: &mut [u16], p: Parser) -> Read
     requires { Ready s.now (mem text.old store.old ends.old) p }
     ensures { Reads (reading ⟨type⟩) (keep (p.depth + 1)) (p.at + 1) s.now
@@ -610,7 +610,7 @@ pub fn ty(s: &[u8], text: &mut [u8], store: &mut [u8], ends: &mut [u16], p: Pars
 }
 
 // A list of types or of template arguments.
-#[cycle(arg_args_array_at_s_class_func_instance_item_items_lit_loc_fn_local_name_member_name_name_inner_nest_ty_nested_name_operator_pack_part_plain_px_px_arg_px_new_std_prefixed_ty_ty_inner_unq_wrap)]
+#[cycle(readers)]
 pub fn items(
     s: &[u8],
     text: &mut [u8],
@@ -648,7 +648,7 @@ pub fn items(
 }
 
 // One text of a list.
-#[cycle(arg_args_array_at_s_class_func_instance_item_items_lit_loc_fn_local_name_member_name_name_inner_nest_ty_nested_name_operator_pack_part_plain_px_px_arg_px_new_std_prefixed_ty_ty_inner_unq_wrap)]
+#[cycle(readers)]
 fn item(
     s: &[u8],
     text: &mut [u8],
@@ -674,7 +674,7 @@ fn item(
 }
 
 // <template-args> ::= I <template-arg>* E
-#[cycle(arg_args_array_at_s_class_func_instance_item_items_lit_loc_fn_local_name_member_name_name_inner_nest_ty_nested_name_operator_pack_part_plain_px_px_arg_px_new_std_prefixed_ty_ty_inner_unq_wrap)]
+#[cycle(readers)]
 pub fn args(s: &[u8], text: &mut [u8], store: &mut [u8], ends: &mut [u16], p: Parser) -> Read
     requires { Ready s.now (mem text.old store.old ends.old) p }
     ensures { Reads (reading ⟨template-args⟩) (keep (p.depth + 1)) (p.at + 1) s.now
@@ -707,7 +707,7 @@ pub fn args(s: &[u8], text: &mut [u8], store: &mut [u8], ends: &mut [u16], p: Pa
 
 // J <template-arg>* E, behind J. Packs inside one another are read in one loop, up to 64 in the outermost: `outer` has, for
 // each that is open around the innermost, what n has for that: the bytes of its texts so far, with two more for each text.
-#[cycle(arg_args_array_at_s_class_func_instance_item_items_lit_loc_fn_local_name_member_name_name_inner_nest_ty_nested_name_operator_pack_part_plain_px_px_arg_px_new_std_prefixed_ty_ty_inner_unq_wrap)]
+#[cycle(readers)]
 fn pack(s: &[u8], text: &mut [u8], store: &mut [u8], ends: &mut [u16], p: Parser) -> Read
     requires { Ready s.now (mem text.old store.old ends.old) p }
     ensures { Reads (pack reading) (keep p.depth) (p.at + 1) s.now
@@ -748,7 +748,7 @@ fn pack(s: &[u8], text: &mut [u8], store: &mut [u8], ends: &mut [u16], p: Parser
 }
 
 // <template-arg> ::= <type> | X <expression> E | <expr-primary> | J <template-arg>* E
-#[cycle(arg_args_array_at_s_class_func_instance_item_items_lit_loc_fn_local_name_member_name_name_inner_nest_ty_nested_name_operator_pack_part_plain_px_px_arg_px_new_std_prefixed_ty_ty_inner_unq_wrap)]
+#[cycle(readers)]
 pub fn arg(s: &[u8], text: &mut [u8], store: &mut [u8], ends: &mut [u16], p: Parser) -> Read
     requires { Ready s.now (mem text.old store.old ends.old) p }
     ensures { Reads (reading ⟨template-arg⟩) (keep p.depth) (p.at + 1) s.now
@@ -772,7 +772,7 @@ pub fn arg(s: &[u8], text: &mut [u8], store: &mut [u8], ends: &mut [u16], p: Par
 }
 
 // <expr-primary> ::= L <type> <value number> E | L _ <name> E
-#[cycle(arg_args_array_at_s_class_func_instance_item_items_lit_loc_fn_local_name_member_name_name_inner_nest_ty_nested_name_operator_pack_part_plain_px_px_arg_px_new_std_prefixed_ty_ty_inner_unq_wrap)]
+#[cycle(readers)]
 fn lit(s: &[u8], text: &mut [u8], store: &mut [u8], ends: &mut [u16], p: Parser) -> Read
     requires { Ready s.now (mem text.old store.old ends.old) p }
     ensures { Reads (reading ⟨expr-primary⟩) (keep p.depth) (p.at + 1) s.now

@@ -29,13 +29,12 @@ loop-d-smaller c =
     omega arith
 
 pub loop-d-preserved : goal.loop-d-preserved
-loop-d-preserved c =
-    (
-      omega arith,
-      omega arith,
-      omega (arith, c.opened-d.ensures, open_most (get_or c.args.s.now c.loop-d.end 0) c.loop-d.d),
-      c.loop-d.invariant.3 ∙ skipped_more _ c.loop-d.end c.loop-d.d c.loop-d-test.true (omega arith) ∙ ap (skipped _) (sym c.opened-d.ensures),
-    )
+loop-d-preserved c = (
+  omega arith,
+  omega arith,
+  omega (arith, c.opened-d.ensures, open_most (get_or c.args.s.now c.loop-d.end 0) c.loop-d.d),
+  c.loop-d.invariant.3 ∙ skipped_more _ c.loop-d.end c.loop-d.d c.loop-d-test.true (omega arith) ∙ ap (skipped _) (sym c.opened-d.ensures),
+)
 
 pub returns : goal.returns
 unfolding left_at

@@ -18,7 +18,6 @@ overflow_add-n-2 c =
 pub returns : goal.returns
 returns c =
     λ store ends k d base from t σ h l m.
-
     let v = signed (part c.args.s.now c.args.from c.args.to) in
     let z : length v ≡ c.args.to - c.args.from = length_signed _ ∙ length_part _ _ _ c.requires.1.1.1.1.0 in
     let e = c.enclosed-close.ensures.stands l h in

@@ -12,28 +12,28 @@ pub returns-then-same-2 : goal.returns-then-same-2
 unfolding kind_of if◌then◌else◌ b
 returns-then-same-2 c =
     rw (
-  sym c.same.ensures ∙ c.if-same.false,
-  sym c.same-2.ensures ∙ c.if-same-2.true,
-)
+      sym c.same.ensures ∙ c.if-same.false,
+      sym c.same-2.ensures ∙ c.if-same-2.true,
+    )
 
 pub returns-then-same-3 : goal.returns-then-same-3
 unfolding kind_of if◌then◌else◌ b
 returns-then-same-3 c =
     rw (
-  sym c.same.ensures ∙ c.if-same.false,
-  sym c.same-2.ensures ∙ c.if-same-2.false,
-  sym c.same-3.ensures ∙ c.if-same-3.true,
-)
+      sym c.same.ensures ∙ c.if-same.false,
+      sym c.same-2.ensures ∙ c.if-same-2.false,
+      sym c.same-3.ensures ∙ c.if-same-3.true,
+    )
 
 pub returns-then-same-4 : goal.returns-then-same-4
 unfolding kind_of if◌then◌else◌ b
 returns-then-same-4 c =
     rw (
-  sym c.same.ensures ∙ c.if-same.false,
-  sym c.same-2.ensures ∙ c.if-same-2.false,
-  sym c.same-3.ensures ∙ c.if-same-3.false,
-  sym c.same-4.ensures ∙ c.if-same-4.true,
-)
+      sym c.same.ensures ∙ c.if-same.false,
+      sym c.same-2.ensures ∙ c.if-same-2.false,
+      sym c.same-3.ensures ∙ c.if-same-3.false,
+      sym c.same-4.ensures ∙ c.if-same-4.true,
+    )
 
 pub returns-then-same-5 : goal.returns-then-same-5
 unfolding kind_of if◌then◌else◌ b

@@ -29,7 +29,6 @@ pub returns : goal.returns
 unfolding b
 returns c =
     λ store ends k d base from t σ h l m.
-
     let v = part c.args.s.now c.args.from c.args.to in
     let x = length_signed v in
     let y = length_part c.args.s.now c.args.from c.args.to c.requires.1.1.1.1.0 in

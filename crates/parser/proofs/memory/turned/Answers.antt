@@ -21,21 +21,20 @@ again_room {text₁ = text₁} {p₁ = p₁} {c = c} {m = m} h i j l u v =
     omega (arith, puts_top (c + m + 1) u.put.stack v (omega (arith, e)) (omega arith), z)
 
 pub again-again-requires : goal.again-again-requires
-again-again-requires c =
+again-again-requires c = (
+  c.put-spaced.ensures.put.stack,
+  (
+    omega arith,
     (
-      c.put-spaced.ensures.put.stack,
-      (
-        omega arith,
-        (
-          omega (
-            arith,
-            puts_top (c.args.c + c.args.m) c.requires.0 c.put-spaced.ensures c.requires.1.1.1
-                (omega (arith, c.requires.1.0, c.requires.1.1.0)),
-          ),
-          (omega (arith, c.requires.1.0, c.requires.1.1.0), c.requires.1.0),
-        ),
+      omega (
+        arith,
+        puts_top (c.args.c + c.args.m) c.requires.0 c.put-spaced.ensures c.requires.1.1.1
+            (omega (arith, c.requires.1.0, c.requires.1.1.0)),
       ),
-    )
+      (omega (arith, c.requires.1.0, c.requires.1.1.0), c.requires.1.0),
+    ),
+  ),
+)
 
 pub cut-requires : goal.cut-requires
 cut-requires c =

@@ -24,7 +24,6 @@ slice_bounds-put-end c =
 pub returns : goal.returns
 returns c =
     λ s store ends σ h.
-
     let z : length c.write_decimal-first.new.out ≡ 21 = omega (arith, c.write_decimal-first.auto.out) in
     let e = marked_text c.write_decimal-first.ensures refl z 84 in
     let n = marked_size c.write_decimal-first.ensures refl z 84 in

@@ -24,8 +24,6 @@ recall-requires c =
 pub returns-then-end-at : goal.returns-then-end-at
 returns-then-end-at c =
     λ σ h.
-
-
     let e = ((let v : Past c.args.s.now (moved_to c.args.p c.seq_id-number.result.next) 95 c.in-Next.next = past_from c.moved.ensures (ate _ _ 95 c.eat.ensures c.in-Next.is) in v)).ahead in
     let l = ((let v : Past c.args.s.now (moved_to c.args.p c.seq_id-number.result.next) 95 c.in-Next.next = past_from c.moved.ensures (ate _ _ 95 c.eat.ensures c.in-Next.is) in v)).inside in
     by (entry_is c.args.s.now _ σ h.rest c.seq_id-number.ensures.behind 0 (index_none 36 _ (omega (arith, c.seq_id-number.ensures.behind, c.if-end-at.true))) e)
@@ -34,8 +32,6 @@ returns-then-end-at c =
 pub returns-then-number : goal.returns-then-number
 returns-then-number c =
     λ σ h.
-
-
     by
     (entry_is c.args.s.now _ σ h.rest c.seq_id-number.ensures.behind _ (index_some 36 _ (λ z. c.if-end-at.false (omega (arith, c.seq_id-number.ensures.behind, z)))) ((let v : Past c.args.s.now (moved_to c.args.p c.seq_id-number.result.next) 95 c.in-Next.next = past_from c.moved.ensures (ate _ _ 95 c.eat.ensures c.in-Next.is) in v)).ahead
     ∙ none_given σ.subs _ _ _ (omega (arith, c.seq_id-number.ensures.is, c.if-number.true, h.subs.count_is, h.subs.most)))
@@ -49,8 +45,6 @@ recall-requires-2 c =
 pub returns : goal.returns
 returns c =
     λ σ h.
-
-
     let e = ((let v : Past c.args.s.now (moved_to c.args.p c.seq_id-number.result.next) 95 c.in-Next.next = past_from c.moved.ensures (ate _ _ 95 c.eat.ensures c.in-Next.is) in v)).ahead in
     let l = ((let v : Past c.args.s.now (moved_to c.args.p c.seq_id-number.result.next) 95 c.in-Next.next = past_from c.moved.ensures (ate _ _ 95 c.eat.ensures c.in-Next.is) in v)).inside in
     by

@@ -33,7 +33,6 @@ argument-requires c =
 pub returns-then-end-at : goal.returns-then-end-at
 returns-then-end-at c =
     λ σ h.
-
     let n = ((let v : Numbered 10 c.args.s.now (c.args.p.at + 1) c.decimal-number.result = subst (λ (i : ℕ). Numbered 10 c.args.s.now i c.decimal-number.result) ((let v : c.in-Next.behind.at ≡ c.args.p.at + 1 = ap (λ (z : Parser). z.at) ((let v : Past c.args.s.now c.args.p 84 c.in-Next.behind = ate _ _ 84 c.eat.ensures c.in-Next.is in v)).next in v)) c.decimal-number.ensures in v)).behind in
     let e = ((let v : Past c.args.s.now (moved_to c.args.p c.decimal-number.result.next) 95 c.in-Next-eat.next = past_from ((let v : c.moved.result ≡ moved_to c.args.p c.decimal-number.result.next = c.moved.ensures ∙ ap (λ (z : Parser). moved_to z c.decimal-number.result.next) ((let v : Past c.args.s.now c.args.p 84 c.in-Next.behind = ate _ _ 84 c.eat.ensures c.in-Next.is in v)).next in v)) (ate _ _ 95 c.eat-2.ensures c.in-Next-eat.is) in v)).ahead in
     let l = ((let v : Past c.args.s.now (moved_to c.args.p c.decimal-number.result.next) 95 c.in-Next-eat.next = past_from ((let v : c.moved.result ≡ moved_to c.args.p c.decimal-number.result.next = c.moved.ensures ∙ ap (λ (z : Parser). moved_to z c.decimal-number.result.next) ((let v : Past c.args.s.now c.args.p 84 c.in-Next.behind = ate _ _ 84 c.eat.ensures c.in-Next.is in v)).next in v)) (ate _ _ 95 c.eat-2.ensures c.in-Next-eat.is) in v)).inside in
@@ -61,7 +60,6 @@ argument-requires-2 c =
 pub returns : goal.returns
 returns c =
     λ σ h.
-
     let d = (let v : Numbered 10 c.args.s.now (c.args.p.at + 1) c.decimal-number.result = subst (λ (i : ℕ). Numbered 10 c.args.s.now i c.decimal-number.result) ((let v : c.in-Next.behind.at ≡ c.args.p.at + 1 = ap (λ (z : Parser). z.at) ((let v : Past c.args.s.now c.args.p 84 c.in-Next.behind = ate _ _ 84 c.eat.ensures c.in-Next.is in v)).next in v)) c.decimal-number.ensures in v) in
     let e = ((let v : Past c.args.s.now (moved_to c.args.p c.decimal-number.result.next) 95 c.in-Next-eat.next = past_from ((let v : c.moved.result ≡ moved_to c.args.p c.decimal-number.result.next = c.moved.ensures ∙ ap (λ (z : Parser). moved_to z c.decimal-number.result.next) ((let v : Past c.args.s.now c.args.p 84 c.in-Next.behind = ate _ _ 84 c.eat.ensures c.in-Next.is in v)).next in v)) (ate _ _ 95 c.eat-2.ensures c.in-Next-eat.is) in v)).ahead in
     let l = ((let v : Past c.args.s.now (moved_to c.args.p c.decimal-number.result.next) 95 c.in-Next-eat.next = past_from ((let v : c.moved.result ≡ moved_to c.args.p c.decimal-number.result.next = c.moved.ensures ∙ ap (λ (z : Parser). moved_to z c.decimal-number.result.next) ((let v : Past c.args.s.now c.args.p 84 c.in-Next.behind = ate _ _ 84 c.eat.ensures c.in-Next.is in v)).next in v)) (ate _ _ 95 c.eat-2.ensures c.in-Next-eat.is) in v)).inside in

@@ -39,9 +39,6 @@ put-requires c =
 pub returns-then-kind-eq108 : goal.returns-then-kind-eq108
 returns-then-kind-eq108 c =
     λ store ends σ h.
-
-
-
     let e = c.numbered-next.ensures.0 ∙ ap (λ (i : ℕ). behind_number c.args.s.now (i + 1)) ((let v : c.before-end.result ≡ c.args.p.at + 1 + length (run (λ x. not (eqb x 69)) (drop (c.args.p.at + 1) c.args.s.now)) = subst (λ (i : ℕ). c.before-end.result ≡ i + length (run (λ x. not (eqb x 69)) (drop i c.args.s.now))) ((let v : c.in-Byte.behind.at ≡ c.args.p.at + 1 = ap (λ (z : Parser). z.at) ((let v : Past c.args.s.now c.args.p c.in-Byte.kind c.in-Byte.behind = took _ _ c.take.ensures c.in-Byte.is in v)).next in v)) c.before-end.ensures.0 in v)) in
     by
     (unnamed_lambda _ _ σ h.rest ((let v : Past c.args.s.now c.args.p c.in-Byte.kind c.in-Byte.behind = took _ _ c.take.ensures c.in-Byte.is in v)).inside
@@ -62,8 +59,6 @@ put-requires-2 c =
 pub returns : goal.returns
 returns c =
     λ store ends σ h.
-
-
     by
     (unnamed_other _ _ σ h.rest ((let v : Past c.args.s.now c.args.p c.in-Byte.kind c.in-Byte.behind = took _ _ c.take.ensures c.in-Byte.is in v)).inside (λ z. c.if-kind-eq108.false (sym ((let v : Past c.args.s.now c.args.p c.in-Byte.kind c.in-Byte.behind = took _ _ c.take.ensures c.in-Byte.is in v)).byte ∙ z))
     ∙ ap (λ (i : ℕ). give no_name (moved (drop i c.args.s.now) σ)) (sym ((let v : c.numbered-next-2.result ≡ behind_number c.args.s.now (c.args.p.at + 1) = c.numbered-next-2.ensures.0 ∙ ap (behind_number c.args.s.now) ((let v : c.in-Byte.behind.at ≡ c.args.p.at + 1 = ap (λ (z : Parser). z.at) ((let v : Past c.args.s.now c.args.p c.in-Byte.kind c.in-Byte.behind = took _ _ c.take.ensures c.in-Byte.is in v)).next in v)) in v))))

@@ -10,8 +10,7 @@ use Rattle.parser.proofs.types.class_behind.Goals as goal
 pub returns : goal.returns
 unfolding b
 returns c =
-    let (held, (stood, (stack, room))) = c.turned-turned.ensures in
-    (
+    let (held, (stood, (stack, room))) = c.turned-turned.ensures in (
       omega (arith, puts_top (c.args.m + 1 + c.args.c) stack c.put.ensures room (omega (arith, c.requires.1.0, c.requires.1.1.0))),
       (
         (λ s store ends σ h. holds_puts c.put.ensures (held s store ends σ h)),

@@ -48,11 +48,10 @@ overflow_add-n c =
     omega (arith, (spelled_at c.wrapper.ensures c.in-Bytes.is).1, c.requires.1.1)
 
 pub recorded-requires : goal.recorded-requires
-recorded-requires c =
-    (
-      (c.requires.0.0, (c.requires.0.1.0, holds_puts c.put_word-next.ensures.1 c.requires.0.1.1)),
-      omega (arith, puts_top c.args.n c.requires.0.1.1.text c.put_word-next.ensures.1 c.requires.1.0 (omega (arith, c.requires.1.1)), c.put_word-next.ensures.0),
-    )
+recorded-requires c = (
+  (c.requires.0.0, (c.requires.0.1.0, holds_puts c.put_word-next.ensures.1 c.requires.0.1.1)),
+  omega (arith, puts_top c.args.n c.requires.0.1.1.text c.put_word-next.ensures.1 c.requires.1.0 (omega (arith, c.requires.1.1)), c.put_word-next.ensures.0),
+)
 
 pub returns-then-slots-eq0 : goal.returns-then-slots-eq0
 returns-then-slots-eq0 c k d s base from t σ u e h =
