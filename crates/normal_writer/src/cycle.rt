@@ -13,7 +13,7 @@ use normal_steps::state::{Told, Writer};
 use normal_steps::{lead, memory, steps};
 
 // <type>, <template-arg>
-#[cycle(args_more_named_nested_parts_referred_ty_with_args_wrap)]
+#[cycle(types)]
 pub fn ty(
     s: &[u8],
     out: &mut [u8],
@@ -45,7 +45,7 @@ pub fn ty(
 }
 
 // P R O K V <type>
-#[cycle(args_more_named_nested_parts_referred_ty_with_args_wrap)]
+#[cycle(types)]
 fn wrap(
     s: &[u8],
     out: &mut [u8],
@@ -70,7 +70,7 @@ fn wrap(
 }
 
 // <source-name> [I <template-args> E]
-#[cycle(args_more_named_nested_parts_referred_ty_with_args_wrap)]
+#[cycle(types)]
 fn named(
     s: &[u8],
     out: &mut [u8],
@@ -93,7 +93,7 @@ fn named(
 }
 
 // S [<seq-id>] _ [I <template-args> E]
-#[cycle(args_more_named_nested_parts_referred_ty_with_args_wrap)]
+#[cycle(types)]
 fn referred(
     s: &[u8],
     out: &mut [u8],
@@ -117,7 +117,7 @@ fn referred(
 }
 
 // [I <template-args> E], behind a class of one part
-#[cycle(args_more_named_nested_parts_referred_ty_with_args_wrap)]
+#[cycle(types)]
 fn with_args(
     s: &[u8],
     out: &mut [u8],
@@ -149,7 +149,7 @@ fn with_args(
 }
 
 // <template-arg>+ E, behind what has the number t
-#[cycle(args_more_named_nested_parts_referred_ty_with_args_wrap)]
+#[cycle(types)]
 pub fn args(
     s: &[u8],
     out: &mut [u8],
@@ -185,7 +185,7 @@ pub fn args(
 }
 
 // N <parts> E
-#[cycle(args_more_named_nested_parts_referred_ty_with_args_wrap)]
+#[cycle(types)]
 fn nested(
     s: &[u8],
     out: &mut [u8],
@@ -210,7 +210,7 @@ fn nested(
 }
 
 // <source-name> <more> or S [<seq-id>] _ <more>, behind N
-#[cycle(args_more_named_nested_parts_referred_ty_with_args_wrap)]
+#[cycle(types)]
 pub fn parts(
     s: &[u8],
     out: &mut [u8],
@@ -266,7 +266,7 @@ pub fn parts(
 
 // (I <template-args> E or <source-name>) (E or <more>), behind what has the number t and is written from `from` on. E is taken where there is
 // not one part alone; without E, what was read is leading parts and enters the table
-#[cycle(args_more_named_nested_parts_referred_ty_with_args_wrap)]
+#[cycle(types)]
 fn more(
     s: &[u8],
     out: &mut [u8],

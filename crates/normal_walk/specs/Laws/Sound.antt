@@ -137,6 +137,10 @@ module _ (vs : List Ty) (k : ℕ) where
         resolves = rw h.resolves (rw (p, b) (rw g.resolves refl));
         counts = omega arith;
       }
+  class_spelt s (Rattle.catalogue.specs.Tree.lit _ _ _) w v ws j r p x8 = elim x8 [ ]
+  class_spelt s (root _) w v ws j r p x5 = elim x5 [ ]
+  class_spelt s (wrap _ _) w v ws j r p x5 = elim x5 [ ]
+  class_spelt s (letter _) w v ws j r p x3 = elim x3 [ ]
 
 lead_sound : (l : Lead) (c : ℕ) (vs : List Ty) (k : ℕ) (s : Text) (type : Walker Ty) (args : Walker Args) (parts : Walker Ty)
     → Begins l c → SoundType type → SoundArgs args → SoundParts parts → Of (at_lead l c vs k s type args parts) (Spelt vs k (c ∷ s))

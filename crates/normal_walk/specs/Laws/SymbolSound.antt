@@ -87,6 +87,10 @@ scoped_spelt c s (sub t n) w v us j r b (ends_part h p) =
       counts = omega arith;
     }
 scoped_spelt c s (app t xs) w v us j r b (ends_args h p g) = absurd (false≢true b)
+scoped_spelt c s (Rattle.catalogue.specs.Tree.lit _ _ _) w v us j r b x8 = elim x8 [ ]
+scoped_spelt c s (root _) w v us j r b x5 = elim x5 [ ]
+scoped_spelt c s (Rattle.catalogue.specs.Tree.wrap _ _) w v us j r b x5 = elim x5 [ ]
+scoped_spelt c s (Rattle.catalogue.specs.Tree.letter _) w v us j r b x3 = elim x3 [ ]
 
 scoped_sound : (c : Bool) (s : Text) (o : Walk Ty) → Of o (SpeltClass [] 0 s) → Of (at_scoped c o) (SpeltName (code "N" ∷ (const_byte c ++ s)))
 scoped_sound c s o h =

@@ -9,7 +9,6 @@ use Rattle.normal_steps.proofs.steps.copy_byte.Goals as goal
 pub put_byte-requires : goal.put_byte-requires
 put_byte-requires c =
     let w = passed_none c.args.p c.moved.ensures in
-
     omega (arith, out_size c.requires.1.1.1)
 
 pub returns : goal.returns

@@ -16,5 +16,4 @@ pub returns : goal.returns
 returns c s ws σ h =
     let w = c.settle-settled.ensures s ws σ h in
     let x = c.push.ensures s (work_of w.holds) _ w.holds in
-
     record { holds = x.holds; limits = took_more c.args.from w.limits x.limits w.limits.stands (omega (arith, w.limits.out)) }

@@ -1,9 +1,9 @@
-use mathlib.Core.Logic.{⊎_elim}
 use mathlib.Core.Path.{sym, ◌∙◌}
 use Rattle.normal_steps.specs.Laws.Limits.{took_less}
 use Rattle.normal_steps.specs.Laws.Told.{went_as}
 use Rattle.normal_steps.specs.Laws.Steps.{nested_newest, nested_old, nested_other}
 use Rattle.normal_steps.specs.Laws.Moves.{ready_ends, ready_tables, ready_both, work_of}
+use Rattle.normal_steps.proofs.steps.enter_nested.Goals.{then-tag_of+else-newest, else-tag_of}
 use Rattle.normal_steps.proofs.steps.enter_nested.Goals as goal
 
 pub tag_of-requires : goal.tag_of-requires
@@ -30,10 +30,10 @@ returns c s ws σ h =
     let w = c.enter.ensures s (work_of h) σ h in
     let t = c.tag_of.ensures s (work_of h) σ h in
     went_as
-    (⊎_elim
-    (λ x. nested_old c.args.u c.args.from σ (sym (x.2.ensures s (work_of h) σ h) ∙ x.3.left))
-    (λ x. nested_other c.args.u c.args.from σ (λ e. x.left (t ∙ e)))
-    c.if-tag_of.branch)
+    (elim c.if-tag_of.branch [
+      | then-tag_of+else-newest x ↦ nested_old c.args.u c.args.from σ (sym (x.newest.ensures s (work_of h) σ h) ∙ x.if-newest.false)
+      | else-tag_of x ↦ nested_other c.args.u c.args.from σ (λ e. x.if-tag_of.false (t ∙ e))
+    ])
     w.holds w.limits
 
 pub enter-requires : goal.enter-requires

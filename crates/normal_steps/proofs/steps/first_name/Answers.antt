@@ -27,15 +27,11 @@ put_name-named-requires c =
 pub note-requires : goal.note-requires
 note-requires c =
     let x = name_at c.args.s.now c.args.p.at c.source_name.ensures c.in-At.is in
-
-
     ((omega arith, omega arith), ((omega arith, x.inside), (room_less (name_room x c.requires.1 refl c.moved.ensures c.put_name-named.ensures), ready_notes (_, name_held x c.requires.1 refl c.moved.ensures c.put_name-named.ensures))))
 
 pub returns-in_default-note : goal.returns-in_default-note
 returns-in_default-note c σ h =
     let x = name_at c.args.s.now c.args.p.at c.source_name.ensures c.in-At.is in
-
-
     absurd (never (c.note.ensures (work_of (name_held x h refl c.moved.ensures c.put_name-named.ensures)) _ (name_held x h refl c.moved.ensures c.put_name-named.ensures)) c.in_default-note.is)
 
 pub enter-requires : goal.enter-requires
@@ -43,8 +39,6 @@ enter-requires c =
     let x = name_at c.args.s.now c.args.p.at
     c.source_name.ensures
     c.in-At.is in
-
-
     let t = told (c.note.ensures (work_of (name_held x c.requires.1 refl c.moved.ensures c.put_name-named.ensures)) _ (name_held x c.requires.1 refl c.moved.ensures c.put_name-named.ensures)) c.in-Number.is in
     let l = t.1.0 in
     (numbered_note _ _ t.0 t.1.1.0, (stretch_same (name_stretch x c.requires.1 refl c.moved.ensures c.put_name-named.ensures) l, (room_after (name_room x c.requires.1 refl c.moved.ensures c.put_name-named.ensures) l, (_, ready_both (_, t.0)))))
@@ -54,8 +48,6 @@ returns c σ h =
     let x = name_at c.args.s.now c.args.p.at
     c.source_name.ensures
     c.in-At.is in
-
-
     let z = name_size x in
     let w = name_wrote x h refl c.moved.ensures c.put_name-named.ensures in
     let t = told (c.note.ensures (work_of (name_held x h refl c.moved.ensures c.put_name-named.ensures)) _ (name_held x h refl c.moved.ensures c.put_name-named.ensures)) c.in-Number.is in

@@ -26,7 +26,6 @@ entry-t-requires c =
 pub settle-requires : goal.settle-requires
 settle-requires c =
     let x = reference_at c.args.s.now c.args.p.at c.reference.ensures c.in-To.is in
-
     let w = passed_none c.args.p c.moved.ensures in
     let b = x.behind in
     let t = c.entry-t.ensures _ (work_of c.requires.1.1.1) _ c.requires.1.1.1 in (
@@ -40,12 +39,10 @@ settle-requires c =
 pub returns : goal.returns
 returns c ws σ h =
     let x = reference_at c.args.s.now c.args.p.at c.reference.ensures c.in-To.is in
-
     let w = passed_none c.args.p c.moved.ensures in
     let b = x.behind in
     let t = c.entry-t.ensures _ (work_of h) σ h in
     let v = c.settle.ensures _ ws _ (by_state c.moved.ensures (holds_moved h c.in-To.end (omega arith) x.inside)) in
     let l = v.limits in
-
     by (reference_is h x c.args.p.out t.0)
     (tells v.holds (omega arith, spent w l (omega arith) (omega arith) (omega arith) (omega (arith, c.requires.0, w.out, w.at))) (omega (arith, t.1.1, h.few_nodes, h.place, h.source)))

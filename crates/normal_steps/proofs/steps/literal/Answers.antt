@@ -26,7 +26,6 @@ pub put_part-written-requires : goal.put_part-written-requires
 put_part-written-requires c =
     let x = literal_at c.args.s.now c.args.p.at c.literal.ensures c.in-To.is in
     let v = x.0 in
-
     let w = passed_more 1 (passed_none c.args.p c.moved.ensures) c.put_byte-marked.ensures.0 in
     let k = literal_marked c.requires.1 v x.1 c.moved.ensures c.put_byte-marked.ensures in
     (omega (arith, v.some, x.1), (v.inside, omega (arith, out_size k, v.some, v.inside, x.1)))
@@ -40,9 +39,6 @@ pub note-requires : goal.note-requires
 note-requires c =
     let x = literal_at c.args.s.now c.args.p.at c.literal.ensures c.in-To.is in
     let v = x.0 in
-
-
-
     let k = signed_below _ c.in-To.minus (literal_kind c.requires.1 v x.1) in (
       (omega arith, omega (arith, c.signed.ensures)),
       (
@@ -55,9 +51,6 @@ pub returns : goal.returns
 returns c σ h =
     let x = literal_at c.args.s.now c.args.p.at c.literal.ensures c.in-To.is in
     let v = x.0 in
-
-
-
     let w = literal_wrote h v x.1 c.moved.ensures c.put_byte-marked.ensures c.put_part-written.ensures in
     let k = v.some in
     let j = x.1 in

@@ -1,6 +1,5 @@
 use mathlib.Core.Path.{sym, ap, ◌∙◌}
 use native.Mathlib.Omega.{arith}
-use borrow.Author.Tests.{not-true, not-false}
 use Rattle.normal_nodes.specs.Nodes.{wrap_node, may_stand}
 use Rattle.normal_steps.specs.Carries.{tells, refuses}
 use Rattle.normal_steps.specs.Laws.Limits.{room_less, room_after, stretch_same, took_more}
@@ -37,8 +36,7 @@ returns c σ h =
     let e = ap (may_stand c.args.c)
     (sym (c.tag_of.ensures _
     (work_of h) σ h)) ∙ sym
-    c.may_stand.ensures ∙ not-false _
-    c.if-not-may_stand.false in
+    c.may_stand.ensures ∙ c.if-not-may_stand.false in
     let t = told (c.note.ensures (work_of h) σ h) c.in-Number.is in
     let v = c.enter.ensures _ (work_of t.0) _ t.0 in
     by (when_true _ e ∙ entered_is (wrap_node c.args.c c.args.t) c.args.from σ t.1.1.0)

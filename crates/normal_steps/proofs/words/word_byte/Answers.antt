@@ -1,6 +1,6 @@
 use mathlib.Core.Bool.{Bool, true, false}
 use mathlib.Core.Path.{◌≡◌, refl}
-use Prim.Native.Nat.{◌-◌, ◌+◌}
+use Prim.Native.Nat.{ℕ, ◌-◌, ◌+◌, ◌≤◌}
 use borrow.Author.Tests.{lt-ltb, le-ltb, le-leb, lt-leb, leb-true, ne_eqb}
 use lib.Dec.{leb}
 use Rattle.grammar.specs.Text.{if◌then◌else◌, digit, digit_value}
@@ -8,17 +8,18 @@ use Rattle.catalogue.specs.Class.{word_byte}
 use native.Mathlib.Omega.{arith}
 use Rattle.normal_steps.proofs.words.word_byte.Goals as goal
 
-value : digit_value k ≡ (if leb k 122 then k - 97 + 10 else 36)
-unfolding digit_value if◌then◌else◌
-value = rw (le-leb 48 k (omega arith), lt-leb k 57 (omega arith), le-leb 65 k (omega arith), lt-leb k 90 (omega arith), le-leb 97 k l) refl
+module _ (k : ℕ) (l : 97 ≤ k) where
+  value : digit_value k ≡ (if leb k 122 then k - 97 + 10 else 36)
+  unfolding digit_value if◌then◌else◌
+  value = rw (le-leb 48 k (omega arith), lt-leb k 57 (omega arith), le-leb 65 k (omega arith), lt-leb k 90 (omega arith), le-leb 97 k l) refl
 
-small : leb k 122 ≡ word_byte k
-unfolding word_byte digit if◌then◌else◌
-small = go (leb k 122) refl
-  where
-    go : (b : Bool) → leb k 122 ≡ b → leb k 122 ≡ word_byte k
-    go true e = let u = leb-true k 122 e in rw (value, e, lt-ltb (k - 97 + 10) 36 (omega arith)) refl
-    go false e = rw (value, e, ne_eqb k 95 (λ q. omega arith)) refl
+  small : leb k 122 ≡ word_byte k
+  unfolding word_byte digit if◌then◌else◌
+  small = go (leb k 122) refl
+    where
+      go : (b : Bool) → leb k 122 ≡ b → leb k 122 ≡ word_byte k
+      go true e = let u = leb-true k 122 e in rw (value, e, lt-ltb (k - 97 + 10) 36 (omega arith)) refl
+      go false e = rw (value, e, ne_eqb k 95 (λ q. omega arith)) refl
 
 pub returns-then-c-ge97 : goal.returns-then-c-ge97
 returns-then-c-ge97 c =

@@ -8,7 +8,6 @@ use Rattle.normal_steps.proofs.write.write_decimal.Goals as goal
 pub write_decimal-requires : goal.write_decimal-requires
 write_decimal-requires c =
     let e = ap length (decimal_as c.args.n c.requires.0) in
-
     (omega (arith, e, c.decimal_length.ensures), omega (arith, c.decimal_length.ensures))
 
 pub returns : goal.returns

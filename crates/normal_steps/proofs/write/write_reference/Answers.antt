@@ -27,10 +27,10 @@ bounds-out-end c =
 
 pub overflow_add-result-2 : goal.overflow_add-result-2
 overflow_add-result-2 c =
-    omega (arith, slice-write-out-3 c, (let v : length c.write_seq_id-end.new.out ≡ length c.args.out.now = c.write_seq_id-end.auto.out ∙ length-set c.args.out.now c.args.at 83 in v))
+    omega (arith, bounds-out-end c, (let v : length c.write_seq_id-end.new.out ≡ length c.args.out.now = c.write_seq_id-end.auto.out ∙ length-set c.args.out.now c.args.at 83 in v))
 
 pub returns : goal.returns
 returns c =
-    let h : c.args.at + 1 ≤ length c.args.out.now = omega (arith, slice-write-out-3 c, c.write_seq_id-end.ensures.end, (let v : length c.write_seq_id-end.new.out ≡ length c.args.out.now = c.write_seq_id-end.auto.out ∙ length-set c.args.out.now c.args.at 83 in v)) in
+    let h : c.args.at + 1 ≤ length c.args.out.now = omega (arith, bounds-out-end c, c.write_seq_id-end.ensures.end, (let v : length c.write_seq_id-end.new.out ≡ length c.args.out.now = c.write_seq_id-end.auto.out ∙ length-set c.args.out.now c.args.at 83 in v)) in
     wrote_as (sym (ref_some c.args.i c.if-i-eq0.false))
-    (wrote_both h (wrote_one c.args.out.now c.args.at 83 h) (wrote_behind 95 c.write_seq_id-end.auto.out (slice-write-out-3 c) c.write_seq_id-end.ensures))
+    (wrote_both h (wrote_one c.args.out.now c.args.at 83 h) (wrote_behind 95 c.write_seq_id-end.auto.out (bounds-out-end c) c.write_seq_id-end.ensures))
