@@ -11,11 +11,11 @@ use Rattle.demangle.specs.Laws.Tells.{within_5, within_12, within_name, newest_l
 use Rattle.demangle.proofs.reading.print.Goals as goal
 
 pub returns-then-not-ended : goal.returns-then-not-ended
-returns-then-not-ended c store ends σ h =
+returns-then-not-ended c store ends t σ h =
     tells_refusal (within_5 _ t σ (ap ended h.rest ∙ sym c.ended.ensures ∙ c.if-not-ended.true))
 
 pub returns-then-out-size : goal.returns-then-out-size
-returns-then-out-size c store ends σ h =
+returns-then-out-size c store ends t σ h =
     tells_refusal
     (within_12 _ t σ (ap ended h.rest ∙ sym c.ended.ensures ∙ c.if-not-ended.false) (omega (arith, c.if-out-size.true, printed_length h c.slots-slots.ensures.0)))
 
@@ -24,7 +24,7 @@ write_counted-requires c =
     (c.slots-slots.ensures.0, (omega (arith, c.requires), (c.requires.1.0, omega (arith, c.if-out-size.false, newest_length c.args.text.now c.args.p.top c.args.n c.requires.0 c.requires.1.0 c.slots-slots.ensures.0))))
 
 pub returns : goal.returns
-returns c store ends σ h =
+returns c store ends t σ h =
     let e = printed_length h c.slots-slots.ensures.0 in
     tells_name (within_name _ t σ (ap ended h.rest ∙ sym c.ended.ensures ∙ c.if-not-ended.false) (omega (arith, e, c.if-out-size.false))) e
     (c.write_counted.ensures ∙ ap (λ (z : Text). without_slots z ++ drop (length (without_slots z)) c.args.out.now) (printed_text h))

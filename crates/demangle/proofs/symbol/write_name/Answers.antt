@@ -25,7 +25,6 @@ overflow_add-at c =
 pub loop-i-preserved : goal.loop-i-preserved
 loop-i-preserved c =
     let g : c.args.from + c.loop-i.i < length c.args.text.now = omega arith in
-
     ⊎_elim
     (λ w.
     let e = slotless_more c.args.text.now c.args.from c.loop-i.i g w.0.taken in

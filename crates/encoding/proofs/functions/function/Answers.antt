@@ -13,7 +13,7 @@ items-list-requires c =
 
 pub returns-in_default : goal.returns-in_default
 unfolding b
-returns-in_default c base at σ h =
+returns-in_default c base at t σ h =
     items_refused c.put-open.ensures c.items-list.ensures c.args.from c.args.to h c.in_default.is c.refused.ensures
 
 pub lone_void-requires : goal.lone_void-requires
@@ -38,7 +38,7 @@ qualified-requires c =
 
 pub returns-then-lone_void : goal.returns-then-lone_void
 unfolding b
-returns-then-lone_void c base at σ h =
+returns-then-lone_void c base at t σ h =
     let v = subst (LoneVoid _ _ _ _ _) c.if-lone_void.true c.lone_void.ensures in
     void_given c.put-open.ensures c.items-list.ensures c.args.from c.args.to h c.requires.1.0 c.in-Listed.is v
     c.cut-bare.ensures c.put-close.ensures
@@ -46,7 +46,7 @@ returns-then-lone_void c base at σ h =
 
 pub returns-then-m-gt-TEXT : goal.returns-then-m-gt-TEXT
 unfolding b
-returns-then-m-gt-TEXT c base at σ h =
+returns-then-m-gt-TEXT c base at t σ h =
     let v = subst (LoneVoid _ _ _ _ _) c.if-lone_void.false c.lone_void.ensures in
     list_long c.put-open.ensures c.items-list.ensures c.args.from c.args.to h c.requires.1.0 c.in-Listed.is v c.if-m-gt-TEXT.true
 
@@ -69,6 +69,6 @@ qualified-requires-2 c =
 
 pub returns : goal.returns
 unfolding b
-returns c base at σ h =
+returns c base at t σ h =
     let v = subst (LoneVoid _ _ _ _ _) c.if-lone_void.false c.lone_void.ensures in
     list_given c.put-open.ensures c.items-list.ensures c.args.from c.args.to h c.requires.1.0 c.in-Listed.is v c.if-m-gt-TEXT.false c.put-close-2.ensures c.qualified-2.ensures

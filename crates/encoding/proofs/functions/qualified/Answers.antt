@@ -4,6 +4,7 @@ use native.Mathlib.Omega.{arith}
 use Rattle.parser.specs.Laws.Wraps.{spelled_at}
 use Rattle.encoding.specs.Laws.Ends.{qualifying_start, qualifying_word, qualifying_nothing, qualifying_done}
 use Rattle.encoding.proofs.functions.qualified.Goals as goal
+use Rattle.encoding.proofs.functions.qualified.Goals.{in-Bytes, in_default}
 
 pub loop-at-init : goal.loop-at-init
 loop-at-init c =
@@ -31,10 +32,10 @@ loop-at-smaller c =
 
 pub loop-at-preserved : goal.loop-at-preserved
 loop-at-preserved c =
-    ⊎_elim
-    (λ w. rw (w.9, w.10, w.11) (qualifying_word c.loop-at.invariant c.loop-at-test.true c.requires.1.1.1 c.qualifier.ensures w.1.given.1 w.5.ensures.0 w.5.ensures.1 w.8.ensures))
-    (λ w. rw (w.2, w.3, w.4) (qualifying_nothing c.loop-at.invariant c.loop-at-test.true c.requires.1.1.1 c.qualifier.ensures w.1.given.1))
-    c.match-qualifier.branch
+    elim c.match-qualifier.branch [
+      in-Bytes w ↦ rw (w.text-is, w.next-is, w.size-is) (qualifying_word c.loop-at.invariant c.loop-at-test.true c.requires.1.1.1 c.qualifier.ensures w.in-Bytes.is w.put_word-next.ensures.0 w.put_word-next.ensures.1 w.sum-size.ensures)
+      | in_default w ↦ rw (w.text-is, w.next-is, w.size-is) (qualifying_nothing c.loop-at.invariant c.loop-at-test.true c.requires.1.1.1 c.qualifier.ensures w.in_default.is)
+    ]
 
 pub returns : goal.returns
 returns c =

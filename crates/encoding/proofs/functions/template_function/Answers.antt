@@ -3,7 +3,7 @@ use Rattle.encoding.specs.Laws.Functions.{returned, returned_short, returned_roo
 use Rattle.encoding.proofs.functions.template_function.Goals as goal
 
 pub returns-in_default : goal.returns-in_default
-returns-in_default c base at σ h =
+returns-in_default c base at t σ h =
     type_refused c.ty-got.ensures c.args.from c.args.to h c.in_default.is
 
 pub turned-next-requires : goal.turned-next-requires
@@ -24,5 +24,5 @@ function-requires c =
     ((y.state, c.turned-next.ensures.0 _ _ _ _ y.wrote.holds), (omega (arith, c.requires.1.0, returned_short c.ty-got.ensures c.requires.0.1 c.in-Text.is), c.requires.1.1.1))
 
 pub returns : goal.returns
-returns c base at σ h =
+returns c base at t σ h =
     type_returned c.ty-got.ensures c.args.from c.args.to h c.requires.1.0 c.in-Text.is c.turned-next.ensures.1.0 c.function.ensures

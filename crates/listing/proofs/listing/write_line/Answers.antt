@@ -18,7 +18,6 @@ slice_bounds-print_line-end-2 c =
 pub print_line-requires : goal.print_line-requires
 print_line-requires c =
     let e = short_told _ _ c.answer-answer.ensures in
-
     let k = length-take-le c.bytes-bytes.result c.answer-answer.new.store (omega (arith, e, c.bytes-bytes.ensures, c.answer-answer.auto.store, c.requires.1.name)) in
     (omega (arith, c.requires.0), (search rules, omega (arith, k, e, c.bytes-bytes.ensures)))
 

@@ -33,12 +33,12 @@ accepted-first-requires c =
 
 pub returns-then-first-ne0 : goal.returns-then-first-ne0
 returns-then-first-ne0 c =
-    reading_refuses c.behind_front-front.ensures c.in-Behind.is (lent_at c) ((let v : fit least_numbers (lent_at c) ≡ true = sym c.work_fits.ensures ∙ c.if-not-work_fits.false in v)) ((let v : numbers_fit least_numbers (lent_at (before-else1 c)) ≡ true = sym c.numbers_fit.ensures ∙ c.if-not-numbers_fit.false in v)) c.accepted-first.ensures c.if-first-ne0.true
+    reading_refuses c.behind_front-front.ensures c.in-Behind.is (lent_at c) ((let v : fit least_numbers (lent_at c) ≡ true = sym c.work_fits.ensures ∙ c.if-not-work_fits.false in v)) ((let v : numbers_fit least_numbers (lent_at c) ≡ true = sym c.numbers_fit.ensures ∙ c.if-not-numbers_fit.false in v)) c.accepted-first.ensures c.if-first-ne0.true
 
 pub write_within-requires : goal.write_within-requires
 write_within-requires c =
     let l = fit_long _ (lent_at c) ((let v : fit least_numbers (lent_at c) ≡ true = sym c.work_fits.ensures ∙ c.if-not-work_fits.false in v)) in
-    let n = fit_long_numbers _ (lent_at c) ((let v : numbers_fit least_numbers (lent_at (before-else1 c)) ≡ true = sym c.numbers_fit.ensures ∙ c.if-not-numbers_fit.false in v)) in
+    let n = fit_long_numbers _ (lent_at c) ((let v : numbers_fit least_numbers (lent_at c) ≡ true = sym c.numbers_fit.ensures ∙ c.if-not-numbers_fit.false in v)) in
     (
       ((front_inside c.behind_front-front.ensures c.in-Behind.is).1, (omega (arith, l.store, c.accepted-first.auto.text), omega (arith, l.ends, c.accepted-first.auto.text))),
       record { words = n.words; tables = n.tables; chains = n.chains },
@@ -46,4 +46,4 @@ write_within-requires c =
 
 pub returns : goal.returns
 returns c =
-    reading_accepts c.behind_front-front.ensures c.in-Behind.is (lent_at c) ((let v : fit least_numbers (lent_at c) ≡ true = sym c.work_fits.ensures ∙ c.if-not-work_fits.false in v)) ((let v : numbers_fit least_numbers (lent_at (before-else1 c)) ≡ true = sym c.numbers_fit.ensures ∙ c.if-not-numbers_fit.false in v)) c.accepted-first.ensures c.if-first-ne0.false c.write_within.ensures
+    reading_accepts c.behind_front-front.ensures c.in-Behind.is (lent_at c) ((let v : fit least_numbers (lent_at c) ≡ true = sym c.work_fits.ensures ∙ c.if-not-work_fits.false in v)) ((let v : numbers_fit least_numbers (lent_at c) ≡ true = sym c.numbers_fit.ensures ∙ c.if-not-numbers_fit.false in v)) c.accepted-first.ensures c.if-first-ne0.false c.write_within.ensures
