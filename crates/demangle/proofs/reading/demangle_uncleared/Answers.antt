@@ -21,6 +21,5 @@ pub returns : goal.returns
 returns c =
     front_reads c.behind_front-front.ensures c.in-Behind.is (slices c.args.out.now c.args.text.now c.args.store.now c.args.ends.now) _
     c.read_behind.result
-    (sym c.work_fits.ensures ∙ not-false _
-    c.if-not-work_fits.false)
+    (sym c.work_fits.ensures ∙ c.if-not-work_fits.false)
     c.read_behind.ensures
