@@ -9,41 +9,36 @@ use Rattle.demangle.specs.Laws.Told.{front_inside}
 use Rattle.normalize.specs.Laws.Answers.{front_refuses, front_short, numbers_short, reading_refuses, reading_accepts}
 use Rattle.normalize.proofs.reading.normalize_uncleared.Goals as goal
 
-abbrev lent_at : tie.Start → Slices
-lent_at c =
-    let a = c.args in
-    normal_slices a.out.now a.text.now a.store.now a.ends.now a.words.now a.tables.now a.chains.now
-
 pub returns-in_default : goal.returns-in_default
 returns-in_default c =
-    front_refuses c.behind_front-front.ensures (lent_at c) c.in_default.is c.refused.ensures
+    front_refuses c.behind_front-front.ensures (normal_slices c.args.out.now c.args.text.now c.args.store.now c.args.ends.now c.args.words.now c.args.tables.now c.args.chains.now) c.in_default.is c.refused.ensures
 
 pub returns-then-not-work_fits : goal.returns-then-not-work_fits
 returns-then-not-work_fits c =
-    front_short c.behind_front-front.ensures c.in-Behind.is (lent_at c) (sym c.work_fits.ensures ∙ c.if-not-work_fits.true)
+    front_short c.behind_front-front.ensures c.in-Behind.is (normal_slices c.args.out.now c.args.text.now c.args.store.now c.args.ends.now c.args.words.now c.args.tables.now c.args.chains.now) (sym c.work_fits.ensures ∙ c.if-not-work_fits.true)
 
 pub returns-then-not-numbers_fit : goal.returns-then-not-numbers_fit
 returns-then-not-numbers_fit c =
-    numbers_short c.behind_front-front.ensures c.in-Behind.is (lent_at c) ((let v : fit least_numbers (lent_at c) ≡ true = sym c.work_fits.ensures ∙ c.if-not-work_fits.false in v)) (sym c.numbers_fit.ensures ∙ c.if-not-numbers_fit.true)
+    numbers_short c.behind_front-front.ensures c.in-Behind.is (normal_slices c.args.out.now c.args.text.now c.args.store.now c.args.ends.now c.args.words.now c.args.tables.now c.args.chains.now) ((let v : fit least_numbers (normal_slices c.args.out.now c.args.text.now c.args.store.now c.args.ends.now c.args.words.now c.args.tables.now c.args.chains.now) ≡ true = sym c.work_fits.ensures ∙ c.if-not-work_fits.false in v)) (sym c.numbers_fit.ensures ∙ c.if-not-numbers_fit.true)
 
 pub accepted-first-requires : goal.accepted-first-requires
 accepted-first-requires c =
-    let l = fit_long _ (lent_at c) ((let v : fit least_numbers (lent_at c) ≡ true = sym c.work_fits.ensures ∙ c.if-not-work_fits.false in v)) in
+    let l = fit_long _ (normal_slices c.args.out.now c.args.text.now c.args.store.now c.args.ends.now c.args.words.now c.args.tables.now c.args.chains.now) ((let v : fit least_numbers (normal_slices c.args.out.now c.args.text.now c.args.store.now c.args.ends.now c.args.words.now c.args.tables.now c.args.chains.now) ≡ true = sym c.work_fits.ensures ∙ c.if-not-work_fits.false in v)) in
     record { text = l.text; store = l.store; ends = l.ends }
 
 pub returns-then-first-ne0 : goal.returns-then-first-ne0
 returns-then-first-ne0 c =
-    reading_refuses c.behind_front-front.ensures c.in-Behind.is (lent_at c) ((let v : fit least_numbers (lent_at c) ≡ true = sym c.work_fits.ensures ∙ c.if-not-work_fits.false in v)) ((let v : numbers_fit least_numbers (lent_at c) ≡ true = sym c.numbers_fit.ensures ∙ c.if-not-numbers_fit.false in v)) c.accepted-first.ensures c.if-first-ne0.true
+    reading_refuses c.behind_front-front.ensures c.in-Behind.is (normal_slices c.args.out.now c.args.text.now c.args.store.now c.args.ends.now c.args.words.now c.args.tables.now c.args.chains.now) ((let v : fit least_numbers (normal_slices c.args.out.now c.args.text.now c.args.store.now c.args.ends.now c.args.words.now c.args.tables.now c.args.chains.now) ≡ true = sym c.work_fits.ensures ∙ c.if-not-work_fits.false in v)) ((let v : numbers_fit least_numbers (normal_slices c.args.out.now c.args.text.now c.args.store.now c.args.ends.now c.args.words.now c.args.tables.now c.args.chains.now) ≡ true = sym c.numbers_fit.ensures ∙ c.if-not-numbers_fit.false in v)) c.accepted-first.ensures c.if-first-ne0.true
 
 pub write_within-requires : goal.write_within-requires
 write_within-requires c =
-    let l = fit_long _ (lent_at c) ((let v : fit least_numbers (lent_at c) ≡ true = sym c.work_fits.ensures ∙ c.if-not-work_fits.false in v)) in
-    let n = fit_long_numbers _ (lent_at c) ((let v : numbers_fit least_numbers (lent_at c) ≡ true = sym c.numbers_fit.ensures ∙ c.if-not-numbers_fit.false in v)) in
-    (
-      ((front_inside c.behind_front-front.ensures c.in-Behind.is).1, (omega (arith, l.store, c.accepted-first.auto.text), omega (arith, l.ends, c.accepted-first.auto.text))),
-      record { words = n.words; tables = n.tables; chains = n.chains },
-    )
+    let l = fit_long _ (normal_slices c.args.out.now c.args.text.now c.args.store.now c.args.ends.now c.args.words.now c.args.tables.now c.args.chains.now) ((let v : fit least_numbers (normal_slices c.args.out.now c.args.text.now c.args.store.now c.args.ends.now c.args.words.now c.args.tables.now c.args.chains.now) ≡ true = sym c.work_fits.ensures ∙ c.if-not-work_fits.false in v)) in
+    let n = fit_long_numbers _ (normal_slices c.args.out.now c.args.text.now c.args.store.now c.args.ends.now c.args.words.now c.args.tables.now c.args.chains.now) ((let v : numbers_fit least_numbers (normal_slices c.args.out.now c.args.text.now c.args.store.now c.args.ends.now c.args.words.now c.args.tables.now c.args.chains.now) ≡ true = sym c.numbers_fit.ensures ∙ c.if-not-numbers_fit.false in v)) in
+    record {
+      s_len_bound = ((front_inside c.behind_front-front.ensures c.in-Behind.is).1, (omega (arith, l.store, c.accepted-first.auto), omega (arith, l.ends, c.accepted-first.auto)));
+      long_numbers = record { words = n.words; tables = n.tables; chains = n.chains };
+    }
 
 pub returns : goal.returns
 returns c =
-    reading_accepts c.behind_front-front.ensures c.in-Behind.is (lent_at c) ((let v : fit least_numbers (lent_at c) ≡ true = sym c.work_fits.ensures ∙ c.if-not-work_fits.false in v)) ((let v : numbers_fit least_numbers (lent_at c) ≡ true = sym c.numbers_fit.ensures ∙ c.if-not-numbers_fit.false in v)) c.accepted-first.ensures c.if-first-ne0.false c.write_within.ensures
+    reading_accepts c.behind_front-front.ensures c.in-Behind.is (normal_slices c.args.out.now c.args.text.now c.args.store.now c.args.ends.now c.args.words.now c.args.tables.now c.args.chains.now) ((let v : fit least_numbers (normal_slices c.args.out.now c.args.text.now c.args.store.now c.args.ends.now c.args.words.now c.args.tables.now c.args.chains.now) ≡ true = sym c.work_fits.ensures ∙ c.if-not-work_fits.false in v)) ((let v : numbers_fit least_numbers (normal_slices c.args.out.now c.args.text.now c.args.store.now c.args.ends.now c.args.words.now c.args.tables.now c.args.chains.now) ≡ true = sym c.numbers_fit.ensures ∙ c.if-not-numbers_fit.false in v)) c.accepted-first.ensures c.if-first-ne0.false c.write_within.ensures
