@@ -22,15 +22,14 @@ slice_bounds-read-end-7 c =
     sym (length-take-le least_ends c.args.ends.now c.requires.1.ends)
 
 pub read-requires : goal.read-requires
-read-requires c =
-    (
-      omega (arith, ap length (second_lent c.args.at c.args.s.now) ∙ length-drop c.args.at c.args.s.now, c.requires.0),
-      record {
-        text = length-take-le least_text c.args.text.now c.requires.1.text;
-        store = length-take-le least_store c.args.store.now c.requires.1.store;
-        ends = length-take-le least_ends c.args.ends.now c.requires.1.ends;
-      },
-    )
+read-requires c = (
+  omega (arith, ap length (second_lent c.args.at c.args.s.now) ∙ length-drop c.args.at c.args.s.now, c.requires.0),
+  record {
+    text = length-take-le least_text c.args.text.now c.requires.1.text;
+    store = length-take-le least_store c.args.store.now c.requires.1.store;
+    ends = length-take-le least_ends c.args.ends.now c.requires.1.ends;
+  },
+)
 
 pub returns : goal.returns
 returns c =

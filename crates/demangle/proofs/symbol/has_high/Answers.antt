@@ -16,7 +16,7 @@ loop-i-init c =
 pub loop-i-preserved : goal.loop-i-preserved
 loop-i-preserved c =
     elim c.if-s-i-ge128.branch [
-      then-s-i-ge128 w ↦ (omega arith, c.loop-i.invariant.1 ∙ high_there c.args.s.now c.loop-i.i c.loop-i.found (omega arith) w.if-s-i-ge128.true ∙ ap (λ (q : Bool). q || high (drop (c.loop-i.i + 1) c.args.s.now)) (sym w.found-is))
+      | then-s-i-ge128 w ↦ (omega arith, c.loop-i.invariant.1 ∙ high_there c.args.s.now c.loop-i.i c.loop-i.found (omega arith) w.if-s-i-ge128.true ∙ ap (λ (q : Bool). q || high (drop (c.loop-i.i + 1) c.args.s.now)) (sym w.found-is))
       | else-s-i-ge128 w ↦ (omega arith, c.loop-i.invariant.1 ∙ ap₂ ◌||◌ (sym w.found-is) (high_not c.args.s.now c.loop-i.i (omega arith) w.if-s-i-ge128.false))
     ]
 

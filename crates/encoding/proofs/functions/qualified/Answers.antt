@@ -33,7 +33,7 @@ loop-at-smaller c =
 pub loop-at-preserved : goal.loop-at-preserved
 loop-at-preserved c =
     elim c.match-qualifier.branch [
-      in-Bytes w ↦ rw (w.text-is, w.next-is, w.size-is) (qualifying_word c.loop-at.invariant c.loop-at-test.true c.requires.1.1.1 c.qualifier.ensures w.in-Bytes.is w.put_word-next.ensures.0 w.put_word-next.ensures.1 w.sum-size.ensures)
+      | in-Bytes w ↦ rw (w.text-is, w.next-is, w.size-is) (qualifying_word c.loop-at.invariant c.loop-at-test.true c.requires.1.1.1 c.qualifier.ensures w.in-Bytes.is w.put_word-next.ensures.0 w.put_word-next.ensures.1 w.sum-size.ensures)
       | in_default w ↦ rw (w.text-is, w.next-is, w.size-is) (qualifying_nothing c.loop-at.invariant c.loop-at-test.true c.requires.1.1.1 c.qualifier.ensures w.in_default.is)
     ]
 

@@ -10,7 +10,7 @@ loop-i-init c =
 pub loop-i-preserved : goal.loop-i-preserved
 loop-i-preserved c =
     elim c.if-s-at.branch [
-      then-s-at w ↦ (omega arith, λ e. absurd (false≢true (sym w.none-is ∙ e)))
+      | then-s-at w ↦ (omega arith, λ e. absurd (false≢true (sym w.none-is ∙ e)))
       | else-s-at w ↦ (
         omega arith,
         λ e j h f. ⊎_elim

@@ -1,3 +1,4 @@
+use Rattle.listing.specs.Laws.Kinds.{name_told, symbol_told}
 use Rattle.listing.proofs.listing.answer.Goals as goal
 
 pub returns-in-Names : goal.returns-in-Names

@@ -18,11 +18,10 @@ bounds-out-comma c =
     omega (arith, c.write_decimal-second.ensures.place, c.write_decimal-second.auto.out, length-set c.args.out.now 11 44)
 
 pub write_decimal-requires : goal.write_decimal-requires
-write_decimal-requires c =
-    (
-      omega (arith, c.write_decimal-second.ensures.place, digits_fit c.args.bytes c.requires.1.1, digits_fit c.args.number c.requires.1.0),
-      simp length-set (omega (arith, c.write_decimal-second.ensures.place, c.write_decimal-second.auto.out, length-set c.args.out.now 11 44)),
-    )
+write_decimal-requires c = (
+  omega (arith, c.write_decimal-second.ensures.place, digits_fit c.args.bytes c.requires.1.1, digits_fit c.args.number c.requires.1.0),
+  simp length-set (omega (arith, c.write_decimal-second.ensures.place, c.write_decimal-second.auto.out, length-set c.args.out.now 11 44)),
+)
 
 pub returns : goal.returns
 returns c =

@@ -1,3 +1,4 @@
+use Rattle.std.proofs.Common.{rules}
 use mathlib.Core.Path.{sym, subst}
 use native.Mathlib.Omega.{arith}
 use lib.Seq.{length-take-le}
@@ -5,6 +6,7 @@ use Rattle.grammar.specs.Text.{Text}
 use Rattle.listing.specs.Listing.{listing_line}
 use Rattle.listing.specs.Printed.{Printed}
 use Rattle.listing.specs.Laws.Answers.{line_is}
+use Rattle.listing.specs.Laws.Kinds.{short_told}
 use Rattle.listing.proofs.listing.write_line.Goals as goal
 
 pub slice_bounds-print_line-end : goal.slice_bounds-print_line-end
@@ -18,7 +20,7 @@ slice_bounds-print_line-end-2 c =
 pub print_line-requires : goal.print_line-requires
 print_line-requires c =
     let e = short_told _ _ c.answer-answer.ensures in
-    let k = length-take-le c.bytes-bytes.result c.answer-answer.new.store (omega (arith, e, c.bytes-bytes.ensures, c.answer-answer.auto.store, c.requires.1.name)) in
+    let k = length-take-le c.bytes-bytes.result c.answer-answer.new.name (omega (arith, e, c.bytes-bytes.ensures, c.answer-answer.auto.name, c.requires.1.name)) in
     (omega (arith, c.requires.0), (search rules, omega (arith, k, e, c.bytes-bytes.ensures)))
 
 pub returns : goal.returns

@@ -25,19 +25,18 @@ slice_bounds-write-end-10 c =
     sym (length-take-le least_numbers c.args.chains.now c.requires.long_numbers.chains)
 
 pub write-requires : goal.write-requires
-write-requires c =
-    (
-      c.requires.s_len_bound.0,
-      (
-        length-take-le out_length c.args.store.now c.requires.s_len_bound.1.0,
-        record {
-          ends = length-take-le least_numbers c.args.ends.now c.requires.s_len_bound.1.1;
-          words = length-take-le least_numbers c.args.words.now c.requires.long_numbers.words;
-          tables = length-take-le least_numbers c.args.tables.now c.requires.long_numbers.tables;
-          chains = length-take-le least_numbers c.args.chains.now c.requires.long_numbers.chains;
-        },
-      ),
-    )
+write-requires c = (
+  c.requires.s_len_bound.0,
+  (
+    length-take-le out_length c.args.store.now c.requires.s_len_bound.1.0,
+    record {
+      ends = length-take-le least_numbers c.args.ends.now c.requires.s_len_bound.1.1;
+      words = length-take-le least_numbers c.args.words.now c.requires.long_numbers.words;
+      tables = length-take-le least_numbers c.args.tables.now c.requires.long_numbers.tables;
+      chains = length-take-le least_numbers c.args.chains.now c.requires.long_numbers.chains;
+    },
+  ),
+)
 
 pub returns : goal.returns
 returns c =

@@ -17,7 +17,7 @@ pub loop-i-preserved : goal.loop-i-preserved
 loop-i-preserved c =
     let g : c.args.from + c.loop-i.i < length c.args.text.now = omega arith in
     elim c.if-text-from-eq1.branch [
-      then-text-from-eq1 w ↦ (omega arith, (omega arith, w.found-is ∙ omega (arith, c.loop-i.invariant.1.1, slot_there c.args.text.now c.args.from c.loop-i.i g w.if-text-from-eq1.true)))
+      | then-text-from-eq1 w ↦ (omega arith, (omega arith, w.found-is ∙ omega (arith, c.loop-i.invariant.1.1, slot_there c.args.text.now c.args.from c.loop-i.i g w.if-text-from-eq1.true)))
       | else-text-from-eq1 w ↦ (omega arith, (omega arith, w.found-is ∙ omega (arith, c.loop-i.invariant.1.1, slot_not c.args.text.now c.args.from c.loop-i.i g w.if-text-from-eq1.false)))
     ]
 

@@ -14,7 +14,7 @@ loop-i-init c =
 pub loop-i-preserved : goal.loop-i-preserved
 loop-i-preserved c =
     elim c.if-text-from.branch [
-      then-text-from w ↦ (omega arith, λ e. absurd (false≢true (sym w.same-is ∙ e)))
+      | then-text-from w ↦ (omega arith, λ e. absurd (false≢true (sym w.same-is ∙ e)))
       | else-text-from w ↦ (omega arith, λ e. equal_more c.args.text.now c.args.store.now c.args.from c.args.a c.loop-i.i (omega arith) (omega arith) (c.loop-i.invariant.1 (sym w.same-is ∙ e)) w.if-text-from.false)
     ]
 

@@ -15,12 +15,11 @@ returns-then-text-from c =
     (λ e. c.if-text-from.true (sym (part_at c.args.text.now c.args.from c.args.n c.loop-i.i (omega arith)) ∙ e ∙ part_at c.args.store.now c.args.a c.args.n c.loop-i.i (omega arith))))
 
 pub loop-i-preserved : goal.loop-i-preserved
-loop-i-preserved c =
-    (
-      omega arith,
-      c.loop-i.invariant.1 ∙ same_more (take c.args.n (drop c.args.from c.args.text.now)) (take c.args.n (drop c.args.a c.args.store.now)) c.loop-i.i (in_part c.args.text.now c.args.from c.args.n c.loop-i.i (omega arith) (omega arith)) (in_part c.args.store.now c.args.a c.args.n c.loop-i.i (omega arith) (omega arith))
-          (part_at c.args.text.now c.args.from c.args.n c.loop-i.i (omega arith) ∙ c.if-text-from.false ∙ sym (part_at c.args.store.now c.args.a c.args.n c.loop-i.i (omega arith))),
-    )
+loop-i-preserved c = (
+  omega arith,
+  c.loop-i.invariant.1 ∙ same_more (take c.args.n (drop c.args.from c.args.text.now)) (take c.args.n (drop c.args.a c.args.store.now)) c.loop-i.i (in_part c.args.text.now c.args.from c.args.n c.loop-i.i (omega arith) (omega arith)) (in_part c.args.store.now c.args.a c.args.n c.loop-i.i (omega arith) (omega arith))
+      (part_at c.args.text.now c.args.from c.args.n c.loop-i.i (omega arith) ∙ c.if-text-from.false ∙ sym (part_at c.args.store.now c.args.a c.args.n c.loop-i.i (omega arith))),
+)
 
 pub returns : goal.returns
 returns c =
