@@ -2,3 +2,4 @@
 pub mod Texts
 pub mod Digits
 pub mod Lookups
+pub mod Laws

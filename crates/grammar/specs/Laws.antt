@@ -8,12 +8,9 @@ pub mod Fuel
 pub mod Finds
 pub mod Steps
 pub mod NameSteps
-pub mod Examples
 pub mod Loops
 pub mod Decimals
 pub mod Alike
-pub mod AlikeReadings
-pub mod Dots
 pub mod Thunks
 pub mod Longer
 pub mod States

@@ -3,6 +3,4 @@ pub mod Examples
 pub mod Nodes
 pub mod Numbers
 pub mod Related
-pub mod Productions
-pub mod Equal
 pub mod Numbered

@@ -11,9 +11,9 @@ use Rattle.catalogue.specs.Tree.{Ty, Enc, print_enc}
 use Rattle.catalogue.specs.Spelling.{Sym, symbol, spell_name, spell_params, spell_sym}
 use Rattle.catalogue.specs.Class.{resolve_sym}
 use Rattle.catalogue.specs.Class as class
-use Rattle.catalogue.specs.Laws.Limits.{depth_sym}
+use Rattle.catalogue.proofs.Laws.Limits.{depth_sym}
 use Rattle.catalogue.specs.Laws.WellFormed.{WfEnc, sym_wf}
-use Rattle.catalogue.specs.Laws.SymbolReadsBack.{sym_ok}
+use Rattle.catalogue.proofs.Laws.SymbolReadsBack.{sym_ok}
 use Rattle.agreement.specs.Laws.Verdict.{at, Verdict, reads, stops}
 use Rattle.agreement.specs.Laws.After.{after_is}
 use Rattle.agreement.specs.Laws.Printed.{printed_clean}

@@ -14,8 +14,8 @@ use Rattle.catalogue.specs.Spelling.{p_sub, p_app, s_one, s_also, flat, scoped, 
 use Rattle.catalogue.specs.Spelling.{ref_digits, length_digits, name_bytes, minus, const_byte}
 use Rattle.catalogue.specs.Class.{name_ok, word_byte}
 use Rattle.catalogue.specs.Laws.Numbers.{digit_low, decimal_all}
-use Rattle.catalogue.specs.Laws.ReadsBack.{OkSp, OkPre, OkArgs}
-use Rattle.catalogue.specs.Laws.SymbolReadsBack.{OkName, OkParams, OkSym}
+use Rattle.catalogue.proofs.Laws.ReadsBack.{OkSp, OkPre, OkArgs}
+use Rattle.catalogue.proofs.Laws.SymbolReadsBack.{OkName, OkParams, OkSym}
 use Rattle.agreement.specs.Laws.Letters.{every_letter}
 use Rattle.agreement.specs.Laws.Leaves.{low}
 use Rattle.agreement.specs.Laws.Heads.{ref_low}

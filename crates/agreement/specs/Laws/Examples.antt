@@ -2,9 +2,9 @@
 use Rattle.std.specs.Prelude.{List, [], ◌∷◌, ◌≡◌, refl}
 use Rattle.grammar.specs.Text.{b}
 use Rattle.grammar.specs.Tables.{Row, ◌⇒◌}
-use Rattle.grammar.specs.Laws.Examples.{Case, prints, Answered, answered, by_test}
+use Rattle.grammar.proofs.Laws.Examples.{Case, prints, Answered, answered, by_test}
 use Rattle.catalogue.specs.Normal.{normal_of}
-use Rattle.catalogue.specs.Laws.Examples.{Written, normals, normals_hold}
+use Rattle.catalogue.proofs.Laws.Examples.{Written, normals, normals_hold}
 use Rattle.agreement.specs.Laws.NormalNames.{demand_3_first}
 
 unfoldable pub normal_cases : List (Row Case)

@@ -16,9 +16,9 @@ use Rattle.catalogue.specs.Tree.{Letter, Kind, Ty, Args, lb, li, lj, ll, lm, kb,
 use Rattle.catalogue.specs.Laws.Numbers.{digit_low}
 use Rattle.catalogue.specs.Spelling.{minus}
 use Rattle.catalogue.specs.Class.{lit_ok}
-use Rattle.catalogue.specs.Laws.NormalForm.{arg_bytes, nbytes}
+use Rattle.catalogue.proofs.Laws.NormalForm.{arg_bytes, nbytes}
 use Rattle.catalogue.specs.Laws.WellFormed.{WfArgs}
-use Rattle.catalogue.specs.Laws.Count.{number_of, nargs}
+use Rattle.catalogue.proofs.Laws.Count.{number_of, nargs}
 use Rattle.agreement.specs.Laws.Verdict.{at, Verdict, gives, next, assoc, then_by, by_equal, weaken, gives_as, before_E, guarded, guarded_is, closed}
 use Rattle.agreement.specs.Laws.Verdict.{closed_by, up_to_E_is, in_reading, give_end, need_by, byte_E, byte_I, byte_L, entered_by, by_code_miss}
 use Rattle.agreement.specs.Laws.Verdict.{push_arg_by, step_on, step_off}

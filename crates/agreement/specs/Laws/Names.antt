@@ -13,7 +13,7 @@ use Rattle.catalogue.specs.Bytes.{first}
 use Rattle.catalogue.specs.Tree.{Ty, root, sub, print}
 use Rattle.catalogue.specs.Spelling.{Pre, SpName, flat, scoped, spell_name, spell_pre, name_bytes, const_byte}
 use Rattle.catalogue.specs.Class.{name_ok, resolve_pre, resolve_name, is_const}
-use Rattle.catalogue.specs.Laws.Limits.{depth_pre, depth_name}
+use Rattle.catalogue.proofs.Laws.Limits.{depth_pre, depth_name}
 use Rattle.agreement.specs.Laws.Verdict.{at, Verdict, reads, stops, in_onto, by_equal, in_reading, give_by, at_code_hit, at_code_miss}
 use Rattle.agreement.specs.Laws.After.{After, after_ok, after_then, after_if}
 use Rattle.agreement.specs.Laws.Leaves.{find_miss, clear}

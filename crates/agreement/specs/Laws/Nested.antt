@@ -17,8 +17,8 @@ use Rattle.catalogue.specs.Laws.Bytes.{run_of, past_of}
 use Rattle.catalogue.specs.Tree.{Ty, Args, root, sub, app, print}
 use Rattle.catalogue.specs.Spelling.{ref_digits, length_digits, name_bytes, const_byte}
 use Rattle.catalogue.specs.Class.{name_ok, push}
-use Rattle.catalogue.specs.Laws.Count.{number_of}
-use Rattle.catalogue.specs.Laws.NormalForm.{arg_bytes}
+use Rattle.catalogue.proofs.Laws.Count.{number_of}
+use Rattle.catalogue.proofs.Laws.NormalForm.{arg_bytes}
 use Rattle.agreement.specs.Laws.Verdict.{at, Verdict, next, assoc, then_by, by_equal, give_by, before_E, guarded, guarded_is, closed, closed_by, loop_on, loop_off}
 use Rattle.agreement.specs.Laws.Leaves.{starts_miss}
 use Rattle.agreement.specs.Laws.Heads.{heads, name_first, length_digit, some_bytes}

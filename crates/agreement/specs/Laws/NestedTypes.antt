@@ -10,9 +10,9 @@ use Rattle.catalogue.specs.Bytes.{first}
 use Rattle.catalogue.specs.Tree.{Ty, Args, sub, app, print}
 use Rattle.catalogue.specs.Spelling.{name_bytes}
 use Rattle.catalogue.specs.Class.{push, last_is, push_new}
-use Rattle.catalogue.specs.Laws.Count.{nargs, sum_push}
-use Rattle.catalogue.specs.Laws.NoDoubles.{sum}
-use Rattle.catalogue.specs.Laws.NormalForm.{nbytes}
+use Rattle.catalogue.proofs.Laws.Count.{nargs, sum_push}
+use Rattle.catalogue.proofs.Laws.NoDoubles.{sum}
+use Rattle.catalogue.proofs.Laws.NormalForm.{nbytes}
 use Rattle.catalogue.specs.Laws.WellFormed.{Wf, AllWf}
 use Rattle.agreement.specs.Laws.Verdict.{at}
 use Rattle.agreement.specs.Laws.Heads.{heads, name_first}

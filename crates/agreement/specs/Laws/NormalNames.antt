@@ -10,11 +10,11 @@ use Rattle.catalogue.specs.Tree.{print_enc}
 use Rattle.catalogue.specs.Class.{resolve_sym, count_sym, Catalogue}
 use Rattle.catalogue.specs.Normal.{normal_sym, after_sym, write, normal_of}
 use Rattle.catalogue.specs.Laws.WellFormed.{post_is}
-use Rattle.catalogue.specs.Laws.NormalTree.{resolve_sym_normal}
-use Rattle.catalogue.specs.Laws.NoDoubles.{sum}
-use Rattle.catalogue.specs.Laws.Count.{nargs, Counted, counted_sym}
-use Rattle.catalogue.specs.Laws.Decision.{resolves, few, tree_wf}
-use Rattle.catalogue.specs.Laws.NormalForm.{nbytes, nbytes_printed, sum_le, weight_one, printed, no_larger, sum_no_larger, normal_catalogue, normal_normal, names_normals_of}
+use Rattle.catalogue.proofs.Laws.NormalTree.{resolve_sym_normal}
+use Rattle.catalogue.proofs.Laws.NoDoubles.{sum}
+use Rattle.catalogue.proofs.Laws.Count.{nargs, Counted, counted_sym}
+use Rattle.catalogue.proofs.Laws.Decision.{resolves, few, tree_wf}
+use Rattle.catalogue.proofs.Laws.NormalForm.{nbytes, nbytes_printed, sum_le, weight_one, printed, no_larger, sum_no_larger, normal_catalogue, normal_normal, names_normals_of}
 use Rattle.agreement.specs.Laws.Symbols.{RoomSym}
 use Rattle.agreement.specs.Laws.Accepted.{Accepted, accepted, accepts}
 

@@ -11,7 +11,7 @@ use Rattle.catalogue.specs.Laws.Bytes.{not-true}
 use Rattle.catalogue.specs.Tree.{Ty, Args, letter, lv, one, also, word, print, print_args, is_lit, is_void, inside, same_ty}
 use Rattle.catalogue.specs.Spelling.{Sp, SpArgs, s_one, s_also, spell, spell_args}
 use Rattle.catalogue.specs.Class.{all_types, resolve, resolve_args}
-use Rattle.catalogue.specs.Laws.Limits.{depth, depth_args}
+use Rattle.catalogue.proofs.Laws.Limits.{depth, depth_args}
 use Rattle.catalogue.specs.Laws.WellFormed.{Wf, WfArgs, AllWf, Good, resolve_wf}
 use Rattle.agreement.specs.Laws.Verdict.{at, Verdict, Gives, gives, gives_as, next, assoc, then_by, weaken, step_on, step_off}
 use Rattle.agreement.specs.Laws.After.{After, after_ok, after_then, after_also}

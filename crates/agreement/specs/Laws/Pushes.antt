@@ -9,13 +9,13 @@ use Rattle.grammar.specs.Grammar.{last}
 use Rattle.catalogue.specs.Bytes.{same_eq, same_yes}
 use Rattle.catalogue.specs.Tree.{Ty, Args, app, print, same_ty, same_ty_eq, same_ty_yes}
 use Rattle.catalogue.specs.Class.{push, last_is, push_new}
-use Rattle.catalogue.specs.Laws.NoDoubles.{sum}
-use Rattle.catalogue.specs.Laws.NormalForm.{arg_bytes, nbytes}
+use Rattle.catalogue.proofs.Laws.NoDoubles.{sum}
+use Rattle.catalogue.proofs.Laws.NormalForm.{arg_bytes, nbytes}
 use Rattle.catalogue.specs.Laws.WellFormed.{Wf, AllWf}
 use Rattle.catalogue.specs.Laws.Words.{lex}
 use Rattle.catalogue.specs.Laws.NameReader.{walk, want, have}
-use Rattle.catalogue.specs.Laws.Back.{back}
-use Rattle.catalogue.specs.Laws.Count.{sum_push, nargs, number_of}
+use Rattle.catalogue.proofs.Laws.Back.{back}
+use Rattle.catalogue.proofs.Laws.Count.{sum_push, nargs, number_of}
 use Rattle.agreement.specs.Laws.Verdict.{at, Verdict, reads, Gives, gives, push_sub_by, recorded_end}
 use Rattle.agreement.specs.Laws.Printed.{list_text}
 use Rattle.agreement.specs.Laws.Rooms.{texts, texts_push, Fits, fits_push, push_fits, fits_grown, Grown, sum_grown, bytes, Room, Kept}

@@ -11,9 +11,9 @@ use Rattle.catalogue.specs.Tree.{Ty, Args, wrap, root, sub, app, print, is_bare,
 use Rattle.catalogue.specs.Spelling.{Sp, Pre, SpArgs, s_letter, s_wrap, s_ref, plain, templ, retempl, nest_sub, nest_app, s_lit, p_ref, p_root, p_sub, p_app, s_one, s_also}
 use Rattle.catalogue.specs.Class.{name_ok, lit_ok, stands, push, last_is, push_new, Res, ok, and_then, entry, resolve, resolve_pre, resolve_args}
 use Rattle.catalogue.specs.Laws.WellFormed.{Post, post_ok, post_then, post_if}
-use Rattle.catalogue.specs.Laws.Count.{nargs}
-use Rattle.catalogue.specs.Laws.NoDoubles.{sum}
-use Rattle.catalogue.specs.Laws.NormalForm.{nbytes}
+use Rattle.catalogue.proofs.Laws.Count.{nargs}
+use Rattle.catalogue.proofs.Laws.NoDoubles.{sum}
+use Rattle.catalogue.proofs.Laws.NormalForm.{nbytes}
 
 -- ---------------------------------------------------------------- the texts of a table
 

@@ -19,7 +19,7 @@ use Rattle.catalogue.specs.Spelling.{Sp, Pre, SpArgs, s_letter, s_wrap, s_ref, p
 use Rattle.catalogue.specs.Spelling.{s_one, s_also, spell, spell_pre, spell_args, ref_digits, name_bytes, minus}
 use Rattle.catalogue.specs.Class.{name_ok, lit_ok, stands, push, push_new, Res, wrong, entry, resolve, resolve_pre, resolve_args}
 use Rattle.catalogue.specs.Class as class
-use Rattle.catalogue.specs.Laws.Limits.{depth, depth_pre, depth_args}
+use Rattle.catalogue.proofs.Laws.Limits.{depth, depth_pre, depth_args}
 use Rattle.catalogue.specs.Laws.WellFormed.{Wf, WfArgs, AllWf, Good, GoodPre, GoodArgs, Post, post_ok, post_if, wf_push, resolve_wf, resolve_pre_wf, resolve_args_wf}
 use Rattle.agreement.specs.Laws.Letters.{every_letter}
 use Rattle.agreement.specs.Laws.Verdict.{at}

@@ -16,10 +16,10 @@ use Rattle.catalogue.specs.Tree.{Ty, Args, Enc, letter, lv, enc, one, also, prin
 use Rattle.catalogue.specs.Spelling.{SpArgs, SpName, Sym, flat, scoped, symbol, spell_args, spell_name, spell_params, name_bytes}
 use Rattle.catalogue.specs.Class.{name_ok, all_types, is_const, and_then, provided, resolve_pre, resolve_args, resolve_name, resolve_params, resolve_sym}
 use Rattle.catalogue.specs.Class as class
-use Rattle.catalogue.specs.Laws.Count.{nargs}
-use Rattle.catalogue.specs.Laws.Limits.{depth_name, depth_args, depth_sym}
-use Rattle.catalogue.specs.Laws.NoDoubles.{sum}
-use Rattle.catalogue.specs.Laws.NormalForm.{nbytes}
+use Rattle.catalogue.proofs.Laws.Count.{nargs}
+use Rattle.catalogue.proofs.Laws.Limits.{depth_name, depth_args, depth_sym}
+use Rattle.catalogue.proofs.Laws.NoDoubles.{sum}
+use Rattle.catalogue.proofs.Laws.NormalForm.{nbytes}
 use Rattle.catalogue.specs.Laws.WellFormed.{WfArgs, AllWf, GoodPre, GoodArgs, Post, post_ok, post_then, post_if, resolve_pre_wf, resolve_args_wf}
 use Rattle.agreement.specs.Laws.Verdict.{at, Verdict, next, assoc, equal_by, by_equal, in_reading, by_code_miss, give_by, give_told}
 use Rattle.agreement.specs.Laws.After.{After, after_ok, after_then, after_if, after_also}

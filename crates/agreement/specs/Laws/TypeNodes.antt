@@ -13,9 +13,9 @@ use Rattle.catalogue.specs.Tree.{Letter, Wrap, Ty, Args, letter, wrap, root, app
 use Rattle.catalogue.specs.Spelling.{ref_digits, length_digits, name_bytes}
 use Rattle.catalogue.specs.Class.{name_ok, push}
 use Rattle.catalogue.specs.Laws.Numbers.{ref_index}
-use Rattle.catalogue.specs.Laws.NormalForm.{arg_bytes}
+use Rattle.catalogue.proofs.Laws.NormalForm.{arg_bytes}
 use Rattle.catalogue.specs.Laws.WellFormed.{Wf}
-use Rattle.catalogue.specs.Laws.Count.{number_of}
+use Rattle.catalogue.proofs.Laws.Count.{number_of}
 use Rattle.agreement.specs.Laws.Verdict.{at, Verdict, reads, Gives, gives, next, give_by, give_end, at_code_hit, at_code_miss}
 use Rattle.agreement.specs.Laws.Leaves.{source_name_is, unqualified_name_is, substitution_is}
 use Rattle.agreement.specs.Laws.Heads.{named, numbered, no_std, name_first, Follow}

@@ -9,8 +9,8 @@ use Rattle.grammar.specs.Names.{named, demangle, work_fits}
 use Rattle.catalogue.specs.Class.{Catalogue}
 use Rattle.catalogue.specs.Normal.{normal_of}
 use Rattle.catalogue.specs.Answer.{normal_work_fits}
-use Rattle.normal_walk.specs.Laws.SymbolComplete.{walk_complete}
-use Rattle.normal_walk.specs.Laws.Equal.{walk_is, walk_normal}
+use Rattle.normal_walk.proofs.Laws.SymbolComplete.{walk_complete}
+use Rattle.normal_walk.proofs.Laws.Equal.{walk_is, walk_normal}
 use Rattle.agreement.specs.Laws.NormalNames.{demand_3_first, demand_3_second}
 use Rattle.answer.specs.declared.Answer.{Answer}
 use Rattle.answer.specs.Told.{Slices, lent, number_in, bytes_in}

@@ -3,7 +3,7 @@ use Rattle.std.specs.Prelude.{[], ◌∷◌, ◌++◌, ◌≡◌}
 use Rattle.std.proofs.Common.{ap, ap₂}
 use Rattle.grammar.specs.Text.{Text, b, if◌then◌else◌, decimal}
 use Rattle.grammar.specs.Names.{number_of, length_of}
-use Rattle.catalogue.specs.Laws.Starred.{listed_answered}
+use Rattle.catalogue.proofs.Laws.Starred.{listed_answered}
 use Rattle.listing.specs.Listing.{line_feed, head, line, name_of, line_for, answer_of, listing_line, in_front, lines, listing}
 use Rattle.listing.specs.declared.listing.Kind.TheVariants.{Names, Symbols}
 

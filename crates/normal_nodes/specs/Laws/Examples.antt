@@ -11,7 +11,7 @@ use Rattle.catalogue.specs.Spelling.{digit_of, base36, ref_digits}
 use Rattle.catalogue.specs.Class.{word_byte, reserved, listed, name_ok, numeral, lit_ok, stands, last_is, push_new}
 use Rattle.catalogue.specs.Normal.{seek}
 use Rattle.catalogue.specs.Recogniser.{cut, read_name, with_code, lead}
-use Rattle.catalogue.specs.Laws.Examples.{Rows, normals, inside, outside}
+use Rattle.catalogue.proofs.Laws.Examples.{Rows, normals, inside, outside}
 use Rattle.normal_walk.specs.Walk.{name, reference, literal}
 use Rattle.normal_nodes.specs.Nodes.{same_node, seek_by, node_place, number_of, with_node, tag_of, may_stand, table_place, add, note_add_all}
 use Rattle.normal_nodes.specs.Nodes.{note_last_is, settled, entered_nested, note_type, note_types, note_encoding, note_symbol}

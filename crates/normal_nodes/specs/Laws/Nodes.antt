@@ -9,7 +9,7 @@ use Rattle.catalogue.specs.Laws.Bytes.{or-false}
 use Rattle.catalogue.specs.Tree.{Letter, Wrap, Kind, Ty, wP, wR, wO, wK, wV, is_lit, is_ref, is_qual, same_ty, letter_code, wrap_code, kind_code}
 use Rattle.catalogue.specs.Class.{stands}
 use Rattle.catalogue.specs.Normal.{seek, later as next_place}
-use Rattle.catalogue.specs.Laws.LowBytes.{letter_low, wrap_low, kind_low}
+use Rattle.catalogue.proofs.Laws.LowBytes.{letter_low, wrap_low, kind_low}
 use Rattle.normal_nodes.specs.Nodes.{Node, node, least_number, same_node, later, seek_by, a_ref, a_qual}
 
 -- two tests of which each follows from the other

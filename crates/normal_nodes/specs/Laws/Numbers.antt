@@ -16,10 +16,10 @@ use Rattle.catalogue.specs.Tree.{Letter, Wrap, Kind, Ty, Args, letter, wrap, roo
 use Rattle.catalogue.specs.Tree.{single, same_ty, same_ty_eq, same_ty_yes, letter_code, wrap_code, kind_code}
 use Rattle.catalogue.specs.Class.{stands, push, last_is}
 use Rattle.catalogue.specs.Normal.{seek, known}
-use Rattle.catalogue.specs.Laws.NormalTree.{seek_at}
+use Rattle.catalogue.proofs.Laws.NormalTree.{seek_at}
 use Rattle.catalogue.specs.Recogniser.{with_code, all_kinds, Lead, lead_letter, lead_wrap, lead_digit, lead_S, lead_N, lead_L, lead_none, lead}
-use Rattle.catalogue.specs.Laws.ReadsBack.{lead_letter_is, lead_wrap_is, kind_at}
-use Rattle.catalogue.specs.Laws.Entries.{seek_none, at_has}
+use Rattle.catalogue.proofs.Laws.ReadsBack.{lead_letter_is, lead_wrap_is, kind_at}
+use Rattle.catalogue.proofs.Laws.Entries.{seek_none, at_has}
 use Rattle.normal_walk.specs.Walk.{distinct, add_all, add as add_tree}
 use Rattle.normal_nodes.specs.Laws.Nodes.{same_test, at_left, at_end, at_either, seek_law, node_eq, same_node_yes, same_node_eq, letter_below}
 use Rattle.normal_nodes.specs.Laws.Nodes.{wrap_below, kind_below, every_wrap, no_byte, stands_is}

@@ -12,8 +12,8 @@ use Rattle.catalogue.specs.Spelling.{name_bytes}
 use Rattle.catalogue.specs.Recogniser.{Rd, rd, stop}
 use Rattle.normal_walk.specs.Walk.{name, reference, literal, lit_bytes}
 use Rattle.normal_walk.specs.Laws.Joins.{OfRd}
-use Rattle.normal_walk.specs.Laws.Leaves.{Literal, lit_sound}
-use Rattle.normal_walk.specs.Laws.Sizes.{name_length}
+use Rattle.normal_walk.proofs.Laws.Leaves.{Literal, lit_sound}
+use Rattle.normal_walk.proofs.Laws.Sizes.{name_length}
 use Rattle.normal_nodes.specs.Nodes.{node, Notes, Got, got, bad, notes, put, go_to, settled, signed_kind, with_node, number_of, at_reference}
 use Rattle.normal_nodes.specs.Laws.Nodes.{kind_below}
 use Rattle.normal_steps.specs.Limits.{most_note}

@@ -8,7 +8,7 @@ use Rattle.grammar.specs.Text.{Text}
 use Rattle.grammar.specs.Limits.{most_symbol_bytes}
 use Rattle.store.specs.Laws.Fronts.{front_less}
 use Rattle.catalogue.specs.Spelling.{ref_bytes}
-use Rattle.normal_walk.specs.Laws.Sizes.{ref_length}
+use Rattle.normal_walk.proofs.Laws.Sizes.{ref_length}
 use Rattle.normal_nodes.specs.Nodes.{Node, node, Notes, Got, notes, got, least_number, same_node, seek_by, node_place, number_at, number_of, with_new}
 use Rattle.normal_nodes.specs.Nodes.{with_node as noted_nodes, table_place, firsts, pushed, replaced, settled}
 use Rattle.normal_nodes.specs.Laws.Numbered.{seek_below}

@@ -4,7 +4,7 @@ use Rattle.std.proofs.Common.{sym, ap, ◌∙◌, arith, length-take, length-dro
 use Rattle.grammar.specs.Text.{Text, run, past}
 use Rattle.grammar.specs.Laws.Places.{rest_some, past_run}
 use Rattle.catalogue.specs.Bytes.{all}
-use Rattle.normal_walk.specs.Laws.Digits.{run_past}
+use Rattle.normal_walk.proofs.Laws.Digits.{run_past}
 use Rattle.normal_steps.specs.Parts.{part}
 
 module _ (s : Text) (i : ℕ) where

@@ -3,7 +3,7 @@ use Rattle.std.specs.Prelude.{[], ◌∷◌, ◌++◌, ◌≡◌, refl, ℕ, zer
 use Rattle.std.proofs.Common.{ap, ◌∙◌, arith, length-append}
 use Rattle.grammar.specs.Text.{Text}
 use Rattle.catalogue.specs.Spelling.{digit_of, base36, ref_digits, ref_bytes}
-use Rattle.normal_walk.specs.Laws.Digits.{base36_one, base36_fuel, base36_snoc}
+use Rattle.normal_walk.proofs.Laws.Digits.{base36_one, base36_fuel, base36_snoc}
 
 -- ---------------------------------------------------------------- digits
 

@@ -12,7 +12,7 @@ use Rattle.grammar.specs.Laws.NameSteps.{starts_one}
 use Rattle.catalogue.specs.Bytes.{all, first, and_left, and_right, eqb_yes}
 use Rattle.catalogue.specs.Class.{listed, leading_zero, numeral, reserved}
 use Rattle.catalogue.specs.Recogniser.{if_next}
-use Rattle.catalogue.specs.Laws.ReadsBack.{next_no}
+use Rattle.catalogue.proofs.Laws.ReadsBack.{next_no}
 
 -- ---------------------------------------------------------------- a byte at a place
 

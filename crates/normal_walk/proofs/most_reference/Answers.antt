@@ -1,4 +1,4 @@
-use Rattle.normal_walk.specs.Laws.Sizes.{ref_length}
+use Rattle.normal_walk.proofs.Laws.Sizes.{ref_length}
 use Rattle.normal_walk.proofs.most_reference.Goals as goal
 
 pub returns : goal.returns

@@ -14,9 +14,9 @@ use Rattle.catalogue.specs.Class.{name_ok, lit_ok, stands, push, last_is, push_n
 use Rattle.catalogue.specs.Normal.{seek, known, after, after_pre, after_args}
 use Rattle.catalogue.specs.Laws.WellFormed.{Wf, WfArgs, AllWf, Good, GoodPre, Post, post_ok, post_then, post_if, post_entry, post_both, post_map, wf_push}
 use Rattle.catalogue.specs.Laws.WellFormed.{wf_push_new, bare_class, entry_wf}
-use Rattle.catalogue.specs.Laws.Entries.{has, has_push, has_seek, at_has, seek_has, last_has, Known, Closed, after_same, after_pre_same, after_args_same}
-use Rattle.catalogue.specs.Laws.Entries.{grown_has, after_closed, after_pre_closed}
-use Rattle.catalogue.specs.Laws.NoDoubles.{size, size_args, new_trans, after_new, after_pre_new, after_args_new, fresh}
+use Rattle.catalogue.proofs.Laws.Entries.{has, has_push, has_seek, at_has, seek_has, last_has, Known, Closed, after_same, after_pre_same, after_args_same}
+use Rattle.catalogue.proofs.Laws.Entries.{grown_has, after_closed, after_pre_closed}
+use Rattle.catalogue.proofs.Laws.NoDoubles.{size, size_args, new_trans, after_new, after_pre_new, after_args_new, fresh}
 use Rattle.normal_walk.specs.Walk.{add, add_all, distinct}
 
 -- ---------------------------------------------------------------- the table without later doubles

@@ -14,9 +14,9 @@ use Rattle.grammar.specs.Names as n
 use Rattle.grammar.specs.Laws.Fuel.{never_0}
 use Rattle.catalogue.specs.Recogniser.{classify}
 use Rattle.catalogue.specs.Answer.{normal_in, normal_told, normal_after, normal_answer, normal_work_fits, least_numbers}
-use Rattle.normal_walk.specs.Laws.Equal.{walk_is}
+use Rattle.normal_walk.proofs.Laws.Equal.{walk_is}
 use Rattle.normal_nodes.specs.Nodes.{note_symbol}
-use Rattle.normal_nodes.specs.Laws.Equal.{nodes_are_walk}
+use Rattle.normal_nodes.proofs.Laws.Equal.{nodes_are_walk}
 use Rattle.answer.specs.declared.Answer.{Answer}
 use Rattle.answer.specs.declared.Answer.TheVariants.{Name, Refused}
 use Rattle.demangle.specs.declared.symbol.Front.{Front}

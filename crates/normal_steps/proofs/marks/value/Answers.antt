@@ -3,7 +3,7 @@ use Rattle.grammar.specs.Text.{digit}
 use lib.ListN.{drop}
 use borrow.Author.Tests.{not-true, not-false}
 use Rattle.normal_steps.specs.Laws.Parts.{run_is}
-use Rattle.normal_walk.specs.Laws.Digits.{run_all}
+use Rattle.normal_walk.proofs.Laws.Digits.{run_all}
 use Rattle.grammar.specs.Laws.Places.{starts_inside}
 use Rattle.catalogue.specs.Bytes.{all}
 use Rattle.normal_steps.specs.Laws.Leaves.{value_open, value_wrong, value_right}

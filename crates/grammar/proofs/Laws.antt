@@ -1,0 +1,4 @@
+-- Laws that a mistake in a definition makes false: see must-fail/. Nothing here has to be believed.
+pub mod Examples
+pub mod AlikeReadings
+pub mod Dots
