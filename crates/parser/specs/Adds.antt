@@ -1,5 +1,5 @@
 -- Texts put on the stack one after the other: what they come to. Assumes nothing.
-use Rattle.std.specs.Prelude.{◌++◌, ◌≡◌, ◌+◌, take}
+use Rattle.std.specs.Prelude.{◌++◌, ◌≡◌, take}
 use Rattle.grammar.specs.Text.{Text}
 use Rattle.grammar.specs.Limits.{kept_bytes}
 use Rattle.store.specs.Stack.{Stack, Tail}

@@ -1,5 +1,5 @@
 -- What the leaves that pass over bytes answer: qualifiers, skipped expressions, and the class that a constructor is named after.
-use Rattle.std.specs.Prelude.{Bool, not, ◌&&◌, [], ◌∷◌, ◌++◌, ◌≡◌, ℕ, ◌+◌, ◌-◌, ◌≤◌, eqb, length, take, drop}
+use Rattle.std.specs.Prelude.{Bool, not, ◌&&◌, [], ◌∷◌, ◌++◌, ◌≡◌, ℕ, ◌-◌, ◌≤◌, eqb, length, take, drop}
 use Rattle.std.proofs.Math.Option.{Option, none, some}
 use Rattle.grammar.specs.Text.{Text, b, if◌then◌else◌, holds, run, after_last}
 use Rattle.grammar.specs.Grammar.{last, skipped}

@@ -1,5 +1,5 @@
 -- How a literal is printed: by the text of its type, and what is put on the stack for its value.
-use Rattle.std.specs.Prelude.{List, ◌++◌, ℕ, ◌+◌, ◌-◌, ◌≤◌, length, drop}
+use Rattle.std.specs.Prelude.{List, ◌++◌, ℕ, ◌+◌, ◌≤◌, length, drop}
 use Rattle.grammar.specs.Text.{Text, b, if◌then◌else◌, same, starts}
 use Rattle.grammar.specs.Limits.{most_text_bytes, most_entry_bytes}
 use Rattle.grammar.specs.Reader.{State, give}

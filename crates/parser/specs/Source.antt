@@ -1,5 +1,5 @@
 -- Source names as a loop reads them: one identifier after the other, with a count of the tags that are open. Assumes nothing.
-use Rattle.std.specs.Prelude.{◌&&◌, [], ◌∷◌, ℕ, zero, suc, ◌+◌, ◌-◌, leb, length, drop}
+use Rattle.std.specs.Prelude.{◌&&◌, [], ◌∷◌, ℕ, zero, suc, ◌+◌, leb, length, drop}
 use Rattle.grammar.specs.Text.{Text, if◌then◌else◌, starts, run, digit, number}
 use Rattle.parser.specs.declared.names.Found.{Found}
 use Rattle.parser.specs.declared.names.Found.TheVariants.{Part, Nothing}

@@ -1,5 +1,5 @@
 -- The count of 1,024 arguments: _Z1f1aI, the letter i some times, E is a catalogue symbol for 1 to 1,024 times and for no more.
-use Rattle.std.specs.Prelude.{false, List, [], ◌∷◌, ◌++◌, ◌≡◌, refl, ℕ, zero, suc, ◌+◌, ◌≤◌, ◌<◌, replicate}
+use Rattle.std.specs.Prelude.{false, List, [], ◌∷◌, ◌++◌, ◌≡◌, refl, ℕ, zero, suc, ◌≤◌, ◌<◌, replicate}
 use Rattle.std.proofs.Math.Option.{some}
 use Rattle.std.proofs.Common.{◌∙◌, ap, arith}
 use Prim.Native.Char.{code}

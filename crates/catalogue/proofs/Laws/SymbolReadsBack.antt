@@ -1,5 +1,5 @@
 -- The recogniser reads every whole symbol back whose written tree resolves.
-use Rattle.std.specs.Prelude.{Bool, true, false, not, ◌&&◌, ◌||◌, List, [], ◌∷◌, ◌++◌, ◌≡◌, refl, ℕ, suc, ◌+◌, ◌-◌, ◌≤◌, ◌<◌, eqb, length}
+use Rattle.std.specs.Prelude.{Bool, true, false, not, ◌&&◌, ◌||◌, List, [], ◌∷◌, ◌++◌, ◌≡◌, refl, ℕ, suc, ◌-◌, ◌≤◌, ◌<◌, eqb, length}
 use Rattle.std.proofs.Common.{append_assoc, append-nil, ◌∙◌, ap, arith, length-append, ne_eqb}
 use Rattle.std.proofs.Math.Option.{Option, none, some}
 use Prim.Native.Char.{code}

@@ -1,6 +1,6 @@
 -- Two results agree: they are the same, no refusal 0, and fewer than n bytes are left unread where they are texts.
 -- One law for each way in which readers are joined; two readers that differ in the productions they call agree by these.
-use Rattle.std.specs.Prelude.{◌≡◌, ℕ, zero, suc, ◌-◌, ◌<◌, ◌≤◌, Bool, true, false, ◌&&◌, T, List, [], ◌∷◌, length, drop, nat_lt, refl}
+use Rattle.std.specs.Prelude.{◌≡◌, ℕ, zero, suc, ◌<◌, ◌≤◌, Bool, true, false, ◌&&◌, T, List, [], ◌∷◌, length, drop, nat_lt, refl}
 use Rattle.std.proofs.Math.Option.{Option, none, some}
 use Prim.Native.String.{String}
 use Rattle.std.proofs.Common.{arith}

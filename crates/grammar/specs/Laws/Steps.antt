@@ -5,9 +5,9 @@ use Rattle.std.proofs.Math.Option.{Option, none, some}
 use Rattle.std.proofs.Math.Path.{refl, subst⁻¹}
 use Prim.Native.Char.{code}
 use Prim.Native.String.{String}
-use Rattle.grammar.specs.Text.{Text, b, if◌then◌else◌, choose, same, starts, holds, run, past, between, digit, digit_value, number}
+use Rattle.grammar.specs.Text.{Text, b, if◌then◌else◌, choose, starts, holds, run, past, between, digit, digit_value, number}
 use Rattle.grammar.specs.Tables.{Row, ◌⇒◌, Table, letters, d_letters, wrappers}
-use Rattle.grammar.specs.Reader.{State, Result, ok, refused, Reader, onto, ahead, go_to, set_depth, give, entered, find, word_for, by_code, at_code, eat, need, every}
+use Rattle.grammar.specs.Reader.{State, Result, ok, refused, Reader, onto, go_to, set_depth, give, entered, find, word_for, by_code, at_code, eat, need, every}
 use Rattle.grammar.specs.Grammar.{⟨source-name⟩, ⟨template-param⟩, reading}
 use Rattle.grammar.specs.Grammar as g
 use Rattle.grammar.specs.Laws.Agree.{moved, coded, all_coded}

@@ -1,5 +1,5 @@
 -- Laws of Adds.antt. Assumes nothing.
-use Rattle.std.specs.Prelude.{[], ◌++◌, ◌≡◌, refl, ℕ, ◌+◌, ◌≤◌, min, length, take, drop}
+use Rattle.std.specs.Prelude.{[], ◌++◌, ◌≡◌, refl, ℕ, ◌≤◌, min, length, take, drop}
 use Rattle.std.proofs.Common.{append_assoc, append-nil, sym, ap, ◌∙◌, subst, arith}
 use Rattle.grammar.specs.Text.{Text}
 use Rattle.grammar.specs.Limits.{most_length, kept_bytes}

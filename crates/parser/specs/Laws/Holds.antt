@@ -1,6 +1,6 @@
 -- Laws of what the state holds, and of answers. Assumes nothing.
 use Rattle.std.proofs.Math.Bool.{Bool}
-use Rattle.std.specs.Prelude.{true, false, ◌++◌, ◌≡◌, ℕ, ◌+◌, ◌-◌, ◌≤◌, ◌<◌, leb, length, take, drop}
+use Rattle.std.specs.Prelude.{true, false, ◌++◌, ◌≡◌, ℕ, ◌+◌, ◌≤◌, ◌<◌, leb, length, take, drop}
 use Rattle.std.proofs.Common.{append_assoc, sym, ap, subst, arith, le-leb, leb-true, leb-false}
 use Rattle.std.proofs.Math.Path.{refl}
 use Rattle.std.proofs.lemmas.Bool.{lt-leb}

@@ -10,7 +10,7 @@ use borrow.Author.Tests.{ne_eqb}
 use Rattle.std.proofs.Math.Dec.{eqb}
 use Rattle.std.proofs.Math.ListN.{take, drop, get_or}
 use Rattle.std.proofs.Math.Seq.{append_snoc}
-use Rattle.grammar.specs.Text.{Text, b, if◌then◌else◌, choose, starts, holds, run, after_last, digit}
+use Rattle.grammar.specs.Text.{Text, b, if◌then◌else◌, choose, starts, holds, after_last, digit}
 use Rattle.grammar.specs.Grammar.{last, class_of, skipped, open_after, structor_ahead, std_ahead}
 use Rattle.grammar.specs.Laws.Text.{starts_nothing}
 use Rattle.grammar.specs.Laws.Places.{rest_some, rest_none}

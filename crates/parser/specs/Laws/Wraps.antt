@@ -1,15 +1,14 @@
 -- Laws of texts that take the place of others on the stack, of slots, and of words told. Assumes nothing.
-use Rattle.std.specs.Prelude.{Bool, true, false, ◌&&◌, ◌||◌, ◌≡◌, [], ◌∷◌, ◌++◌, ℕ, ◌+◌, ◌-◌, ◌*◌, ◌≤◌, min, T, leb, eqb, length, take, drop}
+use Rattle.std.specs.Prelude.{Bool, true, false, ◌||◌, ◌≡◌, [], ◌∷◌, ◌++◌, ℕ, ◌+◌, ◌-◌, ◌*◌, ◌≤◌, min, eqb, length, take, drop}
 use Rattle.std.proofs.Math.Path.{refl, ap, subst}
-use Rattle.std.proofs.Common.{sym, ap₂, ◌∙◌, append_assoc, append-nil, arith, eq-eqb, ne_eqb, eqb-true, leb-true, length-append, length-drop, take-take, take_at, drop_at, drop-drop}
+use Rattle.std.proofs.Common.{sym, ap₂, ◌∙◌, append_assoc, append-nil, arith, eq-eqb, ne_eqb, eqb-true, length-append, length-drop, take-take, take_at, drop_at, drop-drop}
 use Rattle.std.proofs.Math.Option.{Option, none, some}
 use Rattle.std.proofs.lemmas.Bool.{eqb-false}
 use Rattle.std.proofs.lemmas.List.{drop-append-le}
-use Rattle.grammar.specs.Text.{Text, b, if◌then◌else◌, choose, same, holds}
-use Rattle.grammar.specs.Tables.{◌⇒◌, Table}
+use Rattle.grammar.specs.Text.{Text, if◌then◌else◌, choose, holds}
+use Rattle.grammar.specs.Tables.{Table}
 use Rattle.grammar.specs.Reader.{State, Reader, word_for}
 use Rattle.grammar.specs.Grammar.{at_slots}
-use Rattle.grammar.specs.Laws.Text.{both}
 use Rattle.grammar.specs.Limits.{most_entry_bytes, most_length, kept_bytes}
 use Rattle.grammar.specs.Words.{longest_word, told, bytes_told, with_word, Spells}
 use Rattle.grammar.specs.declared.codes.Word.{Word}

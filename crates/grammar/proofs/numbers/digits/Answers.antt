@@ -1,4 +1,4 @@
-use Rattle.std.proofs.Common.{◌≡◌, ℕ, ◌+◌, ◌-◌, ◌*◌, ◌<◌, min, [], length, get_or, drop, refl, ap, ◌∙◌, arith}
+use Rattle.std.proofs.Common.{◌≡◌, ℕ, ◌+◌, ◌*◌, ◌<◌, min, [], length, get_or, drop, refl, ap, ◌∙◌, arith}
 use Rattle.grammar.specs.Text.{Text, run, digit, digit_value, number}
 use Rattle.grammar.specs.Numbers.{most}
 use Rattle.grammar.proofs.Digits.{digits_more, digits_stop, digits_end, cut}

@@ -1,4 +1,4 @@
-use Rattle.std.proofs.Common.{◌≡◌, ◌-◌, length, refl, add-one, arith, length-set}
+use Rattle.std.proofs.Common.{◌≡◌, length, refl, add-one, arith, length-set}
 use lib.Seq.{paste-zero, paste-suc}
 use Rattle.grammar.proofs.text.copy.Goals as goal
 

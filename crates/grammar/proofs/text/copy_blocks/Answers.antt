@@ -1,4 +1,4 @@
-use Rattle.std.proofs.Common.{◌-◌, refl, arith}
+use Rattle.std.proofs.Common.{refl, arith}
 use Rattle.grammar.proofs.Texts.{blocks_none, blocks_more, blocks_end}
 use Rattle.grammar.proofs.text.copy_blocks.Goals as goal
 

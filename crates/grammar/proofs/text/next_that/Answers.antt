@@ -1,4 +1,4 @@
-use Rattle.std.proofs.Common.{◌≡◌, ◌-◌, Bool, true, false, not, eqb, length, get_or, refl, ap, ◌∙◌, arith}
+use Rattle.std.proofs.Common.{◌≡◌, Bool, true, false, not, eqb, length, get_or, refl, ap, ◌∙◌, arith}
 use mathlib.Core.Bool.{beq}
 use Rattle.grammar.specs.Text.{if◌then◌else◌}
 use Rattle.grammar.specs.Laws.Runs.{run_more, run_stop, run_end}

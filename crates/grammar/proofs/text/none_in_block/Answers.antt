@@ -1,4 +1,4 @@
-use Rattle.std.proofs.Common.{◌≡◌, ℕ, ◌+◌, ◌-◌, true, get_or, sym, ap, ◌∙◌, ⊎_elim, eq-or-lt_of_le, arith}
+use Rattle.std.proofs.Common.{◌≡◌, ℕ, ◌+◌, get_or, sym, ap, ◌∙◌, ⊎_elim, eq-or-lt_of_le, arith}
 use mathlib.Core.Bool.{false≢true}
 use Rattle.grammar.proofs.text.none_in_block.Goals as goal
 use Rattle.grammar.proofs.text.none_in_block.Goals.{then-s-at, else-s-at}

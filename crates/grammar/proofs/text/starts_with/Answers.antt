@@ -1,4 +1,4 @@
-use Rattle.std.proofs.Common.{◌-◌, sym, refl, ap, ◌∙◌, arith}
+use Rattle.std.proofs.Common.{sym, refl, ap, ◌∙◌, arith}
 use Rattle.grammar.specs.Text.{starts}
 use Rattle.grammar.specs.Laws.Text.{starts_nothing}
 use Rattle.grammar.specs.Laws.Places.{rest_none}

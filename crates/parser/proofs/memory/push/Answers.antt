@@ -3,7 +3,6 @@ use mathlib.Core.List.{[], ◌∷◌, ◌++◌}
 use mathlib.Core.Path.{subst}
 use Prim.Native.Nat.{ℕ, ◌+◌, ◌-◌}
 use native.Mathlib.Omega.{arith}
-use borrow.Author.Tests.{not-true, not-false}
 use Rattle.store.specs.Stack.{lent}
 use Rattle.store.specs.Table.{Entries}
 use Rattle.parser.specs.Halves.{Room}

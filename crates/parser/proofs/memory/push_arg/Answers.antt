@@ -1,6 +1,5 @@
 use mathlib.Core.List.{[], ◌∷◌, ◌++◌}
 use native.Mathlib.Omega.{arith}
-use borrow.Author.Tests.{not-true, not-false}
 use Rattle.store.specs.Laws.Entries.{entries_sized}
 use Rattle.parser.specs.Halves.{with_args}
 use Rattle.parser.specs.Laws.Halves.{store_size, ends_size, holds_args, args_lent, push_arg_is, pushes_not, pushes_entry}

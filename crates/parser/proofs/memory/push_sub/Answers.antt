@@ -1,7 +1,6 @@
 use mathlib.Core.List.{[], ◌∷◌, ◌++◌}
 use mathlib.Core.Path.{sym}
 use native.Mathlib.Omega.{arith}
-use borrow.Author.Tests.{not-true, not-false}
 use Rattle.store.specs.Laws.Entries.{entries_sized}
 use Rattle.parser.specs.Holds.{low_bytes, low_ends}
 use Rattle.parser.specs.Halves.{with_subs}

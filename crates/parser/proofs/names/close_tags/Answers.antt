@@ -1,5 +1,4 @@
 use mathlib.Core.Path.{◌≡◌}
-use Prim.Native.Nat.{◌-◌}
 use native.Mathlib.Omega.{arith}
 use Rattle.parser.specs.Laws.Adds.{adds_none, adds_more}
 use Rattle.parser.specs.Source.{closers}

@@ -1,5 +1,5 @@
 use mathlib.Core.Path.{sym, ◌∙◌, ◌≡◌, ap}
-use Prim.Native.Nat.{◌-◌, ℕ}
+use Prim.Native.Nat.{ℕ}
 use native.Mathlib.Omega.{arith}
 use Rattle.grammar.specs.Laws.States.{Past, past_from, none_from, ate, ate_none}
 use Rattle.grammar.specs.States.{moved_to}

@@ -1,4 +1,3 @@
-use Prim.Native.Nat.{◌-◌}
 use native.Mathlib.Omega.{arith}
 use Rattle.store.proofs.Loops.{clear_none, clear_more, clear_done}
 use Rattle.store.proofs.stack.clear.Goals as goal

@@ -2,7 +2,6 @@ use mathlib.Core.Bool.{false≢true}
 use mathlib.Core.Path.{ap, ◌∙◌}
 use Prim.Native.Nat.{ℕ, ◌+◌, ◌-◌}
 use native.Mathlib.Omega.{arith}
-use borrow.Author.Tests.{not-false}
 use lib.ListN.{take, drop, get_or}
 use Rattle.store.specs.Stack.{slots_in}
 use Rattle.store.proofs.Loops.{slots_none, slots_more, slots_fewer}

@@ -1,4 +1,3 @@
-use Prim.Native.Nat.{◌-◌}
 use native.Mathlib.Omega.{arith}
 use Rattle.store.proofs.Stacks.{pieces_none, pieces_done, piece_fits, piece_more}
 use Rattle.store.proofs.stack.pieces.Goals as goal

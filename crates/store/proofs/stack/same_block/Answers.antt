@@ -1,7 +1,5 @@
-use mathlib.Core.Bool.{true, false≢true}
-use mathlib.Core.Logic.{⊎_elim}
+use mathlib.Core.Bool.{false≢true}
 use mathlib.Core.Path.{◌≡◌, refl, sym, ◌∙◌}
-use Prim.Native.Nat.{◌-◌}
 use native.Mathlib.Omega.{arith}
 use Rattle.store.proofs.Loops.{equal_more}
 use Rattle.store.proofs.stack.same_block.Goals as goal

@@ -1,7 +1,5 @@
 use mathlib.Core.Path.{refl}
-use Prim.Native.Nat.{◌-◌}
 use native.Mathlib.Omega.{arith}
-use borrow.Author.Tests.{not-false}
 use Rattle.store.proofs.Loops.{equal_block}
 use Rattle.store.proofs.stack.same_blocks.Goals as goal
 
