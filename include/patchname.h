@@ -1,4 +1,5 @@
-/* Names of C++ symbols, for C and C++. The library is target/staticlib/libpatchname.a, for Linux on x86-64: `rt staticlib patchname` writes it.
+/* Names of C++ symbols, for C and C++. The library is crates/patchname/out/libpatchname.a, for Linux on x86-64: `rt lib` in crates/patchname writes
+ * it.
  *
  * The functions allocate nothing, call nothing of the operating system and keep nothing between calls: threads may call them at the same time,
  * each with slices of its own. Nothing proves a bound of the machine stack; the deepest symbols known are answered with 768 KiB

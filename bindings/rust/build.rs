@@ -1,11 +1,11 @@
-//! Finds libpatchname.a: in PATCHNAME_LIB_DIR, or where `rt staticlib patchname` writes it.
+//! Finds libpatchname.a: in PATCHNAME_LIB_DIR, or where `rt lib` in crates/patchname writes it.
 use std::env;
 use std::path::{Path, PathBuf};
 
 fn folder() -> PathBuf {
     match env::var_os("PATCHNAME_LIB_DIR") {
         Some(folder) => PathBuf::from(folder),
-        None => Path::new(&env::var_os("CARGO_MANIFEST_DIR").unwrap()).join("../../target/staticlib"),
+        None => Path::new(&env::var_os("CARGO_MANIFEST_DIR").unwrap()).join("../../crates/patchname/out"),
     }
 }
 
@@ -19,7 +19,7 @@ fn main() {
         panic!("libpatchname.a is for Linux on x86-64");
     }
     if !library.is_file() {
-        panic!("{}: not found; `rt staticlib patchname` writes it, or set PATCHNAME_LIB_DIR", library.display());
+        panic!("{}: not found; `rt lib` in crates/patchname writes it, or set PATCHNAME_LIB_DIR", library.display());
     }
     println!("cargo:rustc-link-search=native={}", folder.display());
     println!("cargo:rustc-link-lib=static=patchname");

@@ -1,8 +1,8 @@
 /* Prints the listing of the symbols on standard input, one a line: number, length and name of each. With -n: normal symbols in the names' place.
  * For many symbols this is faster than a call for each.
  *
- *   rt staticlib patchname
- *   cc -std=c99 -O2 -I include examples/c/listing.c target/staticlib/libpatchname.a -o listing
+ *   (cd crates/patchname && rt lib)
+ *   cc -std=c99 -O2 -I include examples/c/listing.c crates/patchname/out/libpatchname.a -o listing
  *   ./listing < examples/symbols
  */
 #include <stdio.h>

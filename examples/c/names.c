@@ -1,7 +1,7 @@
 /* Prints the names of symbols: those on the command line, or else the lines of standard input. With -n in front: their normal symbols.
  *
- *   rt staticlib patchname
- *   cc -std=c99 -O2 -I include examples/c/names.c target/staticlib/libpatchname.a -o names
+ *   (cd crates/patchname && rt lib)
+ *   cc -std=c99 -O2 -I include examples/c/names.c crates/patchname/out/libpatchname.a -o names
  *   ./names _Z1fv _Z0v
  */
 #include <stdio.h>

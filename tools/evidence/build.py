@@ -1,4 +1,4 @@
-"""Builds programs that have the Rust demangler in them, and finds symbols of the machine's libraries."""
+"""Builds programs that have the Rust demangler in them, says where the proved programs are, and finds symbols of the machine's libraries."""
 import os
 import re
 import shutil
@@ -9,6 +9,19 @@ HERE = os.path.dirname(os.path.abspath(__file__))
 ROOT = os.path.dirname(os.path.dirname(HERE))
 RUST = os.path.join(ROOT, "..", "shared", "docs", "src")
 RUST_FILE = "src--crates--e5r-types--src--itanium.rs.txt"
+
+# ---------------------------------------------------------------- what tools/build leaves
+
+LIBRARY = os.path.join(ROOT, "crates", "patchname", "out", "libpatchname.a")
+
+
+def path_of(name):
+    return os.path.join(ROOT, "crates", name, "out", name)
+
+
+def prove_and_build(*names):
+    subprocess.run([os.path.join(ROOT, "tools", "build"), *names], check=True, stdout=subprocess.DEVNULL)
+
 
 # ---------------------------------------------------------------- the numbered copy
 

@@ -567,7 +567,7 @@ struct Options {
 
 fn options() -> Options {
     let mut o = Options {
-        list: "target/bin/list".into(),
+        list: "crates/list/out/list".into(),
         seed: 1,
         count: None,
         kinds: vec![],
