@@ -1,8 +1,7 @@
 -- The class of a first byte, as the code tells it. Assumes nothing.
 use Rattle.std.specs.Prelude.{Bool, true, false}
 use Rattle.std.proofs.Math.Option.{Option, none, some}
-use Rattle.grammar.specs.Text.{digit}
-use Rattle.catalogue.specs.Recogniser.{Lead as First, lead_letter, lead_wrap, lead_digit, lead_S, lead_N, lead_L, lead_none, lead}
+use Rattle.catalogue.specs.Recogniser.{Lead as First, lead_letter, lead_wrap, lead_digit, lead_S, lead_N, lead_L, lead_none}
 use Rattle.normal_steps.specs.declared.lead.Lead.{Lead}
 use Rattle.normal_steps.specs.declared.lead.Lead.TheVariants.{Letter, Wrap, Digit, S, N, L, None}
 

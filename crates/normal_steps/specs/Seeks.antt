@@ -1,5 +1,5 @@
 -- The place of the first that passes a test, as a loop finds it. Assumes nothing.
-use Rattle.std.specs.Prelude.{Bool, List, ◌≡◌, ℕ, ◌-◌, ◌≤◌, ◌<◌}
+use Rattle.std.specs.Prelude.{Bool, List, ◌≡◌, ℕ, ◌≤◌, ◌<◌}
 use Rattle.std.proofs.Math.Option.{none, some}
 use Rattle.normal_nodes.specs.Nodes.{seek_by}
 

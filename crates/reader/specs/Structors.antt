@@ -1,5 +1,5 @@
 -- A constructor or destructor: the class again behind the parts so far. Assumes nothing.
-use Rattle.std.specs.Prelude.{ℕ, ◌-◌, [], ◌∷◌, ◌==◌}
+use Rattle.std.specs.Prelude.{ℕ, [], ◌∷◌, ◌==◌}
 use Rattle.grammar.specs.Text.{Text, if◌then◌else◌}
 
 -- a destructor's class stands behind this

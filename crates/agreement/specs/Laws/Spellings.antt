@@ -8,7 +8,6 @@ use Rattle.std.proofs.Common.{sym, arith, length-append, ne_eqb}
 use Prim.Native.Char.{code}
 use Rattle.std.proofs.Math.ListN.{get_elem?}
 use Rattle.grammar.specs.Text.{Text, b, if◌then◌else◌, starts, holds, digit, digit_value}
-use Rattle.grammar.specs.Reader.{ok}
 use Rattle.grammar.specs.Grammar.{⟨type⟩, ⟨template-args⟩, ⟨template-arg⟩, reading}
 use Rattle.catalogue.specs.Bytes.{first, and_right}
 use Rattle.catalogue.specs.Laws.Bytes.{not-true, or_left}

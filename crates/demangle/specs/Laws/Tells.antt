@@ -1,5 +1,5 @@
 -- Laws of the answer for a text that was read. Assumes nothing.
-use Rattle.std.specs.Prelude.{true, false, [], ◌≡◌, refl, ℕ, ◌-◌, ◌≤◌, ◌<◌, length, take, drop}
+use Rattle.std.specs.Prelude.{true, false, [], ◌≡◌, refl, ℕ, ◌-◌, ◌≤◌, ◌<◌, length, drop}
 use Rattle.std.proofs.Common.{sym, ap, ◌∙◌, subst, arith, length-drop, length-take-le}
 use borrow.Author.Tests.{le-leb, lt-leb}
 use Rattle.grammar.specs.Text.{Text, if◌then◌else◌}

@@ -1,5 +1,5 @@
 -- GTt, as often as it stands first: each prints the same words before what is read anew. Assumes nothing.
-use Rattle.std.specs.Prelude.{Bool, ◌≡◌, ℕ, ◌+◌, ◌-◌, ◌≤◌, ◌<◌, min, leb, length, take, drop}
+use Rattle.std.specs.Prelude.{Bool, ◌≡◌, ℕ, ◌+◌, ◌≤◌, ◌<◌, min, leb, length, take, drop}
 use Rattle.std.proofs.Math.Bool.{true, false}
 use mathlib.Core.List.{[], ◌∷◌, ◌++◌, append_assoc}
 use Rattle.std.proofs.Math.Path.{refl, ap}

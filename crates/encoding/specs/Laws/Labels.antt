@@ -1,5 +1,5 @@
 -- The special names of the definition, each by the bytes that stand first, and the labels that the code picks. Assumes nothing.
-use Rattle.std.specs.Prelude.{Bool, true, false, ◌&&◌, List, [], ◌∷◌, ◌++◌, ◌≡◌, refl, ℕ, ◌+◌, ◌≤◌, ◌<◌, T, eqb, length, take, drop, get_or}
+use Rattle.std.specs.Prelude.{Bool, true, false, ◌&&◌, List, [], ◌∷◌, ◌++◌, ◌≡◌, refl, ℕ, ◌≤◌, ◌<◌, T, eqb, length, take, drop, get_or}
 use Rattle.std.proofs.Math.Option.{Option, none, some}
 use Rattle.std.proofs.Common.{sym, ap₂, ◌∙◌, arith, ne_eqb, eqb→eq}
 use Rattle.std.proofs.Math.Path.{ap, subst}

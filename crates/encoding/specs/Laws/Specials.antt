@@ -1,5 +1,5 @@
 -- The empty state, and the special names GV, TV, TT, TI and TS. Assumes nothing.
-use Rattle.std.specs.Prelude.{true, false, [], ◌∷◌, ◌++◌, ◌≡◌, refl, ℕ, ◌+◌, ◌-◌, ◌≤◌, min, length, take, drop}
+use Rattle.std.specs.Prelude.{true, false, [], ◌∷◌, ◌++◌, ◌≡◌, refl, ℕ, ◌+◌, ◌≤◌, min, length, take, drop}
 use Rattle.std.proofs.Common.{sym, ◌∙◌, arith, length-drop}
 use Rattle.std.proofs.Math.Path.{ap}
 use Rattle.std.proofs.Math.ListN.{length-append}

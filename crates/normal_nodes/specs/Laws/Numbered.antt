@@ -1,7 +1,7 @@
 -- A reading of template arguments or of parts tells the number of a node that is there. Assumes nothing.
 use Rattle.std.specs.Prelude.{Bool, true, false, not, List, [], ◌∷◌, ◌≡◌, refl, ℕ, zero, suc, ◌+◌, ◌≤◌, ◌<◌, eqb, length}
 use Rattle.std.proofs.Math.Option.{Option, none, some, none-ne-some}
-use Rattle.std.proofs.Common.{sym, arith, length-append}
+use Rattle.std.proofs.Common.{arith, length-append}
 use Prim.Native.Char.{code}
 use Rattle.grammar.specs.Text.{Text, if◌then◌else◌}
 use Rattle.catalogue.specs.Recogniser.{Rd, rd, stop, if_next, Lead, lead_letter, lead_wrap, lead_digit, lead_S, lead_N, lead_L, lead_none, lead}
@@ -9,7 +9,7 @@ use Rattle.catalogue.specs.Spelling.{name_bytes}
 use Rattle.normal_walk.specs.Walk.{name}
 use Rattle.normal_nodes.specs.Nodes.{Node, least_number, later, seek_by, node_place, number_at, number_of, with_new, with_node, Notes, Noter, Got, got, bad}
 use Rattle.normal_nodes.specs.Nodes.{next, when, with, at_first, entered, go_to, put, noted, tag_of, a_bare, a_class, sub_node, arg_node}
-use Rattle.normal_nodes.specs.Nodes.{at_reference, note_at_name, note_at_parts, note_end_or, note_at_more, note_at_arg, note_type, note_parts, note_more, note_args}
+use Rattle.normal_nodes.specs.Nodes.{at_reference, note_at_name, note_at_parts, note_end_or, note_at_more, note_type, note_parts, note_more, note_args}
 
 -- d is the number of one of the nodes
 abbrev pub NumberIn : ℕ → List Node → Type 0

@@ -1,8 +1,7 @@
 -- Laws of Chains.antt: the search along a chain, and a node more. Assumes nothing.
-use Rattle.std.specs.Prelude.{Bool, true, false, List, [], ◌∷◌, ◌≡◌, refl, ℕ, suc, ◌+◌, ◌*◌, ◌%◌, ◌≤◌, ◌<◌, eqb, ltb, length, get_or, set}
+use Rattle.std.specs.Prelude.{Bool, true, false, List, ◌≡◌, refl, ℕ, suc, ◌+◌, ◌≤◌, ◌<◌, eqb, ltb, length, get_or, set}
 use Rattle.std.proofs.Common.{true≢false, sym, ap, subst, ◌∙◌, arith, eqb-true, ltb-true, ltb-false, length-set, get_or-set_same, get_or-set_other}
 use Rattle.std.proofs.lemmas.Bool.{eqb-false}
-use Rattle.grammar.specs.Text.{Text}
 use Rattle.catalogue.specs.Answer.{least_numbers}
 use Rattle.normal_nodes.specs.Nodes.{Node, same_node}
 use Rattle.normal_nodes.specs.Laws.Nodes.{same_node_eq}

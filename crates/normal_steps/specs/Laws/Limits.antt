@@ -4,7 +4,7 @@ use Rattle.std.proofs.Common.{sym, ap, subst, ◌∙◌, arith}
 use Rattle.grammar.specs.Text.{Text}
 use Rattle.normal_nodes.specs.Nodes.{Notes}
 use Rattle.normal_steps.specs.States.{moved_to, written_to, counted_to}
-use Rattle.normal_steps.specs.Carries.{Work, Carries, Room, Spare, Stretch, Took, Spent, Passed}
+use Rattle.normal_steps.specs.Carries.{Work, Carries, Room, Stretch, Took, Spent, Passed}
 use Rattle.normal_steps.specs.declared.state.Writer.{Writer}
 
 -- ---------------------------------------------------------------- steps

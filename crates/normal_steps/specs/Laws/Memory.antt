@@ -1,7 +1,7 @@
 -- What is kept where a tree gives way to a reference, and where an entry and a node are new. Assumes nothing.
 use mathlib.Core.List.{List, [], ◌∷◌, ◌++◌}
 use Rattle.std.proofs.Math.Option.{Option, none, some}
-use Rattle.std.specs.Prelude.{◌≡◌, refl, ℕ, suc, ◌+◌, ◌-◌, ◌*◌, ◌≤◌, ◌<◌, length, take, get_or, set}
+use Rattle.std.specs.Prelude.{◌≡◌, refl, ℕ, suc, ◌+◌, ◌-◌, ◌≤◌, ◌<◌, length, take, get_or, set}
 use Rattle.std.proofs.Math.Path.{sym, ap}
 use Rattle.std.proofs.Common.{subst, ◌∙◌, arith, add-one, length-append, length-take-le}
 use Rattle.grammar.specs.Text.{Text}
@@ -19,8 +19,8 @@ use Rattle.normal_steps.specs.declared.state.Told.TheVariants.{Number}
 use Rattle.normal_steps.specs.States.{written_to, noted_to, entered_to}
 use Rattle.normal_steps.specs.WrittenAt.{WrittenAt}
 use Rattle.normal_steps.specs.Rows.{node_at, nodes_of}
-use Rattle.normal_steps.specs.Chains.{bucket_of, Findable}
-use Rattle.normal_steps.specs.Carries.{Work, out_to, tables_to, notes_to, most_number, Tabled, Carries, Numbered, Stretch, Room, Took, Went, Refines, tells, notes_node}
+use Rattle.normal_steps.specs.Chains.{bucket_of}
+use Rattle.normal_steps.specs.Carries.{Work, out_to, tables_to, notes_to, Tabled, Carries, Numbered, Stretch, Room, Took, Went, Refines, tells, notes_node}
 use Rattle.normal_steps.specs.Laws.WrittenAt.{front_wrote}
 use Rattle.normal_steps.specs.Laws.Entries.{firsts_known, firsts_new}
 use Rattle.normal_steps.specs.Laws.Rows.{two_at, nodes_same, node_old, node_new}

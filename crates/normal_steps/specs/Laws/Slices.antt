@@ -7,16 +7,14 @@ use Rattle.std.proofs.Common.{ap, subst, ◌∙◌, arith, lt-ltb, le-ltb, lengt
 use Rattle.std.proofs.Math.ListN.{get_elem?}
 use Rattle.std.proofs.Math.Seq.{paste, take-length}
 use Rattle.grammar.specs.Text.{Text, if◌then◌else◌, choose}
-use Rattle.grammar.specs.Limits.{most_symbol_bytes}
 use Rattle.store.specs.Table.{Front}
-use Rattle.catalogue.specs.Answer.{least_numbers}
 use Rattle.normal_nodes.specs.Nodes.{Node, Notes, notes, put, noted, pushed, firsts, number_of, tag_of, note_last_is}
 use Rattle.normal_nodes.specs.Laws.Numbered.{NumberIn, number_in}
 use Rattle.normal_steps.specs.Limits.{out_length}
 use Rattle.normal_steps.specs.declared.state.Writer.{Writer}
 use Rattle.normal_steps.specs.States.{written_to, noted_to, entered_to}
 use Rattle.normal_steps.specs.WrittenAt.{WrittenAt}
-use Rattle.normal_steps.specs.Rows.{node_at, nodes_of}
+use Rattle.normal_steps.specs.Rows.{nodes_of}
 use Rattle.normal_steps.specs.Chains.{Findable}
 use Rattle.normal_steps.specs.Carries.{Work, out_to, tables_to, notes_to, Tabled, Numbered, Carries, Puts}
 use Rattle.normal_steps.specs.Laws.WrittenAt.{front_wrote}

@@ -1,5 +1,5 @@
 -- Laws of the answer of the entry for normal symbols, by what is told on the way. Assumes nothing.
-use Rattle.std.specs.Prelude.{true, false, [], ◌++◌, ◌≡◌, refl, ℕ, ◌+◌, ◌≤◌, ◌<◌, leb}
+use Rattle.std.specs.Prelude.{true, false, [], ◌++◌, ◌≡◌, refl, ℕ, ◌+◌, ◌≤◌, ◌<◌}
 use Rattle.std.proofs.Math.Option.{Option, none, some}
 use Rattle.std.proofs.Common.{sym, ◌∙◌, subst}
 use Rattle.std.proofs.Math.Path.{ap, ap₂}

@@ -10,7 +10,7 @@ use Rattle.grammar.specs.Laws.Text.{same→eq}
 use Rattle.grammar.specs.Limits.{most_open, most_text_bytes, most_entry_bytes, most_length}
 use Rattle.grammar.specs.Laws.Loops.{closed}
 use Rattle.store.specs.Stack.{Tail, Cut, newest}
-use Rattle.store.specs.Laws.Tails.{size, dropped}
+use Rattle.store.specs.Laws.Tails.{dropped}
 use Rattle.parser.specs.Holds.{Memory, mem, window, Wrote, Stands, Refines, Puts, Cuts, keep}
 use Rattle.parser.specs.Laws.Holds.{stands}
 use Rattle.parser.specs.Laws.Wraps.{holds_cuts, end_text}

@@ -2,7 +2,7 @@
 use Rattle.std.specs.Prelude.{◌≡◌, ℕ, ◌+◌, ◌*◌, ◌<◌, ◌≤◌, min, Bool, true, false, not, List, [], ◌∷◌, ◌++◌, length, take, drop, refl}
 use Rattle.std.proofs.Common.{sym, ◌∙◌, subst, arith, length-append, length-drop, drop-drop}
 use Rattle.std.proofs.Math.Path.{ap}
-use Rattle.grammar.specs.Text.{Text, b, if◌then◌else◌, same, starts, join}
+use Rattle.grammar.specs.Text.{Text, b, if◌then◌else◌, same, join}
 use Rattle.grammar.specs.Limits.{most_open, most_text_bytes, most_entry_bytes, most_length, kept_bytes}
 use Rattle.grammar.specs.Reader.{State, Result, ok, refused, Reader, onto, return, push_arg, while, one_more}
 use Rattle.grammar.specs.Grammar.{reading, ⟨type⟩, ⟨template-arg⟩, ended}

@@ -15,7 +15,6 @@ use Rattle.grammar.specs.Laws.Steps.{same_from}
 use Rattle.grammar.specs.Laws.NameSteps.{unqualified_digit}
 use Rattle.store.specs.Laws.Entries.{bytes_append, bytes_one}
 use Rattle.store.specs.Stack.{Stack}
-use Rattle.store.specs.Laws.Tails.{size}
 use Rattle.parser.specs.Holds.{Memory, mem, Holds, Wrote, Refines, refuses, Puts, Pushes, pushed, full, keep}
 use Rattle.parser.specs.Laws.Wraps.{puts_top}
 use Rattle.grammar.specs.States.{subs_to}

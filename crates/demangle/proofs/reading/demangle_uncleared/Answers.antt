@@ -1,5 +1,4 @@
 use mathlib.Core.Path.{sym, ◌∙◌}
-use borrow.Author.Tests.{not-true, not-false}
 use Rattle.answer.specs.Told.{slices}
 use Rattle.demangle.specs.Laws.Told.{front_refuses, front_inside, front_short, front_reads}
 use Rattle.answer.specs.Laws.Told.{fit_long}

@@ -1,7 +1,6 @@
 use mathlib.Core.List.{◌++◌}
 use mathlib.Core.Path.{sym, ap, ◌∙◌}
 use native.Mathlib.Omega.{arith}
-use borrow.Author.Tests.{not-true, not-false}
 use lib.ListN.{length, drop}
 use Rattle.grammar.specs.Text.{Text}
 use Rattle.grammar.specs.Grammar.{ended}

@@ -1,7 +1,6 @@
 use mathlib.Core.Bool.{Bool, ◌||◌}
 use mathlib.Core.Path.{refl, sym, ap, ap₂, ◌∙◌}
-use mathlib.Core.Logic.{⊎_elim}
-use Prim.Native.Nat.{◌+◌, ◌-◌}
+use Prim.Native.Nat.{◌+◌}
 use native.Mathlib.Omega.{arith}
 use lib.ListN.{drop}
 use Rattle.grammar.specs.Names.{high}

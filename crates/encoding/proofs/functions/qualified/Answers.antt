@@ -1,5 +1,3 @@
-use mathlib.Core.Logic.{◌⊎◌, ⊎_elim}
-use Prim.Native.Nat.{◌-◌}
 use native.Mathlib.Omega.{arith}
 use Rattle.parser.specs.Laws.Wraps.{spelled_at}
 use Rattle.encoding.specs.Laws.Ends.{qualifying_start, qualifying_word, qualifying_nothing, qualifying_done}

@@ -1,6 +1,5 @@
 use mathlib.Core.Path.{sym, ◌∙◌}
 use lib.ListN.{drop}
-use borrow.Author.Tests.{not-true, not-false}
 use Rattle.grammar.specs.Text.{run, digit}
 use Rattle.grammar.specs.Laws.Places.{starts_inside}
 use Rattle.normal_steps.specs.Answers.{most_index}

@@ -1,7 +1,6 @@
 use mathlib.Core.Path.{sym, ap, ◌∙◌}
 use Rattle.grammar.specs.Text.{digit}
 use lib.ListN.{drop}
-use borrow.Author.Tests.{not-true, not-false}
 use Rattle.normal_steps.specs.Laws.Parts.{run_is}
 use Rattle.normal_walk.proofs.Laws.Digits.{run_all}
 use Rattle.grammar.specs.Laws.Places.{starts_inside}

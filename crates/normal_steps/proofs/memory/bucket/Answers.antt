@@ -1,5 +1,5 @@
 use mathlib.Core.Path.{refl, sym, ap, ◌∙◌}
-use Prim.Native.Nat.{ℕ, ◌+◌, ◌-◌, ◌*◌, ◌%◌}
+use Prim.Native.Nat.{ℕ, ◌+◌, ◌*◌, ◌%◌}
 use Rattle.normal_steps.specs.Chains.{buckets, summed, bucket_of}
 use Rattle.normal_steps.specs.Laws.Parts.{part_more, part_none}
 use native.Mathlib.Omega.{arith}

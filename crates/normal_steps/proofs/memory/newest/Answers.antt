@@ -1,4 +1,3 @@
-use Prim.Native.Nat.{◌-◌}
 use Rattle.normal_steps.specs.Laws.Slices.{newest_none, newest_is}
 use native.Mathlib.Omega.{arith}
 use Rattle.normal_steps.proofs.memory.newest.Goals as goal

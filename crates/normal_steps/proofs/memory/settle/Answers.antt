@@ -1,4 +1,3 @@
-use Prim.Native.Nat.{◌-◌}
 use Rattle.normal_steps.specs.Laws.Slices.{out_size}
 use Rattle.normal_steps.specs.Laws.Memory.{settle_not, index_most, reference_room, settle_here}
 use native.Mathlib.Omega.{arith}

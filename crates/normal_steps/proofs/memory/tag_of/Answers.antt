@@ -1,4 +1,3 @@
-use Prim.Native.Nat.{◌-◌}
 use Rattle.normal_steps.specs.Laws.Slices.{tag_low, tag_none, tag_here}
 use native.Mathlib.Omega.{arith}
 use Rattle.normal_steps.proofs.memory.tag_of.Goals as goal

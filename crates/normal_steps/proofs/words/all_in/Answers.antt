@@ -1,6 +1,4 @@
 use mathlib.Core.Path.{refl, sym, ap, ◌∙◌}
-use Prim.Native.Nat.{◌-◌}
-use borrow.Author.Tests.{not-true, not-false}
 use Rattle.catalogue.specs.Bytes.{all}
 use Rattle.normal_steps.specs.Alphabets.{in_alphabet}
 use Rattle.normal_steps.specs.Laws.Parts.{part_none, all_more, all_stop}

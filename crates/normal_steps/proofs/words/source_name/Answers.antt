@@ -1,6 +1,5 @@
 use mathlib.Core.Path.{refl, sym, ◌∙◌}
 use Prim.Native.Nat.{◌+◌}
-use borrow.Author.Tests.{not-true, not-false}
 use Rattle.normal_steps.specs.Laws.Parts.{part_length}
 use Rattle.normal_steps.specs.Laws.Leaves.{name_zero, name_end, name_long, name_by, name_some}
 use native.Mathlib.Omega.{arith}

@@ -1,7 +1,7 @@
 use mathlib.Core.Path.{refl, sym, ap, ◌∙◌}
 use mathlib.Core.Bool.{not}
 use lib.ListN.{get_or}
-use borrow.Author.Tests.{lt-ltb, le-ltb, not-true, not-false}
+use borrow.Author.Tests.{lt-ltb, le-ltb}
 use Rattle.grammar.specs.Text.{digit, digit_value}
 use Rattle.catalogue.specs.Class.{name_ok}
 use Rattle.normal_steps.specs.Parts.{part}

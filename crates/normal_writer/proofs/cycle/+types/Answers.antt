@@ -1,10 +1,9 @@
-use Prim.Native.Nat.{ℕ, ◌-◌}
-use mathlib.Core.Path.{sym, ◌∙◌, refl, ◌≡◌, subst}
+use mathlib.Core.Path.{sym, ◌∙◌, refl}
 use native.Mathlib.Omega.{arith}
 use Rattle.normal_writer.specs.Laws.Loops.{nothing_yet}
 use Rattle.normal_writer.specs.Laws.Types.{arg_refused, arg_next, count_refused, counted_next, args_end, args_again, args_told, args_closed, close_next, by_name, first_named, first_stretch, first_next, class_refused, class_answer, by_reference, first_referred, referred_ready, type_end, type_by, letter_answer, literal_answer, none_answer, without_args, args_barred, args_refused, args_answer, wrap_refused, wrap_next, wrap_answer}
 use mathlib.Core.Bool.{false}
-use borrow.Author.Tests.{not-true, not-false, eq-eqb, ne_eqb}
+use borrow.Author.Tests.{eq-eqb, ne_eqb}
 use Rattle.grammar.specs.Laws.Places.{starts_inside}
 use Rattle.normal_steps.specs.Laws.Moves.{copied_ready, ready_out, ready_ends, ready_both, ready_three, moved_ready}
 use Rattle.normal_writer.specs.Laws.Parts.{part_refused, part_next, part_answer, angled_barred, angled_refused, angled_answer, end_lone, end_answer, more_start, more_behind, more_again, nested_refused, nested_told, nested_closed, nested_answer, parts_end, parts_by, parts_other, parts_unnamed, parts_named, parts_unreferred, parts_barred, parts_referred}

@@ -1,5 +1,4 @@
 use mathlib.Core.Path.{sym, ◌∙◌}
-use borrow.Author.Tests.{not-true, not-false}
 use Rattle.grammar.specs.Laws.Places.{starts_inside}
 use Rattle.normal_writer.specs.Laws.Symbols.{function_plain, function_scoped, function_constant}
 use native.Mathlib.Omega.{arith}

@@ -1,4 +1,3 @@
-use borrow.Author.Tests.{not-true, not-false}
 use Rattle.normal_steps.specs.Carries.{work}
 use Rattle.normal_steps.specs.Laws.Moves.{ready_out, ready_ends}
 use Rattle.normal_writer.specs.Laws.Symbols.{begun_by, scoped_holds, scoped_none, scoped_ready, scoped_room, scoped_full, scoped_heads}

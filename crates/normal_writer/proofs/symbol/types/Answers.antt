@@ -1,4 +1,3 @@
-use Prim.Native.Nat.{◌-◌}
 use Rattle.normal_steps.specs.Laws.Moves.{ready_ends}
 use Rattle.normal_writer.specs.Laws.Symbols.{turned_none, turned_from, turn_none, turn_told, turn_lit, turn_more, goes_ended, ends_broken}
 use native.Mathlib.Omega.{arith}

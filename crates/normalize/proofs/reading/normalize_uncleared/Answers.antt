@@ -1,9 +1,8 @@
 use mathlib.Core.Bool.{true}
 use mathlib.Core.Path.{◌≡◌, sym, ◌∙◌}
 use native.Mathlib.Omega.{arith}
-use borrow.Author.Tests.{not-true, not-false}
 use Rattle.catalogue.specs.Answer.{least_numbers}
-use Rattle.answer.specs.Told.{Slices, normal_slices, fit, numbers_fit}
+use Rattle.answer.specs.Told.{normal_slices, fit, numbers_fit}
 use Rattle.answer.specs.Laws.Told.{fit_long, fit_long_numbers}
 use Rattle.demangle.specs.Laws.Told.{front_inside}
 use Rattle.normalize.specs.Laws.Answers.{front_refuses, front_short, numbers_short, reading_refuses, reading_accepts}

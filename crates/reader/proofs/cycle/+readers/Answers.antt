@@ -1,6 +1,6 @@
-use Rattle.std.proofs.Common.{ℕ, ◌+◌, ◌-◌, ◌<◌, length, ◌≡◌, false, [], ◌∷◌, drop, refl, ap, ◌∙◌, subst, arith, rules, min, take, sym, length-append, ◌++◌, ◌⊎◌, inl, inr, ⊎_elim, true, ◌≤◌, get_or, length-set, Bool, ◌&&◌, length-drop}
+use Rattle.std.proofs.Common.{ℕ, ◌+◌, ◌-◌, ◌<◌, length, ◌≡◌, false, [], ◌∷◌, drop, refl, ap, ◌∙◌, subst, arith, rules, min, sym, length-append, ◌++◌, ⊎_elim, true, ◌≤◌, get_or, length-set, Bool, ◌&&◌, length-drop}
 use Rattle.grammar.specs.declared.state.Parser.{Parser}
-use Rattle.parser.specs.Holds.{refuses, keep, mem, reads, part, given_of}
+use Rattle.parser.specs.Holds.{refuses, keep, mem, reads, given_of}
 use Rattle.parser.specs.Laws.Holds.{by, less, sooner, holds_moved, holds_puts, got, refused_on, answers, short_enough, stands, by_state}
 use Rattle.parser.specs.Laws.Adds.{ready_moved, puts_from, stack_by, puts_at, reads_moved}
 use Rattle.parser.specs.Laws.Halves.{wrote_one, give_short, newest_part}
@@ -15,7 +15,6 @@ use Rattle.grammar.specs.Limits.{most_open, most_length, kept_bytes}
 use Rattle.grammar.specs.Reader.{State, ok, onto, push_sub, give, at_code, recorded, return, ◌>>◌, Reader, by_code, refused}
 use Rattle.grammar.specs.Laws.Agree.{moved}
 use Rattle.reader.specs.Laws.Brackets.{bracket_stands, stands_top as bracket_top, stands_last, angled_more, angled_plain, args_given}
-use Rattle.reader.specs.declared.lists.Kind.TheVariants.{Arguments, Parameters, Types}
 use Rattle.reader.specs.Laws.Standing.{given_as, stands_at, stands_moved, stands_least, joined, wrote_least, stands_both, fewer, word_holds, word_joined}
 use Rattle.reader.specs.Laws.Arrays.{array_4, array_in, array_given, part_size, byte_at, byte_is, byte_inside, no_byte, no_name_code}
 use Rattle.grammar.specs.Grammar.{std_ahead, reading, ⟨source-name⟩, class_type, type_instance, ⟨name⟩, name_inner, ⟨nested-name⟩, s_name, local_name, unscoped_name, nested_type, last, Production, ⟨unqualified-name⟩, name_instance, structor_ahead, std_name, ⟨type⟩, type_inner, ⟨template-param⟩, s_type}
@@ -25,28 +24,22 @@ use Rattle.reader.specs.Laws.Instances.{at_S_is, instance_is, passed}
 use Rattle.reader.proofs.Entries.{narrow, stood, stands_top, instance_at, kept, push_refused, answer_as}
 use Rattle.grammar.specs.Tables.{◌⇒◌, d_letters}
 use Rattle.reader.specs.Laws.Funcs.{function_open, function_of, func_stands, func_ended}
-use denote.Enum.Declared
-use types.Run
-use Rattle.reader.specs.contracts.lists.Kind as kind-type
-use Rattle.reader.specs.declared.lists.Kind.{Kind}
 use Rattle.reader.specs.Laws.Items.{by_kind, argument_refused, argument_pushed, listing_start, listing_more, listed_ends, listed_refuses, at_end, at_byte, Spaced, spaced_some, spaced_none}
 use Rattle.reader.specs.Laws.Lits.{lit_none, lit_name_ready, lit_name_refused, lit_name_E, lit_name_open, lit_type_ready, lit_type_refused, lit_type_got, lit_open, lit_ready, lit_given, local_none, local_ready, local_refused, local_got, local_string, local_name_ready, local_name_refused, local_name_got, local_given}
 use Rattle.reader.specs.Laws.LocFns.{fn_refused, fn_got, fn_bare, fn_items_ready, fn_items_refused, fn_listing, fn_long, fn_open, fn_given}
 use Rattle.grammar.specs.Laws.NameSteps.{name_N, name_S, name_L, name_Z, name_other, name_end, unqualified_C, unqualified_D, unqualified_C_4, unqualified_D_4}
-use Rattle.grammar.specs.Laws.Loops.{closed}
-use Rattle.reader.specs.Laws.Nested.{named, nested_4, nested_open, from_start, prefixing_start, prefixing_more, prefixed_more, ready_for, prefixed_4, prefixed_E, prefixed_refuses, further}
+use Rattle.reader.specs.Laws.Nested.{nested_4, nested_open, from_start, prefixing_start, prefixing_more, prefixed_more, ready_for, prefixed_4, prefixed_E, prefixed_refuses, further}
 use Rattle.reader.specs.Laws.Opers.{operator_short, operator_no_c, operator_no_v, oper_word, oper_holds, oper_refused, oper_typed, unq_ready, unq_end, unq_short, unq_structor, unq_U, unq_digit, unq_operator, two_behind, none_behind}
 use Rattle.grammar.specs.declared.state.Peeked.TheVariants as peeked_as
 use Rattle.reader.specs.Laws.Packs.{packing, packing_start, packed_4, packed_opens, packed_closes, packed_more, packed_refuses, packed_ends, inside, inner_E, opens_J, outer_small, text_short, text_further}
 use Rattle.reader.specs.Laws.Joined.{part_T, part_other, part_digit, parted_more, parted_as, parts_by, unread_on, old_is, prefix_structor, prefix_S, prefix_I, prefix_new, two_bytes, pushes_alike, unpushed_on, pushed_on, Behind, new_is, behind_last, behind_more, more_top}
-use borrow.Author.Tests.{not-true, not-false}
 use Rattle.reader.specs.Lists.{parted, unparted}
 use Rattle.parser.specs.Halves.{with_args}
 use Rattle.reader.specs.Laws.Argued.{Ended, After, args_is as prefix_args_is, after_none, after_some, argued_parts, args_pushed}
 use Rattle.reader.specs.declared.lists.Parts.{Parts}
 use mathlib.Core.Bool.{false≢true}
 use Rattle.grammar.specs.Laws.Runs.{need_here}
-use Rattle.reader.specs.Laws.Heads.{no_letter, either, lettered_row, between_row, no_head, digit_not, digit_in, Row_of}
+use Rattle.reader.specs.Laws.Heads.{no_letter, lettered_row, between_row, no_head, digit_not, digit_in, Row_of}
 use Rattle.reader.proofs.cycle.+readers.Goals as goal
 use Rattle.reader.proofs.cycle.+readers.Goals.{items-then-count-gt0, items-else-count-gt0, ty_inner-in-67-1, ty_inner-in_default+else-c-lt48+else-c-lt58+else-c-lt77+then-c-lt81, unq-in_default-c-via-then-c-lt48, unq-in_default-c-via-else-c-lt48+else-c-lt58}
 

@@ -1,4 +1,3 @@
-use Prim.Native.Nat.{◌-◌}
 use native.Mathlib.Omega.{arith}
 use Rattle.normal_steps.proofs.write.Split.reduced.Goals as goal
 
