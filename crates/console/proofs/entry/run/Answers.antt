@@ -2,8 +2,7 @@ use Rattle.console.specs.Laws.Buffer.{long_either}
 use Rattle.console.proofs.entry.run.Goals as goal
 
 pub list_input-requires : goal.list_input-requires
-list_input-requires c =
-    (
+list_input-requires c = (
   (search rules, search rules),
   long_either _ _ (record {
     name = search rules;

@@ -10,11 +10,11 @@ use Rattle.console.proofs.input.read_some.Goals as goal
 pub returns-then-got-lt0 : goal.returns-then-got-lt0
 returns-then-got-lt0 c =
     record {
-  fed = λ kind out all handed f. fed_as f (sym (append-nil all)) (sym (append-nil handed));
-  inside = omega arith;
-  ended = c.requires.1.0;
-  failed = λ _. (refl, refl);
-}
+      fed = λ kind out all handed f. fed_as f (sym (append-nil all)) (sym (append-nil handed));
+      inside = omega arith;
+      ended = c.requires.1.0;
+      failed = λ _. (refl, refl);
+    }
 
 pub returns : goal.returns
 returns c =

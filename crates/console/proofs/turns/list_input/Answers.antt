@@ -9,11 +9,10 @@ use Rattle.console.specs.declared.buffer.Buffer.{Buffer}
 use Rattle.console.proofs.turns.list_input.Goals as goal
 
 pub loop-turns-init : goal.loop-turns-init
-loop-turns-init c =
-    (
-      ([], (header, subst (λ (b : Buffer). Fed c.args.kind [] header c.args.lines.now b) (sym c.empty-buffer.ensures) (fed_none c.args.kind c.args.lines.now))),
-      (refl, (refl, (refl, (refl, (refl, (refl, (refl, (refl, (refl, refl))))))))),
-    )
+loop-turns-init c = (
+  ([], (header, subst (λ (b : Buffer). Fed c.args.kind [] header c.args.lines.now b) (sym c.empty-buffer.ensures) (fed_none c.args.kind c.args.lines.now))),
+  (refl, (refl, (refl, (refl, (refl, (refl, (refl, (refl, (refl, refl))))))))),
+)
 
 pub turn-next-requires : goal.turn-next-requires
 turn-next-requires c =
@@ -34,11 +33,7 @@ loop-turns-smaller c =
 
 pub loop-turns-preserved : goal.loop-turns-preserved
 loop-turns-preserved c =
-    let (f, (i, (j, (o, (n, (t, (s, (e, (w, (x, y)))))))))) = c.loop-turns.invariant in
-
-
-
-    (
+    let (f, (i, (j, (o, (n, (t, (s, (e, (w, (x, y)))))))))) = c.loop-turns.invariant in (
       (_, (_, c.turn-next.ensures.fed f.0 f.1.0 f.1.1)),
       (
         c.turn-next.auto.lines ∙ i,

@@ -12,11 +12,11 @@ returns-then-buffer c =
 pub returns-then-buffer-2 : goal.returns-then-buffer-2
 returns-then-buffer-2 c =
     record {
-  fed = λ all handed f. fed_as f (sym (append-nil all)) (sym (append-nil handed));
-  writes = λ l. absurd (omega (arith, l, c.if-buffer.false));
-  reads = λ _ q. absurd (true≢false (sym c.if-buffer-2.true ∙ q));
-  stops = λ _ _. refl;
-}
+      fed = λ all handed f. fed_as f (sym (append-nil all)) (sym (append-nil handed));
+      writes = λ l. absurd (omega (arith, l, c.if-buffer.false));
+      reads = λ _ q. absurd (true≢false (sym c.if-buffer-2.true ∙ q));
+      stops = λ _ _. refl;
+    }
 
 pub returns : goal.returns
 returns c =
