@@ -3,12 +3,14 @@ use crate::lines::MOST_KEPT;
 use crate::turns::list_input;
 use answer::work;
 use listing::listing::{Kind, NAME};
+use std::io::{Read, Write};
 
 // So many bytes are read at once, and so many of the listing are written at once.
 const CHUNK: usize = 65536;
 
-// Writes the header, and the listing of standard input, one symbol a line. The work slices are long enough for either kind.
-pub fn run(kind: Kind) {
+// Writes the header, and the listing of the input, one symbol a line. What fails is told to `errors`. The work slices are long
+// enough for either kind.
+pub fn run<R: Read, W: Write, E: Write>(input: &mut R, output: &mut W, errors: &mut E, kind: Kind) {
     let mut chunk = [0u8; CHUNK];
     let mut lines = [0u8; CHUNK + MOST_KEPT + 1];
     let mut out = [0u8; CHUNK];
@@ -21,6 +23,9 @@ pub fn run(kind: Kind) {
     let mut chains = [0u16; work::NUMBERS];
     list_input(
         kind,
+        input,
+        output,
+        errors,
         &mut chunk,
         &mut lines,
         &mut out,

@@ -6,4 +6,5 @@ pub mod entry;
 mod input;
 mod lines;
 mod output;
+mod stream;
 mod turns;

@@ -8,8 +8,10 @@ ghost use Rattle.console.specs.Buffer.{Placed};
 ghost use Rattle.console.specs.Turns.{WritesOn};
 
 use crate::buffer::{Buffer, Turn};
+use crate::stream::write_whole;
 use grammar::text;
 use listing::listing::{Kind, list_lines};
+use std::io::Write;
 
 // Puts the header into `out`. Returned is its length.
 fn put_header(out: &mut [u8]) -> usize
@@ -29,14 +31,14 @@ pub struct Handed {
 }
 
 // Writes the first n bytes of `out`.
-fn write_front(out: &[u8], n: usize) -> Handed
+fn write_front<W: Write, E: Write>(output: &mut W, errors: &mut E, out: &[u8], n: usize) -> Handed
     requires { n ≤ length out.now }
     ensures { result.put ≡ n }
 {
-    if io::write_all(1, &out[..n]) {
+    if write_whole(output, &out[..n]) {
         return Handed { put: n, went: true };
     }
-    io::write_all(2, b"patch names: standard output can't be written\n");
+    write_whole(errors, b"patch names: standard output can't be written\n");
     Handed {
         put: n,
         went: false,
@@ -44,17 +46,19 @@ fn write_front(out: &[u8], n: usize) -> Handed
 }
 
 // Writes the header, from the front of `out`.
-pub fn write_header(out: &mut [u8]) -> Handed
+pub fn write_header<W: Write, E: Write>(output: &mut W, errors: &mut E, out: &mut [u8]) -> Handed
     requires { 16 ≤ length out.old }
     ensures { (out.new ≡ header ++ drop 16 out.old) × (result.put ≡ 16) }
 {
     let n = put_header(out);
-    write_front(out, n)
+    write_front(output, errors, out, n)
 }
 
 // Writes the listing of the first lines in the buffer, as many as fit into `out`, from the front of it.
-pub fn write_some(
+pub fn write_some<W: Write, E: Write>(
     kind: Kind,
+    output: &mut W,
+    errors: &mut E,
     lines: &[u8],
     buffer: Buffer,
     out: &mut [u8],
@@ -90,7 +94,7 @@ pub fn write_some(
         end: buffer.end,
         ended: buffer.ended,
     };
-    let handed = write_front(out, listed.written);
+    let handed = write_front(output, errors, out, listed.written);
     Turn {
         buffer: next,
         got: 0,

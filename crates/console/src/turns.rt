@@ -11,10 +11,14 @@ use crate::buffer::{Buffer, Turn, all_listed, empty};
 use crate::input::read_some;
 use crate::output::{write_header, write_some};
 use listing::listing::Kind;
+use std::io::{Read, Write};
 
 // Writes lines of the buffer; where it has none, reads, up to the end of the input.
-fn turn(
+fn turn<R: Read, W: Write, E: Write>(
     kind: Kind,
+    input: &mut R,
+    output: &mut W,
+    errors: &mut E,
     chunk: &mut [u8],
     lines: &mut [u8],
     buffer: Buffer,
@@ -33,7 +37,8 @@ fn turn(
 {
     if buffer.from < buffer.start {
         return write_some(
-            kind, lines, buffer, out, name, text, store, ends, words, tables, chains,
+            kind, output, errors, lines, buffer, out, name, text, store, ends, words, tables,
+            chains,
         );
     }
     if buffer.ended {
@@ -44,13 +49,16 @@ fn turn(
             goes_on: false,
         };
     }
-    read_some(chunk, lines, buffer)
+    read_some(input, errors, chunk, lines, buffer)
 }
 
 // Writes the header, and turn by turn the listing of the input. True where the listing of all of it was handed over. The
 // turns are counted down, from a number that no run uses up, since a proved loop has to end.
-pub fn list_input(
+pub fn list_input<R: Read, W: Write, E: Write>(
     kind: Kind,
+    input: &mut R,
+    output: &mut W,
+    errors: &mut E,
     chunk: &mut [u8],
     lines: &mut [u8],
     out: &mut [u8],
@@ -67,12 +75,13 @@ pub fn list_input(
     ensures { Ends kind lines.new result }
 {
     let mut buffer = empty();
-    let handed = write_header(out);
+    let handed = write_header(output, errors, out);
     let mut goes_on = handed.went;
     let mut turns = u64::MAX;
     while turns > 0 && goes_on {
         let next = turn(
-            kind, chunk, lines, buffer, out, name, text, store, ends, words, tables, chains,
+            kind, input, output, errors, chunk, lines, buffer, out, name, text, store, ends, words,
+            tables, chains,
         );
         buffer = next.buffer;
         goes_on = next.goes_on;

@@ -3,6 +3,11 @@
 
 use listing::listing::Kind;
 
-fn main() {
-    console::entry::run(Kind::Names);
+fn main(rt: HostRuntime) {
+    console::entry::run(
+        &mut rt.stdin(),
+        &mut rt.stdout(),
+        &mut rt.stderr(),
+        Kind::Names,
+    );
 }

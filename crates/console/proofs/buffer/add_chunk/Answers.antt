@@ -8,4 +8,4 @@ returns-then-chunk-eq0 c =
 
 pub returns : goal.returns
 returns c =
-    adds_chunk c.args.lines.now c.requires.0 c.move_down.ensures c.if-chunk-eq0.false c.keep-kept.auto c.keep-kept.ensures
+    adds_chunk c.args.lines.now c.requires.0 c.move_down.ensures c.if-chunk-eq0.false c.keep-kept.auto.lines c.keep-kept.ensures

@@ -7,20 +7,20 @@ use lib.Dec.{eqb}
 use Rattle.console.specs.Laws.Buffer.{fed_as, fed_chunk}
 use Rattle.console.proofs.input.read_some.Goals as goal
 
-pub returns-then-got-lt0 : goal.returns-then-got-lt0
-returns-then-got-lt0 c =
+pub returns-in-Err : goal.returns-in-Err
+returns-in-Err g c =
     record {
-  fed = λ kind out all handed f. fed_as f (sym (append-nil all)) (sym (append-nil handed));
-  inside = omega arith;
-  ended = c.requires.1.0;
-  failed = λ _. (refl, refl);
-}
+      fed = λ kind out all handed f. fed_as f (sym (append-nil all)) (sym (append-nil handed));
+      inside = omega arith;
+      ended = c.requires.ended_value.0;
+      failed = λ _. (refl, refl);
+    }
 
-pub returns : goal.returns
-returns c =
+pub returns-in-Ok : goal.returns-in-Ok
+returns-in-Ok g c =
     record {
-      fed = λ kind out all handed f. fed_as (fed_chunk f c.requires.1.0 c.requires.1.1 c.add_chunk-next.ensures) refl (sym (append-nil handed));
-      inside = c.count-n.ensures.0.0;
-      ended = c.add_chunk-next.ensures.ended ∙ ap (λ (j : ℕ). eqb j 0) (sym c.count-n.ensures.0.1);
+      fed = λ kind out all handed f. fed_as (fed_chunk f c.requires.ended_value.0 c.requires.ended_value.1 c.add_chunk-next.ensures) refl (sym (append-nil handed));
+      inside = c.in-Ok.ensures.bound.0;
+      ended = c.add_chunk-next.ensures.ended ∙ ap (λ (j : ℕ). eqb j 0) (sym c.in-Ok.ensures.bound.1);
       failed = λ e. absurd (true≢false e);
     }

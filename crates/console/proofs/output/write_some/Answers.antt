@@ -1,30 +1,34 @@
 use mathlib.Core.List.{◌++◌, append-nil}
 use mathlib.Core.Path.{sym, ap}
-use Prim.Native.Nat.{ℕ, ◌+◌, ◌≤◌}
+use Prim.Native.Nat.{ℕ}
 use native.Mathlib.Omega.{arith}
-use lib.ListN.{length, take}
-use Rattle.answer.specs.Told.{Slices, normal_slices}
+use lib.ListN.{take}
+use Rattle.answer.specs.Told.{normal_slices}
 use Rattle.console.specs.Laws.Buffer.{listed_inside, long_sized, fed_as, fed_listed, listed_more}
 use Rattle.console.proofs.output.write_some.Goals as goal
 
-abbrev work : tie.After-list-lines → Slices
-work c =
-    let a = (at-start c).args in
-    normal_slices a.name.now a.text.now a.store.now a.ends.now a.words.now a.tables.now a.chains.now
-
 pub overflow_add-next : goal.overflow_add-next
-overflow_add-next c =
-    record { fits = omega (arith, ((let v : (c.args.buffer.from + c.list_lines-listed.result.taken ≤ c.args.buffer.start) × (c.list_lines-listed.result.written ≤ length c.args.out.now) = listed_inside c.args.kind c.args.lines.now c.args.out.now c.args.buffer.from c.args.buffer.start (work c) c.list_lines-listed.ensures c.requires.0.0.first (omega (arith, c.requires.0.0.second, c.requires.0.0.inside)) in v)).0, c.requires.0.0.second, c.requires.0.0.inside, c.MISSING_good.1.0) }
+overflow_add-next g c =
+    let p = c.requires.placed.0 in
+    let work = normal_slices c.args.name.now c.args.text.now c.args.store.now c.args.ends.now c.args.words.now c.args.tables.now c.args.chains.now in
+    let inside = listed_inside c.args.kind c.args.lines.now c.args.out.now c.args.buffer.from c.args.buffer.start work c.list_lines-listed.ensures p.first (omega (arith, p.second, p.inside)) in
+    record { fits = omega (arith, inside.0, p.second, p.inside) }
 
 pub write_front-handed-requires : goal.write_front-handed-requires
-write_front-handed-requires c =
-    omega (arith, ((let v : (c.args.buffer.from + c.list_lines-listed.result.taken ≤ c.args.buffer.start) × (c.list_lines-listed.result.written ≤ length c.args.out.now) = listed_inside c.args.kind c.args.lines.now c.args.out.now c.args.buffer.from c.args.buffer.start (work c) c.list_lines-listed.ensures c.requires.0.0.first (omega (arith, c.requires.0.0.second, c.requires.0.0.inside)) in v)).1, c.list_lines-listed.auto.text)
+write_front-handed-requires g c =
+    let p = c.requires.placed.0 in
+    let work = normal_slices c.args.name.now c.args.text.now c.args.store.now c.args.ends.now c.args.words.now c.args.tables.now c.args.chains.now in
+    let inside = listed_inside c.args.kind c.args.lines.now c.args.out.now c.args.buffer.from c.args.buffer.start work c.list_lines-listed.ensures p.first (omega (arith, p.second, p.inside)) in
+    omega (arith, inside.1, c.list_lines-listed.auto.out)
 
 pub returns : goal.returns
-returns c =
-    let sized = long_sized c.requires.1 in
+returns g c =
+    let p = c.requires.placed.0 in
+    let work = normal_slices c.args.name.now c.args.text.now c.args.store.now c.args.ends.now c.args.words.now c.args.tables.now c.args.chains.now in
+    let inside = listed_inside c.args.kind c.args.lines.now c.args.out.now c.args.buffer.from c.args.buffer.start work c.list_lines-listed.ensures p.first (omega (arith, p.second, p.inside)) in
+    let sized = long_sized c.requires.long_for in
     record {
-      fed = λ chunk all handed f. fed_as (fed_listed f c.args.out.now (work c) c.list_lines-listed.ensures sized) (sym (append-nil all)) (ap (λ (j : ℕ). handed ++ take j c.list_lines-listed.new.text) (sym c.write_front-handed.ensures));
-      inside = omega (arith, ((let v : (c.args.buffer.from + c.list_lines-listed.result.taken ≤ c.args.buffer.start) × (c.list_lines-listed.result.written ≤ length c.args.out.now) = listed_inside c.args.kind c.args.lines.now c.args.out.now c.args.buffer.from c.args.buffer.start (work c) c.list_lines-listed.ensures c.requires.0.0.first (omega (arith, c.requires.0.0.second, c.requires.0.0.inside)) in v)).1, c.list_lines-listed.auto.text, c.write_front-handed.ensures);
-      more = λ all handed f. omega (arith, listed_more f c.args.out.now (work c) c.list_lines-listed.ensures sized c.requires.0.1.1 c.requires.0.1.0);
+      fed = λ chunk all handed f. fed_as (fed_listed f c.args.out.now work c.list_lines-listed.ensures sized) (sym (append-nil all)) (ap (λ (j : ℕ). handed ++ take j c.list_lines-listed.new.out) (sym c.write_front-handed.ensures));
+      inside = omega (arith, inside.1, c.list_lines-listed.auto.out, c.write_front-handed.ensures);
+      more = λ all handed f. omega (arith, listed_more f c.args.out.now work c.list_lines-listed.ensures sized c.requires.placed.1.1 c.requires.placed.1.0);
     }
