@@ -1,7 +1,7 @@
 -- The answer of the entry for normal symbols: the normal symbol of an accepted catalogue symbol, or the number of the first refusal.
 use Rattle.std.specs.Prelude.{Bool, ◌&&◌, ℕ, ◌*◌, leb, length}
 use Rattle.std.proofs.Math.Option.{Option, none, some}
-use Rattle.grammar.specs.Text.{Text, if◌then◌else◌}
+use Rattle.grammar.specs.Text.{Text, if◌then◌otherwise◌}
 use Rattle.grammar.specs.Limits.{most_symbol_bytes, least_text, least_store}
 use Rattle.grammar.specs.Names.{Answer, named, refusal, Lent, front, mangled_name, demangle, within}
 use Rattle.catalogue.specs.Tree.{Enc}
@@ -17,7 +17,7 @@ normal_in wrong = none
 -- 6: read, but no catalogue symbol; 13: the normal symbol is longer than the limit
 unfoldable pub normal_told : ℕ → Option Text → Answer
 normal_told limit none = refusal 6
-normal_told limit (some w) = if leb (length w) limit then named w else refusal 13
+normal_told limit (some w) = if leb (length w) limit then named w otherwise refusal 13
 
 -- by what the reading for the name comes to: "Accepted is a symbol whose reading for its name meets none of 1 to 5 and 7 to 11"
 unfoldable pub normal_after : ℕ → Text → Answer → Answer
@@ -45,4 +45,4 @@ normal_work_fits limit l =
 -- 14 is told after 1 to 3 and before the reading, 12 at the end
 unfoldable pub normal_answer : ℕ → Lent → Text → Answer
 normal_answer limit l s =
-    front limit s λ u. if normal_work_fits limit l then within l.out (normal_after limit s (mangled_name u)) else refusal 14
+    front limit s λ u. if normal_work_fits limit l then within l.out (normal_after limit s (mangled_name u)) otherwise refusal 14

@@ -7,7 +7,7 @@ use Rattle.std.proofs.Math.Option.{Option, none, some}
 use Prim.Native.Char.{code}
 use Prim.Native.String.{String}
 use Rattle.std.proofs.Math.ListN.{get_elem?}
-use Rattle.grammar.specs.Text.{Text, b, if◌then◌else◌, same, digit}
+use Rattle.grammar.specs.Text.{Text, b, if◌then◌otherwise◌, same, digit}
 use Rattle.catalogue.specs.Bytes.{all, first}
 use Rattle.catalogue.specs.Tree.{Wrap, Kind, Ty, Args, Enc, wP, wR, wO, wK, wV, kb, ki, kj, kl, km, letter, wrap, root, sub, app, lit, one, also, enc}
 use Rattle.catalogue.specs.Tree.{same_ty, is_lit, is_class, is_bare, single, is_ref, is_qual}
@@ -91,7 +91,7 @@ last_is t (u ∷ v ∷ us) = last_is t (v ∷ us)
 
 -- a nested type is entered only where the newest entry is another (the grammar's `nested_type`)
 unfoldable pub push_new : Ty → List Ty → List Ty
-push_new t us = if last_is t us then us else push t us
+push_new t us = if last_is t us then us otherwise push t us
 
 -- ---------------------------------------------------------------- what a spelling resolves to
 

@@ -2,7 +2,7 @@
 -- is written so far". What is written and the table after it are two functions.
 use Rattle.std.specs.Prelude.{Bool, true, false, List, [], ◌∷◌, ℕ, suc}
 use Rattle.std.proofs.Math.Option.{Option, none, some}
-use Rattle.grammar.specs.Text.{Text, if◌then◌else◌}
+use Rattle.grammar.specs.Text.{Text, if◌then◌otherwise◌}
 use Rattle.catalogue.specs.Tree.{Ty, Args, Enc, letter, wrap, root, sub, app, lit, one, also, enc, same_ty, single}
 use Rattle.catalogue.specs.Spelling.{Sp, Pre, SpArgs, SpName, Sym, s_letter, s_wrap, s_ref, plain, templ, retempl, nest_sub, nest_app, s_lit, p_ref}
 use Rattle.catalogue.specs.Spelling.{p_root, p_sub, p_app, s_one, s_also, flat, scoped, symbol, spell_sym}
@@ -17,7 +17,7 @@ later (some i) = some (suc i)
 -- the number of the first entry that is the tree
 unfoldable pub seek : Ty → List Ty → Option ℕ
 seek t [] = none
-seek t (u ∷ us) = if same_ty t u then some 0 else later (seek t us)
+seek t (u ∷ us) = if same_ty t u then some 0 otherwise later (seek t us)
 
 -- ---------------------------------------------------------------- the table after a tree is written
 

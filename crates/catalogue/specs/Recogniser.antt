@@ -3,7 +3,7 @@
 use Rattle.std.specs.Prelude.{Bool, true, false, ◌&&◌, List, [], ◌∷◌, ℕ, zero, suc, eqb, leb, length, take, drop}
 use Rattle.std.proofs.Math.Option.{Option, none, some}
 use Prim.Native.Char.{code}
-use Rattle.grammar.specs.Text.{Text, if◌then◌else◌, choose, same, run, past, digit, number}
+use Rattle.grammar.specs.Text.{Text, if◌then◌otherwise◌, choose, same, run, past, digit, number}
 use Rattle.grammar.specs.Grammar.{index}
 use Rattle.catalogue.specs.Tree.{Letter, Wrap, Kind, Enc, letter_code, wrap_code, kind_code, lv, lw, lb, lc, la, lh, ls, lt, li, lj, ll, lm, lx, ly, ln}
 use Rattle.catalogue.specs.Tree.{lo, lf, ld, le, lg, lz, wP, wR, wO, wK, wV, kb, ki, kj, kl, km}
@@ -23,12 +23,12 @@ bind stop f = stop
 -- where the byte comes next, what stands after it
 abbrev pub if_next : {A : Type 0} → ℕ → Text → (Text → A) → A → A
 if_next c [] f x = x
-if_next c (d ∷ r) f x = if eqb d c then f r else x
+if_next c (d ∷ r) f x = if eqb d c then f r otherwise x
 
 -- ---------------------------------------------------------------- leaves
 
 unfoldable pub cut : ℕ → Text → Rd Text
-cut n r = if leb n (length r) then rd (take n r) (drop n r) else stop
+cut n r = if leb n (length r) then rd (take n r) (drop n r) otherwise stop
 
 unfoldable pub read_name : Text → Rd Text
 read_name s = cut (number 10 0 (run (digit 10) s)) (past (digit 10) s)
@@ -40,7 +40,7 @@ read_ref s = if_next (code "_") (past (digit 36) s) (λ r. rd (index 36 (run (di
 -- the one that has the byte
 unfoldable pub with_code : {A : Type 0} → (A → ℕ) → ℕ → List A → Option A
 with_code f c [] = none
-with_code f c (x ∷ xs) = if eqb c (f x) then some x else with_code f c xs
+with_code f c (x ∷ xs) = if eqb c (f x) then some x otherwise with_code f c xs
 
 abbrev pub all_letters : List Letter
 all_letters =
@@ -73,10 +73,10 @@ pub data Lead : Type 0 where
 
 unfoldable pub lead : ℕ → Lead
 lead c =
-    if digit 10 c then lead_digit else
-    if eqb c (code "S") then lead_S else
-    if eqb c (code "N") then lead_N else
-    if eqb c (code "L") then lead_L else
+    if digit 10 c then lead_digit otherwise
+    if eqb c (code "S") then lead_S otherwise
+    if eqb c (code "N") then lead_N otherwise
+    if eqb c (code "L") then lead_L otherwise
     choose (with_code wrap_code c all_wraps) lead_wrap (choose (with_code letter_code c all_letters) lead_letter lead_none)
 
 -- at E: N with one part is no class

@@ -3,7 +3,7 @@
 use Rattle.std.specs.Prelude.{Bool, true, false, [], ◌∷◌, ◌++◌, ℕ, zero, suc, ◌+◌, ◌-◌, ◌/◌, ◌%◌, ltb, length}
 use Rattle.std.proofs.Math.Option.{Option, none, some}
 use Prim.Native.Char.{code}
-use Rattle.grammar.specs.Text.{Text, if◌then◌else◌, decimal}
+use Rattle.grammar.specs.Text.{Text, if◌then◌otherwise◌, decimal}
 use Rattle.catalogue.specs.Tree.{Letter, Wrap, Kind, letter_code, wrap_code, kind_code}
 
 mutual
@@ -43,12 +43,12 @@ pub data Sym : Type 0 where
 
 -- "digits and capitals"
 unfoldable pub digit_of : ℕ → ℕ
-digit_of d = if ltb d 10 then code "0" + d else code "A" + (d - 10)
+digit_of d = if ltb d 10 then code "0" + d otherwise code "A" + (d - 10)
 
 -- a number in base 36, of at most so many digits and one
 unfoldable pub base36 : ℕ → ℕ → Text
 base36 zero n = digit_of n ∷ []
-base36 (suc k) n = if ltb n 36 then digit_of n ∷ [] else base36 k (n / 36) ++ (digit_of (n % 36) ∷ [])
+base36 (suc k) n = if ltb n 36 then digit_of n ∷ [] otherwise base36 k (n / 36) ++ (digit_of (n % 36) ∷ [])
 
 -- what stands between S and _: nothing for entry 0, and the number before it for another
 unfoldable pub ref_digits : ℕ → Text

@@ -3,7 +3,7 @@ use Rattle.std.specs.Prelude.{Bool, true, false, [], ◌∷◌, ◌++◌, ◌≡
 use Rattle.std.proofs.Math.Bool.{Bool-discrete}
 use Rattle.std.proofs.Math.Option.{Option, none, some}
 use Prim.Native.Char.{code}
-use Rattle.grammar.specs.Text.{Text, b, if◌then◌else◌, choose, same}
+use Rattle.grammar.specs.Text.{Text, b, if◌then◌otherwise◌, choose, same}
 use Rattle.grammar.specs.Tables.{letters}
 use Rattle.grammar.specs.Reader.{word_for}
 use Rattle.catalogue.specs.Bytes.{text_discrete}
@@ -201,7 +201,7 @@ sign true = b "-"
 sign false = []
 
 abbrev pub literal : Kind → Bool → Text → Text
-literal kb g v = if same v (b "1") then b "true" else b "false"
+literal kb g v = if same v (b "1") then b "true" otherwise b "false"
 literal ki g v = sign g ++ (v ++ mark ki)
 literal kj g v = sign g ++ (v ++ mark kj)
 literal kl g v = sign g ++ (v ++ mark kl)

@@ -1,6 +1,6 @@
 -- The input in chunks: what the buffer holds of it, and what was handed over. Assumes nothing.
 use Rattle.std.specs.Prelude.{Bool, true, false, [], ◌∷◌, ◌++◌, ◌≡◌, ℕ, ◌+◌, ◌-◌, ◌≤◌, eqb, length, take, drop}
-use Rattle.grammar.specs.Text.{Text, if◌then◌else◌}
+use Rattle.grammar.specs.Text.{Text, if◌then◌otherwise◌}
 use Rattle.listing.specs.Listing.{line_feed, lines, bytes_taken, listing}
 use Rattle.listing.specs.Cut.{cut_lines, column, most_kept}
 use Rattle.listing.specs.declared.listing.Kind.{Kind}
@@ -24,7 +24,7 @@ nothing = record { from = 0; start = 0; end = 0; ended = false }
 
 -- what completes a line that has n bytes
 unfoldable pub closing : ℕ → Text
-closing n = if eqb n 0 then [] else line_feed ∷ []
+closing n = if eqb n 0 then [] otherwise line_feed ∷ []
 
 -- the line of `used` bytes at the front of `lines` is completed
 pub record Completes (lines lines' : Text) (used : ℕ) (r : Buffer) : Type 0 where
@@ -51,7 +51,7 @@ pub record Adds (chunk lines lines' : Text) (b r : Buffer) : Type 0 where
 
 -- the input as far as it was read; where it has ended, its last line is completed
 unfoldable pub completed : Bool → Text → Text
-completed ended all = if ended then all ++ closing (column 0 all) else all
+completed ended all = if ended then all ++ closing (column 0 all) otherwise all
 
 -- with `all` the input as far as it was read, and `handed` what was handed over: the header and the listing of the lines `done`, each cut to the bytes
 -- that are kept. The buffer has the others, and the line without line feed

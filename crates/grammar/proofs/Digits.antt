@@ -2,7 +2,7 @@
 use Rattle.std.proofs.Common.{◌≡◌, ℕ, ◌+◌, ◌*◌, ◌<◌, ◌≤◌, min, true, false, [], ◌∷◌, length, get_or, drop, sym, ap, ◌∙◌, ⊎_elim, eq-or-lt_of_le, mul-le-mul_left, arith, le-ltb, lt-ltb, le-leb}
 use native.Mathlib.Nat.{min-le_left}
 use borrow.Author.Tests.{lt-leb}
-use Rattle.grammar.specs.Text.{Text, if◌then◌else◌, between, run, digit, digit_value, number}
+use Rattle.grammar.specs.Text.{Text, if◌then◌otherwise◌, between, run, digit, digit_value, number}
 use Rattle.grammar.specs.Numbers.{most}
 use Rattle.grammar.specs.Laws.Places.{rest_some, rest_none}
 
@@ -21,11 +21,11 @@ module _ (lo hi c : ℕ) where
 module _ (base : ℕ) (s : Text) (i : ℕ) where
   pub digits_more : i < length s → digit_value (get_or s i 0) < base
       → run (digit base) (drop i s) ≡ get_or s i 0 ∷ run (digit base) (drop (i + 1) s)
-  unfolding if◌then◌else◌ run digit
+  unfolding if◌then◌otherwise◌ run digit
   digits_more h d = rw (rest_some s i h, lt-ltb _ _ d)
 
   pub digits_stop : i < length s → base ≤ digit_value (get_or s i 0) → run (digit base) (drop i s) ≡ []
-  unfolding if◌then◌else◌ run digit
+  unfolding if◌then◌otherwise◌ run digit
   digits_stop h d = rw (rest_some s i h, le-ltb _ _ d)
 
   pub digits_end : length s ≤ i → run (digit base) (drop i s) ≡ []

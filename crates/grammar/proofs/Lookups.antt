@@ -2,7 +2,7 @@
 use Rattle.std.proofs.Common.{◌≡◌, ℕ, Bool, true, false, not, ◌&&◌, ◌||◌, T, eqb, [], ◌∷◌, ◌++◌, get_or, sym, refl, ap, ◌∙◌, arith, eqb→eq, ne_eqb}
 use mathlib.Core.Option.{Option, none, some}
 use Prim.Native.String.{String}
-use Rattle.grammar.specs.Text.{Text, b, if◌then◌else◌, choose, same, holds}
+use Rattle.grammar.specs.Text.{Text, b, if◌then◌otherwise◌, choose, same, holds}
 use Rattle.grammar.specs.Tables.{◌⇒◌, Table, letters, d_letters, operators, labels, abbreviations, qualifiers, wrappers}
 use Rattle.grammar.specs.Reader.{word_for}
 use Rattle.grammar.specs.Words.{halves, behind_type, at_slot, without, told, bytes_told, with_word, Writes, Spells}
@@ -12,7 +12,7 @@ use Rattle.grammar.specs.Laws.Text.{both, same→eq}
 
 -- an arm: the table has the word w for the code. Whoever unfolds this test can compute it.
 unfoldable pub right : Table → Text → Text → Bool
-unfolding if◌then◌else◌ choose b same word_for letters d_letters operators labels abbreviations qualifiers wrappers halves behind_type at_slot without
+unfolding if◌then◌otherwise◌ choose b same word_for letters d_letters operators labels abbreviations qualifiers wrappers halves behind_type at_slot without
 right rows code w = choose (word_for rows code) (same w) false
 
 chosen : (s : Text) (o : Option Text) → T (choose o (same s) false) → some s ≡ o
@@ -42,7 +42,7 @@ barred (p ∷ pre) ks [] = true
 barred (p ∷ pre) ks (x ∷ k) = not (eqb p x) || barred pre ks k
 
 unfoldable pub all_barred : Text → Text → Table → Bool
-unfolding if◌then◌else◌ b holds barred letters d_letters operators labels abbreviations qualifiers wrappers halves behind_type at_slot without
+unfolding if◌then◌otherwise◌ b holds barred letters d_letters operators labels abbreviations qualifiers wrappers halves behind_type at_slot without
 all_barred pre ks [] = true
 all_barred pre ks ((k ⇒ w) ∷ rows) = barred pre ks (b k) && all_barred pre ks rows
 
@@ -90,8 +90,8 @@ module _ (ks : Text) (a : ℕ) (t : Text) (h : None_of a ks) where
   other_first (x ∷ k) p = rw (ne_eqb a x ((none_of _ a ks h).1 x p))
 
   one_row : (p : Bool) (k w : String) (left rows : Table) → (T p → same (a ∷ t) (b k) ≡ false) → word_for left (a ∷ t) ≡ word_for rows (a ∷ t)
-      → word_for (if p then left else (k ⇒ w) ∷ left) (a ∷ t) ≡ word_for ((k ⇒ w) ∷ rows) (a ∷ t)
-  unfolding if◌then◌else◌ word_for
+      → word_for (if p then left otherwise (k ⇒ w) ∷ left) (a ∷ t) ≡ word_for ((k ⇒ w) ∷ rows) (a ∷ t)
+  unfolding if◌then◌otherwise◌ word_for
   one_row true k w left rows f e = rw (f tt) e
   one_row false k w left rows f e = rw e
 

@@ -8,7 +8,7 @@ use Rattle.std.proofs.Math.Option.{Option, none, some}
 use Prim.Native.Char.{code}
 use Prim.Native.String.{String}
 use Rattle.std.proofs.Math.ListN.{get_elem?}
-use Rattle.grammar.specs.Text.{Text, b, if◌then◌else◌, choose, same, starts, holds, ends, run, join, each, after_last, digit, number, decimal}
+use Rattle.grammar.specs.Text.{Text, b, if◌then◌otherwise◌, choose, same, starts, holds, ends, run, join, each, after_last, digit, number, decimal}
 use Rattle.grammar.specs.Tables.{Row, ◌⇒◌, letters, d_letters, operators, labels, abbreviations, qualifiers, wrappers, suffixes}
 use Rattle.grammar.specs.Reader.{refused, Reader, onto, ◌>>=◌, ◌>>◌, return, refuse, unfit, start, the, ahead, go_to, set_args, set_cv, set_templated}
 use Rattle.grammar.specs.Reader.{push_sub, push_arg, give, recorded, entered, word_for, by_code, cases, at_code, eat, need, see, any, every, while}
@@ -26,7 +26,7 @@ slot = 1
 
 -- a text put in front of each slot
 unfoldable pub at_slots : Text → Text → Text
-at_slots w t = each (λ x. if x == slot then w ++ (x ∷ []) else x ∷ []) t
+at_slots w t = each (λ x. if x == slot then w ++ (x ∷ []) otherwise x ∷ []) t
 
 -- the types are one, whose text is void, be it written v or not (D-18)
 unfoldable pub only_void : List Text → Bool
@@ -36,7 +36,7 @@ only_void (t ∷ u ∷ ts) = false
 
 -- template arguments between < and >, so that no >> comes about
 unfoldable pub angled : List Text → Text
-angled ts = let t = b "<" ++ join (b ", ") ts in t ++ (if ends (code ">") t then b " >" else b ">")
+angled ts = let t = b "<" ++ join (b ", ") ts in t ++ (if ends (code ">") t then b " >" otherwise b ">")
 
 unfoldable pub last : List Text → Option Text
 last [] = none
@@ -58,8 +58,8 @@ class_of ts = choose (last ts) (λ t. let c = run (λ x. not (x == (code "<"))) 
 -- a literal's value by its type's text (D-29)
 unfoldable pub literal : Text → Text → Text
 literal t v =
-    let w = (if starts v (b "n") then b "-" ++ drop 1 v else v) in
-    if same t (b "bool") then (if same w (b "1") then b "true" else b "false") else
+    let w = (if starts v (b "n") then b "-" ++ drop 1 v otherwise v) in
+    if same t (b "bool") then (if same w (b "1") then b "true" otherwise b "false") otherwise
     choose (word_for suffixes t) (λ x. w ++ x) (b "(" ++ t ++ b ")" ++ w)
 
 -- ---------------------------------------------------------------- what stands ahead
@@ -88,7 +88,7 @@ structor_ahead (x ∷ y ∷ t) = holds x (b "CD") && (digit 10 y || y == (code "
 
 -- what is left where all open expressions are closed: X opens one, E closes one
 unfoldable pub open_after : ℕ → ℕ → ℕ
-open_after c d = if c == (code "X") then d + 1 else if c == (code "E") then d - 1 else d
+open_after c d = if c == (code "X") then d + 1 otherwise if c == (code "E") then d - 1 otherwise d
 
 unfoldable pub skipped : Text → ℕ → Option Text
 skipped [] zero = some []
@@ -114,10 +114,10 @@ unfoldable pub unnamed_type_name : Reader Text
 unnamed_type_name = do
   kind ← any
   let lambda = kind == (code "l")
-  if lambda then (do every (λ c. not (c == (code "E"))); need "E") else return tt
+  if lambda then (do every (λ c. not (c == (code "E"))); need "E") otherwise return tt
   every (digit 10)
   eat "_"
-  give (if lambda then b "{lambda}" else b "{unnamed}")
+  give (if lambda then b "{lambda}" otherwise b "{unnamed}")
 
 -- <template-param> ::= T_ | T <number> _: no entry (D-8); an absent argument prints its number (D-34)
 unfoldable pub template_param : Reader Text
@@ -127,7 +127,7 @@ template_param = do
   need "_"
   let i = index 10 d
   l ← the λ s. s.args
-  if nat_lt i (2 ^ 64) then choose (get_elem? l i) give (give (b "T" ++ decimal 20 i)) else unfit
+  if nat_lt i (2 ^ 64) then choose (get_elem? l i) give (give (b "T" ++ decimal 20 i)) otherwise unfit
 
 -- <substitution> ::= St | Sa | .. | S_ | S <seq-id> _, with small letters too (D-31); 7: an entry past the table
 unfoldable pub substitution : Reader Text
@@ -143,7 +143,7 @@ substitution = do
 unfoldable pub unsigned : Reader (Unit {0})
 unsigned = do
   d ← every (digit 10)
-  if same d [] then unfit else need "_"
+  if same d [] then unfit otherwise need "_"
 
 unfoldable pub offset : Reader (Unit {0})
 offset = do
@@ -167,7 +167,7 @@ module _ (read : Production → Reader Text) where
   bare_function_type = do
     ts ← while (λ t. not (ended t)) (one_more (read ⟨type⟩)) []
     t ← ahead
-    give (if only_void ts && same t [] then [] else join (b ", ") ts)
+    give (if only_void ts && same t [] then [] otherwise join (b ", ") ts)
 
   -- <encoding> ::= <function name> <bare-function-type> | <data name>
   -- The qualifiers are those of the nested name read last, be it a part of the name (D-3) or the function of a local
@@ -178,9 +178,9 @@ module _ (read : Production → Reader Text) where
     q ← the λ s. s.cv
     set_cv []
     t ← ahead
-    if ended t then give (n ++ q) else do
+    if ended t then give (n ++ q) otherwise do
       templated ← the λ s. s.templated
-      r ← (if templated then (do r ← read ⟨type⟩; return (r ++ b " ")) else return [])
+      r ← (if templated then (do r ← read ⟨type⟩; return (r ++ b " ")) otherwise return [])
       ps ← bare_function_type
       give (r ++ n ++ b "(" ++ ps ++ b ")" ++ q)
 
@@ -239,7 +239,7 @@ module _ (read : Production → Reader Text) where
   unfoldable pub s_name : Reader Text
   s_name = do
     t ← ahead
-    if std_ahead t then std_name else do
+    if std_ahead t then std_name otherwise do
       x ← read ⟨substitution⟩
       at_code ("I" ⇒ name_instance x ∷ []) (return x)
 
@@ -254,7 +254,7 @@ module _ (read : Production → Reader Text) where
   local_encoding = do
     n ← read ⟨name⟩
     bare ← see "E"
-    ps ← (if bare then return [] else do
+    ps ← (if bare then return [] otherwise do
       ts ← while (λ t. not (same t [] || starts t (b "E"))) (one_more (read ⟨type⟩)) []
       w ← give (join (b ", ") ts)
       return (b "(" ++ w ++ b ")"))
@@ -285,7 +285,7 @@ module _ (read : Production → Reader Text) where
   ctor_dtor_name p = do
     t ← ahead
     go_to (drop 2 t)
-    let x = (if starts t (b "D") then b "~" else []) ++ class_of p.texts
+    let x = (if starts t (b "D") then b "~" otherwise []) ++ class_of p.texts
     return (record { texts = p.texts ++ (x ∷ []); structor = true })
 
   -- <prefix> ::= <substitution>: no new entry
@@ -309,14 +309,14 @@ module _ (read : Production → Reader Text) where
     x ← read k
     let l = p.texts ++ (x ∷ [])
     final ← see "E"
-    if final then return tt else push_sub (join (b "::") l)
+    if final then return tt otherwise push_sub (join (b "::") l)
     return (record { texts = l; structor = p.structor })
 
   -- one part more; references and template parameters may stand anywhere among the parts (D-27), other prefixes are 4 (D-52)
   unfoldable pub prefix : Parts → Reader Parts
   prefix p = do
     t ← ahead
-    if structor_ahead t then ctor_dtor_name p else at_code
+    if structor_ahead t then ctor_dtor_name p otherwise at_code
         ("S" ⇒ old_prefix p ∷ "I" ⇒ prefix_args p ∷ "T" ⇒ new_prefix ⟨template-param⟩ p ∷ [])
         (new_prefix ⟨unqualified-name⟩ p)
 
@@ -329,7 +329,7 @@ module _ (read : Production → Reader Text) where
     q ← every (λ c. holds c (b "KVrRO"))
     p ← up_to_E prefix (record { texts = []; structor = false })
     set_cv (each qualifier q)
-    if p.structor then set_templated false else return tt
+    if p.structor then set_templated false otherwise return tt
     give (join (b "::") p.texts)
 
   -- ---------------------------------------------------------------- unqualified names
@@ -345,7 +345,7 @@ module _ (read : Production → Reader Text) where
       ∷ [])
       (do
         d ← the λ s. digit_ahead s.rest
-        read (if d then ⟨source-name⟩ else ⟨operator-name⟩))
+        read (if d then ⟨source-name⟩ otherwise ⟨operator-name⟩))
 
   -- <source-name> ::= <positive length number> <identifier>, with leading zeros (D-31)
   -- <abi-tags> ::= B <source-name>: a tag takes those behind it into itself (D-11)
@@ -356,7 +356,7 @@ module _ (read : Production → Reader Text) where
     let n = number 10 0 d
     if nat_le 1 n && nat_le n (length t) then (do
       go_to (drop n t)
-      cases ("B" ⇒ (do w ← read ⟨source-name⟩; give (take n t ++ b "[abi:" ++ w ++ b "]")) ∷ []) (give (take n t))) else unfit
+      cases ("B" ⇒ (do w ← read ⟨source-name⟩; give (take n t ++ b "[abi:" ++ w ++ b "]")) ∷ []) (give (take n t))) otherwise unfit
 
   -- <operator-name> ::= nw | .. | cv <type>, without tags (D-42); ABI operators outside the table are 4 (D-39)
   -- The type of cv takes T_ from the arguments so far (D-44); arguments behind it make it a template again (D-43).
@@ -377,14 +377,14 @@ module _ (read : Production → Reader Text) where
   unfoldable pub wrapped : String × String → Reader Text
   wrapped w = do
     t ← read ⟨type⟩
-    recorded (if holds slot t then at_slots (b w.1) t else t ++ b w.0)
+    recorded (if holds slot t then at_slots (b w.1) t otherwise t ++ b w.0)
 
   -- <function-type> ::= F <bare-function-type> E, behind F, without Y or a <ref-qualifier> (D-40); a slot in parentheses (D-49)
   unfoldable pub function_type : Reader Text
   function_type = do
     r ← read ⟨type⟩
     ts ← up_to_E (one_more (read ⟨type⟩)) []
-    recorded (r ++ b " (" ++ (slot ∷ []) ++ b ")(" ++ (if only_void ts then [] else join (b ", ") ts) ++ b ")")
+    recorded (r ++ b " (" ++ (slot ∷ []) ++ b ")(" ++ (if only_void ts then [] otherwise join (b ", ") ts) ++ b ")")
 
   -- <array-type> ::= A [<dimension>] _ <type>, behind A: the dimension is not read (D-32), and the type is no entry (D-9)
   unfoldable pub array_type : Reader Text
@@ -399,7 +399,7 @@ module _ (read : Production → Reader Text) where
   pointer_to_member_type = do
     c ← read ⟨type⟩
     m ← read ⟨type⟩
-    recorded (if holds slot m then at_slots (c ++ b "::*") m else m ++ b " " ++ c ++ b "::*")
+    recorded (if holds slot m then at_slots (c ++ b "::*") m otherwise m ++ b " " ++ c ++ b "::*")
 
   -- a type with its arguments: an entry
   unfoldable pub type_instance : Text → Reader Text
@@ -412,7 +412,7 @@ module _ (read : Production → Reader Text) where
   nested_type = do
     t ← read ⟨nested-name⟩
     l ← the λ s. s.subs
-    if choose (last l) (same t) false then return t else recorded t
+    if choose (last l) (same t) false then return t otherwise recorded t
 
   -- <class-enum-type> ::= <source-name> [<template-args>]
   unfoldable pub class_type : Reader Text
@@ -425,7 +425,7 @@ module _ (read : Production → Reader Text) where
   unfoldable pub s_type : Reader Text
   s_type = do
     t ← ahead
-    if std_ahead t then std_name else do
+    if std_ahead t then std_name otherwise do
       x ← read ⟨substitution⟩
       at_code ("I" ⇒ type_instance x ∷ []) (return x)
 

@@ -1,6 +1,6 @@
 -- The answer for a symbol: the name printed for it, or the number of the first refusal.
 use Rattle.std.specs.Prelude.{ℕ, Bool, false, ◌&&◌, ◌||◌, [], ◌∷◌, ◌++◌, length, drop, ◌==◌, nat_le, nat_lt}
-use Rattle.grammar.specs.Text.{Text, if◌then◌else◌, choose, each}
+use Rattle.grammar.specs.Text.{Text, if◌then◌otherwise◌, choose, each}
 use Rattle.grammar.specs.Limits.{least_text, least_store, least_ends}
 use Rattle.grammar.specs.Tables.{◌⇒◌}
 use Rattle.grammar.specs.Reader.{Result, ok, refused, start, find}
@@ -11,11 +11,11 @@ pub data Answer : Type 0 where
   refusal : ℕ → Answer
 
 unfoldable pub without_slots : Text → Text
-without_slots t = each (λ x. if x == slot then [] else x ∷ []) t
+without_slots t = each (λ x. if x == slot then [] otherwise x ∷ []) t
 
 -- 5: bytes are left that don't begin with a dot
 unfoldable pub finished : Result Text → Answer
-finished (ok t s) = if ended s.rest then named (without_slots t) else refusal 5
+finished (ok t s) = if ended s.rest then named (without_slots t) otherwise refusal 5
 finished (refused r) = refusal r
 
 -- a byte of 128 or more
@@ -30,8 +30,8 @@ mangled_name t = finished (reading ⟨encoding⟩ (start t))
 -- 1: longer than the limit; 2: a byte of 128 or more; 3: neither _Z nor __Z (D-36) in front
 unfoldable pub front : ℕ → Text → (Text → Answer) → Answer
 front limit t answer =
-    if nat_lt limit (length t) then refusal 1 else
-    if high t then refusal 2 else choose (find ("_Z" ⇒ tt {0} ∷ "__Z" ⇒ tt {0} ∷ []) t) (λ r. answer r.1) (refusal 3)
+    if nat_lt limit (length t) then refusal 1 otherwise
+    if high t then refusal 2 otherwise choose (find ("_Z" ⇒ tt {0} ∷ "__Z" ⇒ tt {0} ∷ []) t) (λ r. answer r.1) (refusal 3)
 
 -- the answer for a symbol of at most so many bytes
 unfoldable pub demangle : ℕ → Text → Answer
@@ -54,12 +54,12 @@ work_fits l = nat_le least_text l.text && nat_le least_store l.store && nat_le l
 
 -- 12: the output slice is shorter than the name
 unfoldable pub within : ℕ → Answer → Answer
-within n (named t) = if nat_le (length t) n then named t else refusal 12
+within n (named t) = if nat_le (length t) n then named t otherwise refusal 12
 within n (refusal r) = refusal r
 
 -- 14: a work slice is below its constant, told after 1 to 3 and before the reading
 unfoldable pub answer : ℕ → Lent → Text → Answer
-answer limit l t = front limit t λ u. if work_fits l then within l.out (mangled_name u) else refusal 14
+answer limit l t = front limit t λ u. if work_fits l then within l.out (mangled_name u) otherwise refusal 14
 
 -- the number, the length and the output slice that an answer leaves
 unfoldable pub number_of : Answer → ℕ

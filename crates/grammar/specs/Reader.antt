@@ -3,7 +3,7 @@
 use Rattle.std.specs.Prelude.{ℕ, zero, suc, ◌+◌, Bool, true, false, not, ◌&&◌, List, [], ◌∷◌, ◌++◌, length, drop, nat_le, nat_lt}
 use Rattle.std.proofs.Math.Option.{Option, none, some}
 use Prim.Native.String.{String}
-use Rattle.grammar.specs.Text.{Text, b, if◌then◌else◌, choose, same, starts, run, past}
+use Rattle.grammar.specs.Text.{Text, b, if◌then◌otherwise◌, choose, same, starts, run, past}
 use Rattle.grammar.specs.Limits.{most_open, most_entries, most_text_bytes, most_entry_bytes}
 use Rattle.grammar.specs.Tables.{Row, ◌⇒◌, Table}
 
@@ -90,17 +90,17 @@ fits ts = nat_le (length ts) most_entries && nat_le (bytes_of ts) most_entry_byt
 unfoldable pub push_sub : Text → Reader (Unit {0})
 push_sub t = do
   l ← the λ s. s.subs
-  if fits (l ++ (t ∷ [])) then set_subs (l ++ (t ∷ [])) else refuse 9
+  if fits (l ++ (t ∷ [])) then set_subs (l ++ (t ∷ [])) otherwise refuse 9
 
 -- a new template argument; 10: it does not fit
 unfoldable pub push_arg : Text → Reader (Unit {0})
 push_arg t = do
   l ← the λ s. s.args
-  if fits (l ++ (t ∷ [])) then set_args (l ++ (t ∷ [])) else refuse 10
+  if fits (l ++ (t ∷ [])) then set_args (l ++ (t ∷ [])) otherwise refuse 10
 
 -- a text returned by a function of the Rust; 11: it is too long
 unfoldable pub give : Text → Reader Text
-give t = if nat_le (length t) most_text_bytes then return t else refuse 11
+give t = if nat_le (length t) most_text_bytes then return t otherwise refuse 11
 
 -- a text that becomes an entry and is then returned
 unfoldable pub recorded : Text → Reader Text
@@ -116,19 +116,19 @@ entered m = do
     set_depth (d + 1)
     t ← m
     set_depth d
-    return t) else refuse 8
+    return t) otherwise refuse 8
 
 -- ---------------------------------------------------------------- words and codes
 
 -- the row whose code stands first in the text, and what comes after the code
 unfoldable pub find : {A : Type 0} → List (Row A) → Text → Option (A × Text)
 find [] t = none
-find ((w ⇒ x) ∷ rows) t = if starts t (b w) then some (x, drop (length (b w)) t) else find rows t
+find ((w ⇒ x) ∷ rows) t = if starts t (b w) then some (x, drop (length (b w)) t) otherwise find rows t
 
 -- the word of the row whose code is the text
 unfoldable pub word_for : Table → Text → Option Text
 word_for [] t = none
-word_for ((k ⇒ w) ∷ rows) t = if same t (b k) then some (b w) else word_for rows t
+word_for ((k ⇒ w) ∷ rows) t = if same t (b k) then some (b w) otherwise word_for rows t
 
 -- if a row's code stands here, it is read past and the reading goes on with what the row has; otherwise with the other reader
 unfoldable pub by_code : {A B : Type 0} → List (Row A) → (A → Reader B) → Reader B → Reader B
@@ -153,12 +153,12 @@ see w = the λ s. starts s.rest (b w)
 unfoldable pub eat : String → Reader Bool
 eat w = do
   t ← ahead
-  if starts t (b w) then (do go_to (drop (length (b w)) t); return true) else return false
+  if starts t (b w) then (do go_to (drop (length (b w)) t); return true) otherwise return false
 
 unfoldable pub need : String → Reader (Unit {0})
 need w = do
   here ← eat w
-  if here then return tt else unfit
+  if here then return tt otherwise unfit
 
 -- one byte, whatever it is
 unfoldable pub first : Text → Reader ℕ
@@ -186,7 +186,7 @@ unfoldable pub steps : {A : Type 0} → ℕ → (Text → Bool) → (A → Reade
 steps zero on step x = refuse 0
 steps (suc n) on step x = do
   t ← ahead
-  if on t then (do y ← step x; steps n on step y) else return x
+  if on t then (do y ← step x; steps n on step y) otherwise return x
 
 -- step after step, as long as the bytes ahead pass the test; each step reads at least one byte, so these are enough
 unfoldable pub while : {A : Type 0} → (Text → Bool) → (A → Reader A) → A → Reader A
@@ -197,7 +197,7 @@ while on step x = do
 -- step after step, up to an E, which is read past
 unfoldable pub up_to_E : {A : Type 0} → (A → Reader A) → A → Reader A
 up_to_E step x = do
-  y ← while (λ t. not (starts t (b "E"))) (λ z. do t ← ahead; if same t [] then unfit else step z) x
+  y ← while (λ t. not (starts t (b "E"))) (λ z. do t ← ahead; if same t [] then unfit otherwise step z) x
   need "E"
   return y
 

@@ -1,7 +1,7 @@
 -- The reader's next states, each an equation of the whole record.
 use Rattle.std.specs.Prelude.{ℕ, ◌+◌, Bool, false, [], ◌∷◌, nat_lt}
 use Rattle.grammar.specs.Limits.{most_open}
-use Rattle.grammar.specs.Text.{Text, if◌then◌else◌, starts}
+use Rattle.grammar.specs.Text.{Text, if◌then◌otherwise◌, starts}
 use Rattle.grammar.specs.declared.state.Parser.{Parser}
 use Rattle.grammar.specs.declared.state.Peeked.{Peeked}
 use Rattle.grammar.specs.declared.state.Peeked.TheVariants as peeked_as
@@ -29,7 +29,7 @@ abbrev pub deeper : Parser → Parser
 deeper p = record { at = p.at; depth = p.depth + 1; top = p.top; subs = p.subs; args = p.args; cv = p.cv; templated = p.templated }
 
 abbrev pub entered : Parser → Read
-entered p = if nat_lt p.depth most_open then read_as.Text (deeper p) 0 else read_as.Refused 8
+entered p = if nat_lt p.depth most_open then read_as.Text (deeper p) 0 otherwise read_as.Refused 8
 
 abbrev pub subs_to : Parser → ℕ → ℕ → Parser
 subs_to p count bytes = record { at = p.at; depth = p.depth; top = p.top; subs = record { count = count; bytes = bytes }; args = p.args; cv = p.cv; templated = p.templated }
@@ -54,4 +54,4 @@ taken p (c ∷ t) = taken_as.Byte c (moved_to p (p.at + 1))
 
 -- the same, if the byte is c
 abbrev pub eaten : Parser → ℕ → Text → Eaten
-eaten p c t = if starts t (c ∷ []) then eaten_as.Next (moved_to p (p.at + 1)) else eaten_as.Nothing
+eaten p c t = if starts t (c ∷ []) then eaten_as.Next (moved_to p (p.at + 1)) otherwise eaten_as.Nothing

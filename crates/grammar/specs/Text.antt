@@ -11,10 +11,10 @@ unfoldable pub b : String → Text
 b []ˢ = []
 b (c ∷ˢ w) = code c ∷ b w
 
-infix 20 if◌then◌else◌
-unfoldable pub if◌then◌else◌ {ℓ} : {A : Type ℓ} → Bool → A → A → A
-if true then x else y = x
-if false then x else y = y
+infix 20 if◌then◌otherwise◌
+unfoldable pub if◌then◌otherwise◌ {ℓ} : {A : Type ℓ} → Bool → A → A → A
+if true then x otherwise y = x
+if false then x otherwise y = y
 
 -- by whether there is a value
 unfoldable pub choose {ℓ κ} : {A : Type ℓ} {B : Type κ} → Option A → (A → B) → B → B
@@ -50,11 +50,11 @@ ends c (x ∷ y ∷ t) = ends c (y ∷ t)
 -- the longest run of bytes that pass the test, and what comes after it
 unfoldable pub run : (ℕ → Bool) → Text → Text
 run p [] = []
-run p (x ∷ t) = if p x then x ∷ run p t else []
+run p (x ∷ t) = if p x then x ∷ run p t otherwise []
 
 unfoldable pub past : (ℕ → Bool) → Text → Text
 past p [] = []
-past p (x ∷ t) = if p x then past p t else x ∷ t
+past p (x ∷ t) = if p x then past p t otherwise x ∷ t
 
 -- the texts, with a text between any two
 unfoldable pub join : Text → List Text → Text
@@ -70,7 +70,7 @@ each f (x ∷ t) = f x ++ each f t
 -- after_last w t t is what stands behind the last w of the text t, or t where there is none; w has two bytes
 unfoldable pub after_last : Text → Text → Text → Text
 after_last w found [] = found
-after_last w found (x ∷ t) = after_last w (if starts (x ∷ t) w then drop 1 t else found) t
+after_last w found (x ∷ t) = after_last w (if starts (x ∷ t) w then drop 1 t otherwise found) t
 
 -- ---------------------------------------------------------------- numbers
 
@@ -80,9 +80,9 @@ between lo hi c = nat_le lo c && nat_le c hi
 -- the value of a digit: 0 to 9, then A to Z or a to z for 10 to 35; 36 for a byte that is no digit
 unfoldable pub digit_value : ℕ → ℕ
 digit_value c =
-    if between (code "0") (code "9") c then c - code "0" else
-    if between (code "A") (code "Z") c then c - code "A" + 10 else
-    if between (code "a") (code "z") c then c - code "a" + 10 else 36
+    if between (code "0") (code "9") c then c - code "0" otherwise
+    if between (code "A") (code "Z") c then c - code "A" + 10 otherwise
+    if between (code "a") (code "z") c then c - code "a" + 10 otherwise 36
 
 -- the byte is a digit of a number in the base
 unfoldable pub digit : ℕ → ℕ → Bool
@@ -97,4 +97,4 @@ number base n (c ∷ t) = number base (n * base + digit_value c) t
 unfoldable pub decimal : ℕ → ℕ → Text
 decimal zero n = []
 decimal (suc k) n =
-    if nat_lt n 10 then (code "0" + n) ∷ [] else decimal k (n / 10) ++ ((code "0" + n % 10) ∷ [])
+    if nat_lt n 10 then (code "0" + n) ∷ [] otherwise decimal k (n / 10) ++ ((code "0" + n % 10) ∷ [])

@@ -2,7 +2,7 @@
 use Rattle.std.specs.Prelude.{◌≡◌, ℕ, ◌≤◌, List, [], ◌∷◌, ◌++◌, length, drop, slice_index}
 use Rattle.std.proofs.Math.Option.{Option, none, some}
 use Prim.Native.String.{String}
-use Rattle.grammar.specs.Text.{Text, b, if◌then◌else◌, holds}
+use Rattle.grammar.specs.Text.{Text, b, if◌then◌otherwise◌, holds}
 use Rattle.grammar.specs.Tables.{Row, ◌⇒◌, Table, wrappers}
 use Rattle.grammar.specs.Reader.{word_for}
 use Rattle.grammar.specs.declared.codes.Word.{Word}
@@ -22,7 +22,7 @@ at_slot = halves (λ w. w.1) wrappers
 -- the rows whose code begins with none of the bytes: what is left where a function has looked at some of the first bytes
 unfoldable pub without : Text → Table → Table
 without cs [] = []
-without cs ((k ⇒ w) ∷ rows) = if holds (slice_index (b k) 0) cs then without cs rows else (k ⇒ w) ∷ without cs rows
+without cs ((k ⇒ w) ∷ rows) = if holds (slice_index (b k) 0) cs then without cs rows otherwise (k ⇒ w) ∷ without cs rows
 
 -- the length of the longest word
 abbrev pub longest_word : ℕ

@@ -1,7 +1,7 @@
 // Bytes copied, looked for, and compared with a word.
 ghost use Rattle.std.specs.Prelude.{◌≡◌, ℕ, ◌+◌, ◌-◌, ◌<◌, ◌≤◌, true, not, [], ◌∷◌, ◌++◌, length, take, drop, ◌==◌, ◌≢◌, nat_eq, slice_index, slice_range};
 ghost use Rattle.std.proofs.Math.Seq.{paste};
-ghost use Rattle.grammar.specs.Text.{if◌then◌else◌, starts, run};
+ghost use Rattle.grammar.specs.Text.{if◌then◌otherwise◌, starts, run};
 
 pub fn copy(out: &mut [u8], at: usize, src: &[u8])
     requires { at + length src.now ≤ length out.old }
@@ -85,7 +85,7 @@ pub fn here(s: &[u8], at: usize, c: u8) -> bool
 // The place of the next byte that is c, or that is not c, as asked; or the end.
 fn next_that(s: &[u8], at: usize, c: u8, is: bool) -> usize
     requires { at ≤ length s.now }
-    ensures { (result ≡ at + length (run (λ x. if is then not (x == c) else (x == c)) (drop at s.now))) × (result ≤ length s.now) }
+    ensures { (result ≡ at + length (run (λ x. if is then not (x == c) otherwise (x == c)) (drop at s.now))) × (result ≤ length s.now) }
 {
     let mut end = at;
     while end < s.len() {

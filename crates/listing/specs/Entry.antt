@@ -1,6 +1,6 @@
 -- What the entry for listings leaves before its work slices are cleared. Assumes nothing.
 use Rattle.std.specs.Prelude.{List, [], length}
-use Rattle.grammar.specs.Text.{Text, if◌then◌else◌}
+use Rattle.grammar.specs.Text.{Text, if◌then◌otherwise◌}
 use Rattle.answer.specs.Told.{Slices}
 use Rattle.listing.specs.Listing.{lines, fitting, number_for, work_sized}
 use Rattle.listing.specs.Lines.{Goes}
@@ -11,4 +11,4 @@ use Rattle.listing.specs.declared.listing.Listed.{Listed}
 abbrev pub Tried : Kind → Text → Text → Text → Slices → Listed → Type 0
 Tried kind input out out' work r =
     let ss : List Text = fitting kind (length out) (lines input) in
-    Goes kind (number_for (work_sized kind work) (lines input) ss) out out' (if work_sized kind work then ss else []) r
+    Goes kind (number_for (work_sized kind work) (lines input) ss) out out' (if work_sized kind work then ss otherwise []) r

@@ -1,6 +1,6 @@
 -- The lines that are taken, one after another. Assumes nothing.
 use Rattle.std.specs.Prelude.{true, not, List, ◌++◌, ◌≡◌, ℕ, ◌+◌, ◌-◌, ◌≤◌, eqb, length, drop}
-use Rattle.grammar.specs.Text.{Text, if◌then◌else◌, run}
+use Rattle.grammar.specs.Text.{Text, if◌then◌otherwise◌, run}
 use Rattle.listing.specs.Listing.{lines, bytes_taken, listing, fitting, number_for}
 use Rattle.listing.specs.declared.listing.Kind.{Kind}
 use Rattle.listing.specs.declared.listing.Listed.{Listed}
@@ -19,7 +19,7 @@ GoesOn kind input out out' r =
 
 -- the number where the next line does not fit
 abbrev pub full_number : ℕ → ℕ
-full_number taken = if eqb taken 0 then 12 else 0
+full_number taken = if eqb taken 0 then 12 otherwise 0
 
 abbrev pub full_at : ℕ → ℕ → Listed
 full_at taken written = record { number = full_number taken; taken = taken; written = written }

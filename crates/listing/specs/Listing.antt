@@ -1,7 +1,7 @@
 -- The listing: for each line of the input a line with the number, the length and the name or the normal symbol that the symbol gets.
 use Rattle.std.specs.Prelude.{Bool, true, false, ◌&&◌, List, [], ◌∷◌, ◌++◌, ◌≡◌, ℕ, ◌+◌, ◌-◌, length, drop, eqb, leb}
 use Prim.Native.Char.{code}
-use Rattle.grammar.specs.Text.{Text, if◌then◌else◌, decimal}
+use Rattle.grammar.specs.Text.{Text, if◌then◌otherwise◌, decimal}
 use Rattle.grammar.specs.Limits.{most_symbol_bytes, most_text_bytes, least_text, least_store, least_ends}
 use Rattle.grammar.specs.Names.{Answer, named, refusal, Lent, demangle, number_of, length_of}
 use Rattle.catalogue.specs.Answer.{normal_symbol, least_numbers}
@@ -48,7 +48,7 @@ in_front x (s ∷ ss) = (x ∷ s) ∷ ss
 -- the lines that end with a line feed, without it
 unfoldable pub lines : Text → List Text
 lines [] = []
-lines (x ∷ t) = if eqb x line_feed then [] ∷ lines t else in_front x (lines t)
+lines (x ∷ t) = if eqb x line_feed then [] ∷ lines t otherwise in_front x (lines t)
 
 -- the bytes of the lines, with their line feeds
 unfoldable pub bytes_taken : List Text → ℕ
@@ -63,7 +63,7 @@ listing kind (s ∷ ss) = listing_line kind s ++ listing kind ss
 unfoldable pub fitting : Kind → ℕ → List Text → List Text
 fitting kind room [] = []
 fitting kind room (s ∷ ss) =
-    if leb (length (listing_line kind s)) room then s ∷ fitting kind (room - length (listing_line kind s)) ss else []
+    if leb (length (listing_line kind s)) room then s ∷ fitting kind (room - length (listing_line kind s)) ss otherwise []
 
 -- ---------------------------------------------------------------- the entry for listings, with its slices
 
@@ -139,7 +139,7 @@ lists kind number ss out work = record {
 unfoldable pub listed : Kind → Text → Text → Slices → Outcome
 listed kind input out work =
     lists kind (number_for (work_sized kind work) (lines input) (fitting kind (length out) (lines input)))
-    (if work_sized kind work then fitting kind (length out) (lines input) else []) out work
+    (if work_sized kind work then fitting kind (length out) (lines input) otherwise []) out work
 
 abbrev pub Lists : Kind → Text → Text → Text → Slices → Slices → Listed → Type 0
 Lists kind input out out' work work' r =

@@ -1,7 +1,7 @@
 -- What the functions that write a line leave, and the laws of it. Assumes nothing.
 use Rattle.std.specs.Prelude.{◌≡◌, ℕ, ◌+◌, ◌-◌, leb, length, drop}
 use Rattle.std.proofs.Math.Seq.{paste}
-use Rattle.grammar.specs.Text.{Text, if◌then◌else◌}
+use Rattle.grammar.specs.Text.{Text, if◌then◌otherwise◌}
 use Rattle.listing.specs.Listing.{head}
 
 -- ---------------------------------------------------------------- the head of a line
@@ -15,7 +15,7 @@ pub record Heads (number bytes : ℕ) (l : Text) (r : ℕ) : Type 0 where
 
 -- the length of a text that fits into so many bytes
 unfoldable pub if_fits : ℕ → ℕ → ℕ
-if_fits n room = if leb n room then n else 0
+if_fits n room = if leb n room then n otherwise 0
 
 -- the text t stands in l' from `at` on, if it fits
 pub record Printed (t : Text) (at : ℕ) (l l' : Text) (r : ℕ) : Type 0 where

@@ -4,7 +4,7 @@ use Rattle.std.specs.Prelude.{Bool, true, false, not, ◌&&◌, ◌||◌, List, 
 use Rattle.std.proofs.Math.Option.{Option, none, some}
 use Prim.Native.Char.{code}
 use Rattle.std.proofs.Math.ListN.{get_elem?}
-use Rattle.grammar.specs.Text.{Text, if◌then◌else◌, choose, same}
+use Rattle.grammar.specs.Text.{Text, if◌then◌otherwise◌, choose, same}
 use Rattle.catalogue.specs.Tree.{Ty, letter, wrap, root, sub, app, lit, kind_code}
 use Rattle.catalogue.specs.Spelling.{ref_bytes, name_bytes}
 use Rattle.catalogue.specs.Class.{most_arguments}
@@ -61,7 +61,7 @@ later (some i) = some (suc i)
 -- the place of the first that passes the test
 unfoldable pub seek_by : {A : Type 0} → (A → Bool) → List A → Option ℕ
 seek_by p [] = none
-seek_by p (x ∷ xs) = if p x then some 0 else later (seek_by p xs)
+seek_by p (x ∷ xs) = if p x then some 0 otherwise later (seek_by p xs)
 
 unfoldable pub node_place : Node → List Node → Option ℕ
 node_place x ns = seek_by (same_node x) ns
@@ -83,7 +83,7 @@ with_node x ns = with_new (node_place x ns) x ns
 
 -- the tag of a tree; a letter has none
 unfoldable pub tag_of : List Node → ℕ → ℕ
-tag_of ns d = if ltb d least_number then 0 else choose (get_elem? ns (d - least_number)) (λ x. x.tag) 0
+tag_of ns d = if ltb d least_number then 0 otherwise choose (get_elem? ns (d - least_number)) (λ x. x.tag) 0
 
 -- ---------------------------------------------------------------- tests by the tag
 
@@ -169,7 +169,7 @@ entered d from σ = pushed d (settled d from σ)
 -- the newest entry isn't entered again behind N
 unfoldable pub entered_nested : ℕ → ℕ → Notes → Notes
 entered_nested d from σ =
-    if eqb (tag_of σ.nodes d) (code "N") && note_last_is d σ.table then settled d from σ else entered d from σ
+    if eqb (tag_of σ.nodes d) (code "N") && note_last_is d σ.table then settled d from σ otherwise entered d from σ
 
 -- ---------------------------------------------------------------- readings
 
@@ -324,7 +324,7 @@ note_at_params c σ (d ∷ s) types = types σ
 
 -- "at most 1,024 arguments"
 abbrev pub symbol_of : Got (Unit {0}) → Option Text
-symbol_of (got u σ) = if leb σ.args most_arguments then some σ.out else none
+symbol_of (got u σ) = if leb σ.args most_arguments then some σ.out otherwise none
 symbol_of bad = none
 
 -- <encoding> ::= <name> [<type>+], behind _Z

@@ -5,7 +5,7 @@ use Rattle.std.specs.Prelude.{Bool, true, false, not, ◌&&◌, ◌||◌, List, 
 use Rattle.std.proofs.Math.Option.{Option, none, some}
 use Prim.Native.Char.{code}
 use Rattle.std.proofs.Math.ListN.{get_elem?}
-use Rattle.grammar.specs.Text.{Text, if◌then◌else◌, choose, run, past, between, digit}
+use Rattle.grammar.specs.Text.{Text, if◌then◌otherwise◌, choose, run, past, between, digit}
 use Rattle.grammar.specs.Grammar.{index}
 use Rattle.catalogue.specs.Bytes.{all, first}
 use Rattle.catalogue.specs.Tree.{Kind, Ty, Args, letter, wrap, root, sub, app, lit, one, also, is_lit, is_class, is_bare, single, kind_code}
@@ -225,7 +225,7 @@ at_enc s parts types = next (at_name s parts) (λ c w vs k r. at_params c w vs k
 
 -- "at most 1,024 arguments"
 abbrev pub result : Walk Bool → Option Text
-result (got c w vs k r) = if leb k most_arguments then some (code "_" ∷ code "Z" ∷ w) else none
+result (got c w vs k r) = if leb k most_arguments then some (code "_" ∷ code "Z" ∷ w) otherwise none
 result bad = none
 
 unfoldable pub walk_enc : ℕ → Text → Walk Bool

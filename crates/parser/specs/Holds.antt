@@ -1,6 +1,6 @@
 -- What the reader's state and the work slices mean in the grammar.
 use Rattle.std.specs.Prelude.{List, ◌++◌, ◌≡◌, ℕ, ◌+◌, ◌*◌, ◌-◌, ◌≤◌, min, leb, length, take, drop}
-use Rattle.grammar.specs.Text.{Text, if◌then◌else◌, each}
+use Rattle.grammar.specs.Text.{Text, if◌then◌otherwise◌, each}
 use Rattle.grammar.specs.Limits.{most_open, most_entries, most_text_bytes, most_entry_bytes, most_length, kept_bytes}
 use Rattle.grammar.specs.Reader.{State, Result, ok, refused, Reader}
 use Rattle.grammar.specs.Grammar.{qualifier}
@@ -103,7 +103,7 @@ pub record Cuts (text text' : Text) (p p' : Parser) (k n : ℕ) : Type 0 where
 
 -- a text of n bytes returned
 unfoldable pub given_of : Parser → ℕ → Read
-given_of p n = if leb n most_text_bytes then read p n else Refused 11
+given_of p n = if leb n most_text_bytes then read p n otherwise Refused 11
 
 -- a push of the code is one of the grammar, and leaves the stack and the place
 pub data Pushes (s : Text) (m : Memory) (n : ℕ) (p : Parser) : Read → Result (Unit {0}) → Type 0 where

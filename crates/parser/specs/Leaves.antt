@@ -1,7 +1,7 @@
 -- What the leaves that pass over bytes answer: qualifiers, skipped expressions, and the class that a constructor is named after.
 use Rattle.std.specs.Prelude.{Bool, not, ◌&&◌, [], ◌∷◌, ◌++◌, ◌≡◌, ℕ, ◌-◌, ◌≤◌, eqb, length, take, drop}
 use Rattle.std.proofs.Math.Option.{Option, none, some}
-use Rattle.grammar.specs.Text.{Text, b, if◌then◌else◌, holds, run, after_last}
+use Rattle.grammar.specs.Text.{Text, b, if◌then◌otherwise◌, holds, run, after_last}
 use Rattle.grammar.specs.Grammar.{last, skipped}
 use Rattle.parser.specs.declared.leaf.Skipped.{Skipped}
 use Rattle.parser.specs.declared.leaf.Skipped.TheVariants as skipped_as
@@ -42,7 +42,7 @@ pub record Classed (t : Text) (n : ℕ) (r : Class) : Type 0 where
 -- `after_last` of ::, told of the byte before
 unfoldable pub behind_colons : ℕ → Text → Text → Text
 behind_colons last found [] = found
-behind_colons last found (c ∷ t) = behind_colons c (if eqb last 58 && eqb c 58 then t else found) t
+behind_colons last found (c ∷ t) = behind_colons c (if eqb last 58 && eqb c 58 then t otherwise found) t
 
 -- the loop at `end`: what was found last begins at `from`, and the byte before is `last`
 pub record Sought (w : Text) (start from end last : ℕ) : Type 0 where

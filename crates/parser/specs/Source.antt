@@ -1,12 +1,12 @@
 -- Source names as a loop reads them: one identifier after the other, with a count of the tags that are open. Assumes nothing.
 use Rattle.std.specs.Prelude.{◌&&◌, [], ◌∷◌, ℕ, zero, suc, ◌+◌, leb, length, drop}
-use Rattle.grammar.specs.Text.{Text, if◌then◌else◌, starts, run, digit, number}
+use Rattle.grammar.specs.Text.{Text, if◌then◌otherwise◌, starts, run, digit, number}
 use Rattle.parser.specs.declared.names.Found.{Found}
 use Rattle.parser.specs.declared.names.Found.TheVariants.{Part, Nothing}
 
 -- the place behind digits and an underscore, if there are any
 unfoldable pub behind_number : Text → ℕ → ℕ
-behind_number s at = let end = at + length (run (digit 10) (drop at s)) in if starts (drop end s) (95 ∷ []) then end + 1 else end
+behind_number s at = let end = at + length (run (digit 10) (drop at s)) in if starts (drop end s) (95 ∷ []) then end + 1 otherwise end
 
 -- the identifier behind its length, which is positive and not past the end
 unfoldable pub identified : Text → ℕ → Found
@@ -14,7 +14,7 @@ identified s at =
     let d = run (digit 10) (drop at s) in
     let from = at + length d in
     let n = number 10 0 d in
-    if leb 1 n && leb n (length (drop from s)) then Part from (from + n) else Nothing
+    if leb 1 n && leb n (length (drop from s)) then Part from (from + n) otherwise Nothing
 
 -- a closing bracket for each open tag
 unfoldable pub closers : ℕ → Text

@@ -1,6 +1,6 @@
 // Bytes that are passed over, and texts taken from the parts of a nested name.
 ghost use Rattle.std.specs.Prelude.{◌&&◌, ◌||◌, ◌≡◌, ◌+◌, ◌-◌, ◌≤◌, eqb, length, drop};
-ghost use Rattle.grammar.specs.Text.{b, if◌then◌else◌, holds, run, digit};
+ghost use Rattle.grammar.specs.Text.{b, if◌then◌otherwise◌, holds, run, digit};
 ghost use Rattle.grammar.specs.Limits.{most_text_bytes};
 ghost use Rattle.grammar.specs.Grammar.{digit_ahead, structor_ahead, std_ahead, open_after};
 ghost use Rattle.store.specs.Stack.{newest};
@@ -135,7 +135,7 @@ pub struct Class {
 
 // Where the last part of a name begins: at `next`, behind the bytes `last` and c, if they are ::.
 fn part_from(last: u8, c: u8, from: usize, next: usize) -> usize
-    ensures { result ≡ (if eqb last 58 && eqb c 58 then next else from) }
+    ensures { result ≡ (if eqb last 58 && eqb c 58 then next otherwise from) }
 {
     if last != b':' {
         return from;

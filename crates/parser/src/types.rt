@@ -1,7 +1,7 @@
 // What a type puts around the types below it.
 ghost use Rattle.std.specs.Prelude.{◌≡◌, [], ◌∷◌, ◌++◌, ℕ, ◌+◌, ◌-◌, ◌*◌, ◌≤◌, min, length};
 ghost use Rattle.std.proofs.Math.Option.{some};
-ghost use Rattle.grammar.specs.Text.{Text, b, if◌then◌else◌, holds};
+ghost use Rattle.grammar.specs.Text.{Text, b, if◌then◌otherwise◌, holds};
 ghost use Rattle.grammar.specs.Limits.{most_text_bytes, most_length, kept_bytes};
 ghost use Rattle.grammar.specs.Tables.{d_letters, wrappers};
 ghost use Rattle.grammar.specs.Reader.{State, by_code, find, word_for, give, recorded, refuse};
@@ -57,7 +57,7 @@ pub fn wrap(text: &mut [u8], store: &mut [u8], ends: &mut [u16], p: Parser, n: u
         → ((rest : Text) → find wrappers (c ∷ rest) ≡ some (u, rest))
         → Stands k d s base from (mem text.old store.old ends.old) p n t σ
         → Refines k d s base from (mem text.new store.new ends.new) result
-        (recorded (if holds slot t then at_slots (b u.1) t else t ++ b u.0) σ) }
+        (recorded (if holds slot t then at_slots (b u.1) t otherwise t ++ b u.0) σ) }
 {
     let top = p.top;
     let from = top - n;
@@ -139,7 +139,7 @@ pub fn wrap_member(
     ensures { (k d : ℕ) (s base : Text) (from : ℕ) (x y : Text) (σ : State) → length x ≡ c → length y ≡ m
         → Stands k d s base from (mem text.old store.old ends.old) p (c + m) (x ++ y) σ
         → Refines k d s base from (mem text.new store.new ends.new) result
-        (recorded (if holds slot y then at_slots (x ++ b "::*") y else y ++ b " " ++ x ++ b "::*") σ) }
+        (recorded (if holds slot y then at_slots (x ++ b "::*") y otherwise y ++ b " " ++ x ++ b "::*") σ) }
 {
     let top = p.top;
     let from = top - m;

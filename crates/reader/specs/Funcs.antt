@@ -1,6 +1,6 @@
 -- A function type on the stack: the type that it returns, and its parameters. Assumes nothing.
 use Rattle.std.specs.Prelude.{◌≡◌, ℕ, ◌+◌, min, List, [], ◌∷◌, ◌++◌, length}
-use Rattle.grammar.specs.Text.{Text, b, if◌then◌else◌, join}
+use Rattle.grammar.specs.Text.{Text, b, if◌then◌otherwise◌, join}
 use Rattle.grammar.specs.Limits.{most_length}
 use Rattle.grammar.specs.Reader.{State, recorded}
 use Rattle.grammar.specs.Grammar.{slot, only_void}
@@ -10,7 +10,7 @@ use Rattle.grammar.specs.declared.state.Read.{Read}
 
 -- the text of a function type that returns r and takes ts
 abbrev pub function_text : Text → List Text → Text
-function_text r ts = r ++ b " (" ++ (slot ∷ []) ++ b ")(" ++ (if only_void ts then [] else join (b ", ") ts) ++ b ")"
+function_text r ts = r ++ b " (" ++ (slot ∷ []) ++ b ")(" ++ (if only_void ts then [] otherwise join (b ", ") ts) ++ b ")"
 
 -- what stands between the two
 abbrev pub opening : Text

@@ -1,7 +1,7 @@
 -- Lists of texts, and the parts of a nested name, as the cycle keeps them.
 use Rattle.std.specs.Prelude.{◌≡◌, ℕ, zero, suc, ◌+◌, ◌*◌, ◌<◌, ◌≤◌, min, Bool, true, false, not, ◌&&◌, List, [], ◌∷◌, length, ◌==◌, nat_lt}
 use Prim.Native.Char.{code}
-use Rattle.grammar.specs.Text.{Text, b, choose, join, if◌then◌else◌}
+use Rattle.grammar.specs.Text.{Text, b, choose, join, if◌then◌otherwise◌}
 use Rattle.grammar.specs.Limits.{most_entry_bytes, most_length}
 use Rattle.grammar.specs.Reader.{State, Result, ok, refused, Reader, while, one_more}
 use Rattle.grammar.specs.Grammar.{reading, Production, ⟨type⟩, ⟨template-param⟩, ⟨unqualified-name⟩, ended, last}
@@ -122,7 +122,7 @@ longer_of q m = record { n = min (q.n + (2 * min q.count 1 + m)) most_length; la
 
 -- the production that a part beginning with c is
 unfoldable pub part_of : ℕ → Production
-part_of c = if c == (code "T") then ⟨template-param⟩ else ⟨unqualified-name⟩
+part_of c = if c == (code "T") then ⟨template-param⟩ otherwise ⟨unqualified-name⟩
 
 abbrev pub ReadsNewPart : ℕ → Text → Memory → Memory → Parser → Parts → Prefix → Type 0
 ReadsNewPart c s m m' p q r = ReadsPart (g.new_prefix reading (part_of c)) s m m' p q r

@@ -12,7 +12,7 @@ use lib.Dec.{eqb}
 use lib.ListN.{length, take, drop, get_or, set, length-set, length-drop, get_or-append, drop_of_length-le, take-append-drop}
 use lib.Seq.{paste, paste-suc, length_paste_head, length-take-le, get_or-append-add, get_or-drop, get_or-take, take-suc, take-length, take-take, take-add, drop-cons}
 use lib.Seq.{drop-drop, drop-length}
-use Rattle.grammar.specs.Text.{Text, if◌then◌else◌, same}
+use Rattle.grammar.specs.Text.{Text, if◌then◌otherwise◌, same}
 use Rattle.store.specs.Stack.{zeros, slots_in, newest}
 use Rattle.store.specs.Laws.Lists.{drop_take}
 use Rattle.store.specs.Laws.Slots.{slots_append}
@@ -67,24 +67,24 @@ module _ (l : Text) (f at n i : ℕ) (hf : f + n ≤ length l) (ha : at + n ≤ 
 -- ---- slots
 
 one_more : (l : Text) (f i : ℕ) → f + i < length l
-    → slots_in (take (i + 1) (drop f l)) ≡ slots_in (take i (drop f l)) + (if eqb (get_or l (f + i) 0) 1 then 1 else 0)
+    → slots_in (take (i + 1) (drop f l)) ≡ slots_in (take i (drop f l)) + (if eqb (get_or l (f + i) 0) 1 then 1 otherwise 0)
 unfolding slots_in
 one_more l f i h =
     ap (λ (k : ℕ). slots_in (take k (drop f l))) (add-one i)
     ∙ ap slots_in (take-suc (drop f l) i 0 (simp length-drop (omega arith)))
     ∙ slots_append (take i (drop f l)) (get_or (drop f l) i 0 ∷ [])
-    ∙ omega (arith, ap {B = ℕ} (λ (x : ℕ). if eqb x 1 then 1 else 0) (get_or-drop f l i 0))
+    ∙ omega (arith, ap {B = ℕ} (λ (x : ℕ). if eqb x 1 then 1 otherwise 0) (get_or-drop f l i 0))
 
 pub slot_there : (l : Text) (f i : ℕ) → f + i < length l → get_or l (f + i) 0 ≡ 1
     → slots_in (take (i + 1) (drop f l)) ≡ slots_in (take i (drop f l)) + 1
-unfolding if◌then◌else◌
-slot_there l f i h e = one_more l f i h ∙ ap (λ (q : Bool). slots_in (take i (drop f l)) + (if q then 1 else 0)) (eq-eqb (get_or l (f + i) 0) 1 e)
+unfolding if◌then◌otherwise◌
+slot_there l f i h e = one_more l f i h ∙ ap (λ (q : Bool). slots_in (take i (drop f l)) + (if q then 1 otherwise 0)) (eq-eqb (get_or l (f + i) 0) 1 e)
 
 pub slot_not : (l : Text) (f i : ℕ) → f + i < length l → (get_or l (f + i) 0 ≡ 1 → ⊥)
     → slots_in (take (i + 1) (drop f l)) ≡ slots_in (take i (drop f l))
-unfolding if◌then◌else◌
+unfolding if◌then◌otherwise◌
 slot_not l f i h e =
-    one_more l f i h ∙ ap (λ (q : Bool). slots_in (take i (drop f l)) + (if q then 1 else 0)) (ne_eqb (get_or l (f + i) 0) 1 e) ∙ omega arith
+    one_more l f i h ∙ ap (λ (q : Bool). slots_in (take i (drop f l)) + (if q then 1 otherwise 0)) (ne_eqb (get_or l (f + i) 0) 1 e) ∙ omega arith
 
 pub slots_none : (l : Text) (f k : ℕ) → k ≡ 0 → slots_in (take k (drop f l)) ≡ 0
 unfolding slots_in

@@ -1,6 +1,6 @@
 -- The stack of texts in a slice of 51,200 bytes: its first `top` bytes, the newest last; those behind them may be anything.
 use Rattle.std.specs.Prelude.{◌≡◌, [], ◌∷◌, ◌++◌, ℕ, ◌+◌, ◌-◌, ◌≤◌, min, length, take, drop, replicate, eqb}
-use Rattle.grammar.specs.Text.{Text, if◌then◌else◌}
+use Rattle.grammar.specs.Text.{Text, if◌then◌otherwise◌}
 use Rattle.grammar.specs.Limits.{kept_bytes, stack_bytes}
 
 unfoldable pub zeros : ℕ → Text
@@ -46,11 +46,11 @@ pub record Grown (text text' : Text) (top top' : ℕ) (t : Text) : Type 0 where
 -- how many of the bytes are slots
 unfoldable pub slots_in : Text → ℕ
 slots_in [] = 0
-slots_in (x ∷ t) = (if eqb x 1 then 1 else 0) + slots_in t
+slots_in (x ∷ t) = (if eqb x 1 then 1 otherwise 0) + slots_in t
 
 -- what stands for a byte where the text w is put in front of each slot
 unfoldable pub at_slot : Text → ℕ → Text
-at_slot w x = if eqb x 1 then w ++ (x ∷ []) else x ∷ []
+at_slot w x = if eqb x 1 then w ++ (x ∷ []) otherwise x ∷ []
 
 -- the newest n bytes, as code takes them
 abbrev pub lent : Text → ℕ → ℕ → Text

@@ -2,7 +2,7 @@
 use Rattle.std.specs.Prelude.{Bool, true, false, List, [], ◌∷◌, ◌++◌, ◌≡◌, refl, ℕ, ◌≤◌, length, ltb}
 use Rattle.std.proofs.Common.{sym, ◌∙◌, ap, arith, le-ltb}
 use Prim.Native.Char.{code}
-use Rattle.grammar.specs.Text.{Text, b, if◌then◌else◌, choose, same, starts}
+use Rattle.grammar.specs.Text.{Text, b, if◌then◌otherwise◌, choose, same, starts}
 use Rattle.grammar.specs.Limits.{most_open, most_text_bytes}
 use Rattle.grammar.specs.Reader.{State, Result, ok, refused, start, find}
 use Rattle.grammar.specs.Grammar.{⟨encoding⟩, reading, ended}
@@ -39,7 +39,7 @@ refused_not n x i = let z : ◌≡◌ {A = ℕ} 0 1 = cc in omega arith
 
 module _ (σ : Sym) (e : Enc) (us : List Ty) (wf : WfEnc e) where
   finished_named : (x : Text) (s : State) → Told σ e us x s → finished (ok x s) ≡ named (print_enc e)
-  unfolding finished ended same if◌then◌else◌
+  unfolding finished ended same if◌then◌otherwise◌
   finished_named x s h = rw (h.whole, h.text, printed_clean e wf)
 
   told : (o : Result Text) (x : Text) → Verdict (RoomSym σ e us) (Told σ e us) o → finished o ≡ named x → Accepted σ e us x
@@ -56,17 +56,17 @@ module _ (σ : Sym) (e : Enc) (us : List Ty) (wf : WfEnc e) where
 -- ---------------------------------------------------------------- the symbol
 
 accepted_front : (limit : ℕ) (u x : Text) → demangle limit (code "_" ∷ code "Z" ∷ u) ≡ named x → mangled_name u ≡ named x
-unfolding demangle front find choose starts b if◌then◌else◌
+unfolding demangle front find choose starts b if◌then◌otherwise◌
 accepted_front limit u x h = go (ltb limit (length (code "_" ∷ code "Z" ∷ u))) (high (code "_" ∷ code "Z" ∷ u)) h
   where
-    go : (p q : Bool) → (if p then refusal 1 else if q then refusal 2 else mangled_name u) ≡ named x → mangled_name u ≡ named x
+    go : (p q : Bool) → (if p then refusal 1 otherwise if q then refusal 2 otherwise mangled_name u) ≡ named x → mangled_name u ≡ named x
     go true q i = absurd (refused_not 1 x i)
     go false true i = absurd (refused_not 2 x i)
     go false false i = i
 
 front_accepts : (limit : ℕ) (u : Text) → length (code "_" ∷ code "Z" ∷ u) ≤ limit → high (code "_" ∷ code "Z" ∷ u) ≡ false
     → demangle limit (code "_" ∷ code "Z" ∷ u) ≡ mangled_name u
-unfolding demangle front find choose starts b if◌then◌else◌
+unfolding demangle front find choose starts b if◌then◌otherwise◌
 front_accepts limit u h i = rw (le-ltb limit (length (code "_" ∷ code "Z" ∷ u)) h, i)
 
 mangled_is : (u : Text) → mangled_name u ≡ finished (reading ⟨encoding⟩ (at u [] [] 0 [] false))

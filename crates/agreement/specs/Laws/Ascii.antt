@@ -4,7 +4,7 @@ use Rattle.std.proofs.lemmas.Bool.{false≢true, lt-leb}
 use Rattle.std.proofs.Math.Option.{Option, none, some}
 use Prim.Native.Char.{code}
 use Rattle.std.proofs.Common.{arith, leb-true, le-leb}
-use Rattle.grammar.specs.Text.{Text, if◌then◌else◌, between, digit, digit_value}
+use Rattle.grammar.specs.Text.{Text, if◌then◌otherwise◌, between, digit, digit_value}
 use Rattle.grammar.specs.Names.{high}
 use Rattle.catalogue.specs.Bytes.{all, and_left, and_right, eqb_eq}
 use Rattle.catalogue.specs.Laws.Bytes.{all_append}
@@ -31,14 +31,14 @@ low_ascii : (x : ℕ) → low x ≡ true → ascii x ≡ true
 low_ascii x h = let k = leb-true x 95 h in le-leb x 127 (omega arith)
 
 digit36_ascii : (x : ℕ) → digit 36 x ≡ true → ascii x ≡ true
-unfolding digit digit_value if◌then◌else◌
+unfolding digit digit_value if◌then◌otherwise◌
 digit36_ascii x h = go (between 48 57 x) refl (between 65 90 x) refl (between 97 122 x) refl h
   where
     top : (from to : ℕ) → to ≤ 127 → between from to x ≡ true → ascii x ≡ true
     top from to l e = let k = leb-true x to (and_right (leb from x) (leb x to) e) in le-leb x 127 (omega arith)
 
     go : (p : Bool) → between 48 57 x ≡ p → (q : Bool) → between 65 90 x ≡ q → (r : Bool) → between 97 122 x ≡ r
-        → ltb (if p then x - 48 else if q then x - 65 + 10 else if r then x - 97 + 10 else 36) 36 ≡ true → ascii x ≡ true
+        → ltb (if p then x - 48 otherwise if q then x - 65 + 10 otherwise if r then x - 97 + 10 otherwise 36) 36 ≡ true → ascii x ≡ true
     go true e q i r j k = top 48 57 (omega arith) e
     go false e true i r j k = top 65 90 (omega arith) i
     go false e false i true j k = top 97 122 (omega arith) j

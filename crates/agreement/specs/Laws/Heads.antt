@@ -3,7 +3,7 @@ use Rattle.std.specs.Prelude.{Bool, true, false, not, ◌&&◌, ◌||◌, [], �
 use Rattle.std.proofs.lemmas.Bool.{false≢true}
 use Rattle.std.proofs.Common.{append_assoc, arith, le-leb, ne_eqb, leb-true, ltb-true, ltb-false}
 use Prim.Native.Char.{code}
-use Rattle.grammar.specs.Text.{Text, b, if◌then◌else◌, same, starts, holds, digit, digit_value}
+use Rattle.grammar.specs.Text.{Text, b, if◌then◌otherwise◌, same, starts, holds, digit, digit_value}
 use Rattle.grammar.specs.Grammar as g
 use Rattle.catalogue.specs.Bytes.{all, first, and_left}
 use Rattle.catalogue.specs.Laws.Bytes.{not-true, all_append}
@@ -47,20 +47,20 @@ named n h =
 -- ---------------------------------------------------------------- references
 
 digit_of_low : (d : ℕ) → d < 36 → low (digit_of d) ≡ true
-unfolding digit_of if◌then◌else◌
+unfolding digit_of if◌then◌otherwise◌
 digit_of_low d h = go (ltb d 10) refl
   where
-    go : (p : Bool) → ltb d 10 ≡ p → low (if p then 48 + d else 65 + (d - 10)) ≡ true
+    go : (p : Bool) → ltb d 10 ≡ p → low (if p then 48 + d otherwise 65 + (d - 10)) ≡ true
     go true e = let k = ltb-true d 10 e in le-leb (48 + d) 95 (omega arith)
     go false e = let k = ltb-false d 10 e in le-leb (65 + (d - 10)) 95 (omega arith)
 
 base36_low : (k n : ℕ) → n ≤ k → all low (base36 k n) ≡ true
-unfolding base36 if◌then◌else◌
+unfolding base36 if◌then◌otherwise◌
 base36_low zero n h = rw (digit_of_low n (omega arith)) refl
 base36_low (suc k) n h = go (ltb n 36) refl (λ l. base36_low k (n / 36) l)
   where
     go : (p : Bool) → ltb n 36 ≡ p → (n / 36 ≤ k → all low (base36 k (n / 36)) ≡ true)
-        → all low (if p then digit_of n ∷ [] else base36 k (n / 36) ++ (digit_of (n % 36) ∷ [])) ≡ true
+        → all low (if p then digit_of n ∷ [] otherwise base36 k (n / 36) ++ (digit_of (n % 36) ∷ [])) ≡ true
     go true e ih = rw (digit_of_low n (ltb-true n 36 e)) refl
     go false e ih =
         let l = ltb-false n 36 e in
@@ -160,7 +160,7 @@ unfolding heads
 digit_heads x h = rw h refl
 
 pub pre_heads : (q : Pre) (r : Text) → first heads (spell_pre q ++ r) ≡ true
-unfolding spell heads digit digit_value if◌then◌else◌
+unfolding spell heads digit digit_value if◌then◌otherwise◌
 pre_heads (p_ref i) r = refl
 pre_heads (p_root n) r = first_map (digit 10) heads digit_heads (name_bytes n ++ r) (name_first n r)
 pre_heads (p_sub q n) r = rw (append_assoc (spell_pre q) (name_bytes n) r) (pre_heads q (name_bytes n ++ r))

@@ -9,7 +9,7 @@ use Prim.Native.Char.{code}
 use Rattle.std.proofs.Math.ListN.{length, get_elem?, length-append}
 use Rattle.std.proofs.Math.Seq.{take-append_seam, drop-append_seam}
 use borrow.Author.Tests.{le-leb}
-use Rattle.grammar.specs.Text.{Text, b, if◌then◌else◌, choose, starts, digit, digit_value, number}
+use Rattle.grammar.specs.Text.{Text, b, if◌then◌otherwise◌, choose, starts, digit, digit_value, number}
 use Rattle.grammar.specs.Tables.{Row, ◌⇒◌, abbreviations}
 use Rattle.grammar.specs.Reader.{State, Reader, onto, refuse, give, go_to, find, by_code, need, eat, every}
 use Rattle.grammar.specs.Grammar as g
@@ -38,7 +38,7 @@ starts_miss p (x ∷ t) (y ∷ w) h k = go (eqb x y) refl
     go true e = absurd (false≢true (sym (not-true (p y) k) ∙ (rw (eqb_eq x y e) at h)))
 
 pub find_miss : {A : Type 0} (p : ℕ → Bool) (rows : List (Row A)) (t : Text) → first p t ≡ true → clear p rows ≡ true → find rows t ≡ none
-unfolding find clear if◌then◌else◌
+unfolding find clear if◌then◌otherwise◌
 find_miss p [] t h k = refl
 find_miss p ((w ⇒ y) ∷ rows) t h k =
     rw (starts_miss p t (b w) h (and_left (first (λ y. not (p y)) (b w)) (clear p rows) k))
@@ -78,7 +78,7 @@ clear_abbreviations = refl
 
 module _ (ds n r : Text) (l a : List Text) (d : ℕ) (c : Text) (q : Bool) (h : Named ds n) (tag : starts r (b "B") ≡ false) where
   pub source_name_is : reading ⟨source-name⟩ (at (ds ++ (n ++ r)) l a d c q) ≡ give n (at r l a d c q)
-  unfolding production g.source_name every onto go_to by_code find choose if◌then◌else◌
+  unfolding production g.source_name every onto go_to by_code find choose if◌then◌otherwise◌
   source_name_is =
       let e : first (digit 10) (n ++ r) ≡ false = first_append (digit 10) n r h.long ∙ h.ends in
       let k : length n ≤ length (n ++ r) = simp length-append (omega arith) in
@@ -95,12 +95,12 @@ module _ (ds n r : Text) (l a : List Text) (d : ℕ) (c : Text) (q : Bool) (h : 
       )
 
   pub unqualified_name_is : reading ⟨unqualified-name⟩ (at (ds ++ (n ++ r)) l a d c q) ≡ give n (at r l a d c q)
-  unfolding production g.unqualified_name onto clear digit digit_value b if◌then◌else◌
+  unfolding production g.unqualified_name onto clear digit digit_value b if◌then◌otherwise◌
   unqualified_name_is =
       let e = first_of (digit 10) ds (n ++ r) h.lead in
       reading_is ⟨unqualified-name⟩ (at (ds ++ (n ++ r)) l a d c q)
       ∙ by_code_skip _ _ _ _ (find_miss (digit 10) _ (ds ++ (n ++ r)) e refl)
-      ∙ ap (λ z. reading (if z then ⟨source-name⟩ else ⟨operator-name⟩) (at (ds ++ (n ++ r)) l a d c q)) (digit_ahead_is (ds ++ (n ++ r)) ∙ e)
+      ∙ ap (λ z. reading (if z then ⟨source-name⟩ otherwise ⟨operator-name⟩) (at (ds ++ (n ++ r)) l a d c q)) (digit_ahead_is (ds ++ (n ++ r)) ∙ e)
       ∙ source_name_is
 
 -- ---------------------------------------------------------------- references
@@ -120,7 +120,7 @@ all_first p (y ∷ ds) r x h k = and_left (p y) (all p ds) h
 module _ (ds r : Text) (l a : List Text) (d : ℕ) (c : Text) (q : Bool) (h : Numbered ds) where
   pub substitution_is :
       reading ⟨substitution⟩ (at (code "S" ∷ (ds ++ (code "_" ∷ r))) l a d c q) ≡ choose (get_elem? l (index 36 ds)) give (refuse 7) (at r l a d c q)
-  unfolding production g.substitution need eat every onto go_to starts b if◌then◌else◌ by_code choose digit digit_value
+  unfolding production g.substitution need eat every onto go_to starts b if◌then◌otherwise◌ by_code choose digit digit_value
   substitution_is =
       rw (
         reading_is ⟨substitution⟩ (at (code "S" ∷ (ds ++ (code "_" ∷ r))) l a d c q),

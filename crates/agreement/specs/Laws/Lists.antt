@@ -4,7 +4,7 @@ use Rattle.std.proofs.lemmas.Bool.{false≢true}
 use Rattle.std.proofs.Common.{append_assoc, sym, arith, length-append, ne_eqb}
 use Rattle.std.proofs.Math.Path.{refl}
 use Prim.Native.Char.{code}
-use Rattle.grammar.specs.Text.{Text, b, if◌then◌else◌, choose, same, starts, holds, digit}
+use Rattle.grammar.specs.Text.{Text, b, if◌then◌otherwise◌, choose, same, starts, holds, digit}
 use Rattle.grammar.specs.Limits.{most_open, most_text_bytes}
 use Rattle.grammar.specs.Tables.{◌⇒◌, letters, suffixes}
 use Rattle.grammar.specs.Reader.{State, ok, Reader, onto, every, go_to, steps, word_for, push_arg, fits}
@@ -58,7 +58,7 @@ kind_line kl = refl
 kind_line km = refl
 
 kind_short : (k : Kind) → length (word (letter_of k)) ≤ most_text_bytes
-unfolding word word_for letters choose same b if◌then◌else◌
+unfolding word word_for letters choose same b if◌then◌otherwise◌
 kind_short kb = omega arith
 kind_short ki = omega arith
 kind_short kj = omega arith
@@ -92,7 +92,7 @@ no_minus (x ∷ v) h =
     rw (ne_eqb x 110 (λ e. omega arith))
 
 literal_is : (k : Kind) (s : Bool) (v : Text) → lit_ok k s v ≡ true → g.literal (word (letter_of k)) (minus s ++ v) ≡ literal k s v
-unfolding g.literal word word_for letters suffixes choose same lit_ok if◌then◌else◌ b
+unfolding g.literal word word_for letters suffixes choose same lit_ok if◌then◌otherwise◌ b
 literal_is kb true v h = absurd (false≢true h)
 literal_is kb false v h = rw (no_minus v (lit_numeral kb false v h))
 literal_is ki true v h = unfold starts in refl

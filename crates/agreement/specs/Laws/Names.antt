@@ -4,7 +4,7 @@ use Rattle.std.proofs.lemmas.Bool.{false≢true}
 use Rattle.std.proofs.Common.{append_assoc, sym, ◌∙◌, ap, arith, length-append, ltb-true, lt-ltb}
 use Rattle.std.proofs.Math.Path.{refl}
 use Prim.Native.Char.{code}
-use Rattle.grammar.specs.Text.{Text, b, if◌then◌else◌, starts, join, each, digit, digit_value}
+use Rattle.grammar.specs.Text.{Text, b, if◌then◌otherwise◌, starts, join, each, digit, digit_value}
 use Rattle.grammar.specs.Limits.{most_open}
 use Rattle.grammar.specs.Reader.{State, Result, ok, Reader, onto, refuse, entered, find, set_depth}
 use Rattle.grammar.specs.Grammar as g
@@ -34,7 +34,7 @@ module _ {room : Type 0} {y r : Text} {l : List Text} {d : ℕ} {e : Text} {K : 
       (m : Reader Text) (r' : Text) (l' a : List Text) (c : Text) (q : Bool) → (room → d < most_open) →
       (d < most_open → Verdict room (Names y r l (d + 1) e K) (m (at r' l' a (d + 1) c q)))
       → Verdict room (Names y r l d e K) (entered m (at r' l' a d c q))
-  unfolding entered onto set_depth if◌then◌else◌
+  unfolding entered onto set_depth if◌then◌otherwise◌
   entered_name m r' l' a c q w h = go (ltb d most_open) refl
     where
       leave : Text → Reader Text
@@ -45,7 +45,7 @@ module _ {room : Type 0} {y r : Text} {l : List Text} {d : ℕ} {e : Text} {K : 
       out (stops k) = stops k
 
       go : (z : Bool) → ltb d most_open ≡ z → Verdict room (Names y r l d e K) ((if z then (λ s. onto (λ _ u. onto leave (m u)) (set_depth
-          (d + 1) s)) else refuse 8) (at r' l' a d c q))
+          (d + 1) s)) otherwise refuse 8) (at r' l' a d c q))
       go true i = out (h (ltb-true d most_open i))
       go false i = stops (λ p. false≢true (sym i ∙ lt-ltb d most_open (w p)))
 
@@ -66,7 +66,7 @@ SaysName k t us r m o = Verdict (Room [] us [] 0 m (bytes t) 0 0) (Names (print 
 
 flat_says : (n r : Text) → name_ok n ≡ true → starts r (b "I") ≡ false → starts r (b "B") ≡ false
     → SaysName false (root n) [] r 1 (reading ⟨name⟩ (at (name_bytes n ++ r) [] [] 0 [] false))
-unfolding production g.name g.name_inner g.unscoped_name print texts each clear b digit digit_value if◌then◌else◌
+unfolding production g.name g.name_inner g.unscoped_name print texts each clear b digit digit_value if◌then◌otherwise◌
 flat_says n r o e f =
     in_reading _ _ (entered_name _ _ _ _ _ _ (λ p. let z = p.deep in omega arith)
     (λ k. at_code_miss _ _ _ (find_miss (digit 10) _ (name_bytes n ++ r) (name_first n r) refl)
@@ -76,7 +76,7 @@ flat_says n r o e f =
 scoped_says : (k : Bool) (n : Text) (t : Ty) (us : List Ty) (x r : Text) (m : ℕ) → name_ok n ≡ true → first heads x ≡ true
     → SaysPre [] us t x (name_bytes n ++ (code "E" ∷ r)) [] 1 m [] false
     → SaysName k (sub t n) us r (suc m) (reading ⟨name⟩ (at (code "N" ∷ (const_byte k ++ x)) [] [] 0 [] false))
-unfolding production g.name g.name_inner print texts find starts b if◌then◌else◌
+unfolding production g.name g.name_inner print texts find starts b if◌then◌otherwise◌
 scoped_says k n t us x r m o h s =
     let len = name_longer n (code "E" ∷ r) in
     let part : length (print t) ≤ length (print t ++ (b "::" ++ n)) = rw (length-append (print t) (b "::" ++ n)) (omega arith) in

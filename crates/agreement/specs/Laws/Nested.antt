@@ -5,7 +5,7 @@ use Rattle.std.proofs.Math.Path.{refl, ap}
 use Rattle.std.proofs.Common.{◌∙◌, arith, length-append}
 use Prim.Native.Char.{code}
 use Rattle.std.proofs.Math.ListN.{get_elem?}
-use Rattle.grammar.specs.Text.{Text, b, if◌then◌else◌, choose, same, starts, holds, join, each, digit, digit_value}
+use Rattle.grammar.specs.Text.{Text, b, if◌then◌otherwise◌, choose, same, starts, holds, join, each, digit, digit_value}
 use Rattle.grammar.specs.Limits.{most_open, most_text_bytes}
 use Rattle.grammar.specs.Reader.{State, ok, Reader, onto, return, refuse, give, need, eat, every, go_to, steps, while, up_to_E, see, push_sub, set_args}
 use Rattle.grammar.specs.Reader.{set_cv, set_templated, bytes_of}
@@ -42,11 +42,11 @@ pub record Goes (t : Text) : Type 0 where
   pub some : same t [] ≡ false
 
 pub goes_heads : (t : Text) → first heads t ≡ true → Goes t
-unfolding heads digit digit_value if◌then◌else◌ b
+unfolding heads digit digit_value if◌then◌otherwise◌ b
 goes_heads t h = record { no_E = starts_miss heads t (b "E") h refl; some = some_bytes heads t h }
 
 pub goes_digit : (t : Text) → first (digit 10) t ≡ true → Goes t
-unfolding digit digit_value if◌then◌else◌ b
+unfolding digit digit_value if◌then◌otherwise◌ b
 goes_digit t h = record { no_E = starts_miss (digit 10) t (b "E") h refl; some = some_bytes (digit 10) t h }
 
 pub goes_I : (t : Text) → Goes (code "I" ∷ t)
@@ -77,7 +77,7 @@ old ts x = λ s. ok (parts (ts ++ (x ∷ []))) s
 
 abbrev new : List Text → Text → Reader Parts
 new ts x =
-    λ s. onto (λ final u. onto (λ _ v. ok (parts (ts ++ (x ∷ []))) v) ((if final then return tt else push_sub (join (b "::") (ts ++
+    λ s. onto (λ final u. onto (λ _ v. ok (parts (ts ++ (x ∷ []))) v) ((if final then return tt otherwise push_sub (join (b "::") (ts ++
     (x ∷ [])))) u)) (see "E" s)
 
 abbrev listed : List Text → Text → Unit {0} → Reader Parts
@@ -89,11 +89,11 @@ args ts x = λ s. onto (listed ts x) (choose (last ts) (λ _. push_sub (join (b 
 module _ (ts : List Text) (x : Text) (l a : List Text) (d : ℕ) (c : Text) (q : Bool) where
   new_more : (r : Text) → starts r (b "E") ≡ false
       → new ts x (at r l a d c q) ≡ onto (λ _ v. ok (parts (ts ++ (x ∷ []))) v) (push_sub (join (b "::") (ts ++ (x ∷ []))) (at r l a d c q))
-  unfolding see onto if◌then◌else◌
+  unfolding see onto if◌then◌otherwise◌
   new_more r h = rw h
 
   new_last : (r : Text) → new ts x (at (code "E" ∷ r) l a d c q) ≡ ok (parts (ts ++ (x ∷ []))) (at (code "E" ∷ r) l a d c q)
-  unfolding see onto if◌then◌else◌ starts b
+  unfolding see onto if◌then◌otherwise◌ starts b
   new_last r = refl
 
   listed_is : (r : Text) → listed ts x tt (at r l a d c q) ≡ ok (parts (onto_last x ts)) (at r l a d c (starts r (b "E")))
@@ -171,7 +171,7 @@ module _ {B : Type 0} {room : Type 0} {Q : B → State → Type 0} (K : Parts �
 
 -- no qualifier stands here
 pub no_qualifier : (t : Text) → first heads t ≡ true → first (λ x. holds x (b "KVrRO")) t ≡ false
-unfolding heads digit digit_value if◌then◌else◌ holds b
+unfolding heads digit digit_value if◌then◌otherwise◌ holds b
 no_qualifier [] h = refl
 no_qualifier (x ∷ t) h =
     rw (not_last heads 75 x refl h, not_last heads 86 x refl h, not_last heads 114 x refl h, not_last heads 82 x refl h, not_last heads 79 x refl h)
@@ -184,13 +184,13 @@ const_qualifies false = refl
 -- behind the E: the qualifiers' text is kept, the parts' text returned
 abbrev pub finish : Bool → Parts → Reader Text
 finish k p =
-    λ s. onto (λ _ u. onto (λ _. give (join (b "::") p.texts)) ((if p.structor then set_templated false else return tt) u)) (set_cv
+    λ s. onto (λ _ u. onto (λ _. give (join (b "::") p.texts)) ((if p.structor then set_templated false otherwise return tt) u)) (set_cv
     (each g.qualifier (const_byte k)) s)
 
 nested_name_is : (k : Bool) (x : Text) (l a : List Text) (d : ℕ) (c : Text) (q : Bool) → first heads x ≡ true
     → reading ⟨nested-name⟩ (at (code "N" ∷ (const_byte k ++ x)) l a d c q)
     ≡ onto (finish k) (onto closed (parts_loop (suc (length x)) (parts []) (at x l a d c q)))
-unfolding production g.nested_name need eat every onto go_to up_to_E while starts b if◌then◌else◌
+unfolding production g.nested_name need eat every onto go_to up_to_E while starts b if◌then◌otherwise◌
 nested_name_is k x l a d c q h =
     rw (
       reading_is ⟨nested-name⟩ (at (code "N" ∷ (const_byte k ++ x)) l a d c q),
@@ -204,7 +204,7 @@ ending F k p = λ s. onto (λ y u. onto F (finish k y u)) (closed p s)
 
 finish_is : (k : Bool) (ts : List Text) (r : Text) (l a : List Text) (d : ℕ) (c : Text) (q : Bool)
     → finish k (parts ts) (at r l a d c q) ≡ give (join (b "::") ts) (at r l a d (each g.qualifier (const_byte k)) q)
-unfolding onto set_cv if◌then◌else◌
+unfolding onto set_cv if◌then◌otherwise◌
 finish_is k ts r l a d c q = refl
 
 module _ {B : Type 0} {room : Type 0} {Q : B → State → Type 0} (F : Text → Reader B) where
@@ -241,7 +241,7 @@ SaysPre us vs t x r a d m c q =
 
 pub pre_ref_says : (i : ℕ) (t : Ty) (us : List Ty) (r : Text) (a : List Text) (d : ℕ) (c : Text) (q : Bool) → get_elem? us i ≡ some t
     → SaysPre us us t (code "S" ∷ (ref_digits i ++ (code "_" ∷ r))) r a d 0 c q
-unfolding heads join digit digit_value if◌then◌else◌
+unfolding heads join digit digit_value if◌then◌otherwise◌
 pre_ref_says i t us r a d c q e B room Q K n l h w k =
     let len : length r < length (ref_digits i ++ (code "_" ∷ r)) = rw (length-append (ref_digits i) (code "_" ∷ r)) (omega arith) in
     part_by K n (parts []) _ (omega arith) (goes_heads _ refl)

@@ -2,7 +2,7 @@
 use Rattle.std.specs.Prelude.{Bool, true, false, List, [], ◌∷◌, ◌++◌, ◌≡◌, refl, ℕ, suc, ◌+◌, ◌≤◌, ◌<◌, max, length}
 use Rattle.std.proofs.Common.{◌∙◌, ap, arith, length-append}
 use Prim.Native.Char.{code}
-use Rattle.grammar.specs.Text.{Text, b, if◌then◌else◌, choose, same, join}
+use Rattle.grammar.specs.Text.{Text, b, if◌then◌otherwise◌, choose, same, join}
 use Rattle.grammar.specs.Reader.{ok, Reader, onto, return, recorded}
 use Rattle.grammar.specs.Grammar as g
 use Rattle.grammar.specs.Grammar.{⟨type⟩, ⟨template-args⟩, reading, onto_last, last}
@@ -26,15 +26,15 @@ use Rattle.agreement.specs.Laws.Nested.{SaysPre, parts, ending, nested_by, endin
 -- ---------------------------------------------------------------- N .. E as a type
 
 sum_push_new : (f : Ty → ℕ) (t : Ty) (us : List Ty) → f t ≡ 0 → sum f (push_new t us) ≡ sum f us
-unfolding push_new if◌then◌else◌
+unfolding push_new if◌then◌otherwise◌
 sum_push_new f t us z = go (last_is t us)
   where
-    go : (p : Bool) → sum f (if p then us else push t us) ≡ sum f us
+    go : (p : Bool) → sum f (if p then us otherwise push t us) ≡ sum f us
     go true = refl
     go false = let k = sum_push f t us in omega arith
 
 abbrev entered_new : Text → Reader Text
-entered_new t = λ s. onto (λ l. if choose (last l) (same t) false then return t else recorded t) (ok s.subs s)
+entered_new t = λ s. onto (λ l. if choose (last l) (same t) false then return t otherwise recorded t) (ok s.subs s)
 
 pub nest_sub_says : (n : Text) (t : Ty) (us vs : List Ty) (x r : Text) (a : List Text) (d m : ℕ) (c : Text) (q : Bool) → Wf (sub t n) → AllWf vs
     → first heads x ≡ true → SaysPre us vs t x (name_bytes n ++ (code "E" ∷ r)) a (d + 1) m c q

@@ -1,7 +1,7 @@
 -- The types behind a function's name, to the symbol's end.
 use Rattle.std.specs.Prelude.{Bool, true, false, not, ◌&&◌, List, [], ◌∷◌, ◌++◌, ◌≡◌, refl, ℕ, ◌+◌, ◌≤◌, ◌<◌, max, length}
 use Rattle.std.proofs.Common.{append_assoc, append-nil, arith, length-append}
-use Rattle.grammar.specs.Text.{Text, b, if◌then◌else◌, choose, same, holds, join}
+use Rattle.grammar.specs.Text.{Text, b, if◌then◌otherwise◌, choose, same, holds, join}
 use Rattle.grammar.specs.Limits.{most_open}
 use Rattle.grammar.specs.Tables.{letters}
 use Rattle.grammar.specs.Reader.{Result, Reader, onto, steps, word_for}
@@ -130,7 +130,7 @@ reads_types (s_also s ss) us w =
 -- ---------------------------------------------------------------- what is printed
 
 word_void : word lv ≡ b "void"
-unfolding word word_for letters choose same b if◌then◌else◌
+unfolding word word_for letters choose same b if◌then◌otherwise◌
 word_void = refl
 
 void_is : (t : Ty) → Wf t → same (print t) (b "void") ≡ same_ty t (letter lv)
@@ -144,10 +144,10 @@ only_void_is (one t) f = void_is t f
 only_void_is (also t (one u)) f = refl
 only_void_is (also t (also u xs)) f = refl
 
-pub types_text : (xs : Args) → WfArgs xs → (if only_void (items xs) && same [] [] then [] else join (b ", ") (items xs)) ≡ inside (is_void xs) xs
-unfolding same if◌then◌else◌
+pub types_text : (xs : Args) → WfArgs xs → (if only_void (items xs) && same [] [] then [] otherwise join (b ", ") (items xs)) ≡ inside (is_void xs) xs
+unfolding same if◌then◌otherwise◌
 types_text xs f = rw (only_void_is xs f, join_items xs) (go (is_void xs))
   where
-    go : (z : Bool) → (if z && true then [] else print_args xs) ≡ inside z xs
+    go : (z : Bool) → (if z && true then [] otherwise print_args xs) ≡ inside z xs
     go true = refl
     go false = refl

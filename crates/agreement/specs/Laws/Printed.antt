@@ -4,7 +4,7 @@ use Rattle.std.proofs.lemmas.Bool.{false≢true, eqb-false}
 use Rattle.std.proofs.Common.{append_assoc, sym, ◌∙◌, ap, arith, length-append, ne_eqb}
 use Rattle.std.proofs.Math.Option.{none, some}
 use Prim.Native.Char.{code}
-use Rattle.grammar.specs.Text.{Text, b, if◌then◌else◌, same, holds, ends, join, each, digit, digit_value}
+use Rattle.grammar.specs.Text.{Text, b, if◌then◌otherwise◌, same, holds, ends, join, each, digit, digit_value}
 use Rattle.grammar.specs.Tables.{letters}
 use Rattle.grammar.specs.Reader.{word_for}
 use Rattle.grammar.specs.Text.{choose}
@@ -108,15 +108,15 @@ name_words (x ∷ n) h =
     (and_right (not (digit 10 x)) (all word_byte (x ∷ n) && not (listed (x ∷ n) reserved)) h)
 
 word_free : (x : ℕ) → word_byte x ≡ true → free x ≡ true
-unfolding word_byte digit digit_value if◌then◌else◌
+unfolding word_byte digit digit_value if◌then◌otherwise◌
 word_free = unlike word_byte slot refl
 
 digit_free : (x : ℕ) → digit 10 x ≡ true → free x ≡ true
-unfolding digit digit_value if◌then◌else◌
+unfolding digit digit_value if◌then◌otherwise◌
 digit_free = unlike (digit 10) slot refl
 
 letter_free : (l : Letter) → all free (word l) ≡ true
-unfolding word word_for letters choose same b if◌then◌else◌
+unfolding word word_for letters choose same b if◌then◌otherwise◌
 letter_free l = every_letter (λ x. all free
     (word x) ≡ true) refl refl refl refl refl refl refl refl refl refl refl refl refl refl refl refl refl refl refl refl refl l
 
@@ -139,7 +139,7 @@ numeral_some v h = and_left (first (digit 10) v) (all (digit 10) v && not (leadi
 
 -- the digits of a number's literal
 pub lit_numeral : (k : Kind) (g : Bool) (v : Text) → lit_ok k g v ≡ true → all (digit 10) v ≡ true
-unfolding lit_ok same b digit digit_value if◌then◌else◌
+unfolding lit_ok same b digit digit_value if◌then◌otherwise◌
 lit_numeral kb g v h = go v (and_right (not g) (same v (b "0") || same v (b "1")) h)
   where
     go : (v : Text) → same v (b "0") || same v (b "1") ≡ true → all (digit 10) v ≡ true
@@ -158,8 +158,8 @@ unfolding b
 signed_free true v m h k = all_both free v m (all_map (digit 10) free digit_free v h) k
 signed_free false v m h k = all_both free v m (all_map (digit 10) free digit_free v h) k
 
-truth_free : (z : Bool) → all free (if z then b "true" else b "false") ≡ true
-unfolding b if◌then◌else◌
+truth_free : (z : Bool) → all free (if z then b "true" otherwise b "false") ≡ true
+unfolding b if◌then◌otherwise◌
 truth_free true = refl
 truth_free false = refl
 
@@ -226,7 +226,7 @@ enc_free (enc c t (some xs)) f =
     (all_both free (inside (is_void xs) xs) (b ")" ++ tail c) (inside_free (is_void xs) xs f.1.0) (tail_free c))
 
 no_slots : (t : Text) → all free t ≡ true → without_slots t ≡ t
-unfolding without_slots each if◌then◌else◌
+unfolding without_slots each if◌then◌otherwise◌
 no_slots [] h = refl
 no_slots (x ∷ t) h =
     rw (not_slot x (and_left (not (eqb slot x)) (all free t) h)) (ap (◌∷◌ x) (no_slots t (and_right (not (eqb slot x)) (all free t) h)))
@@ -264,11 +264,11 @@ abbrev angle : ℕ
 angle = code ">"
 
 ends_word : (n : Text) → name_ok n ≡ true → ends angle n ≡ false
-unfolding word_byte digit digit_value if◌then◌else◌
+unfolding word_byte digit digit_value if◌then◌otherwise◌
 ends_word n h = ends_pass word_byte angle refl n (name_words n h)
 
 ends_letter : (l : Letter) → ends angle (word l) ≡ false
-unfolding ends word word_for letters choose same b if◌then◌else◌
+unfolding ends word word_for letters choose same b if◌then◌otherwise◌
 ends_letter l = every_letter (λ x. ends angle
     (word x) ≡ false) refl refl refl refl refl refl refl refl refl refl refl refl refl refl refl refl refl refl refl refl refl l
 
@@ -289,14 +289,14 @@ pub first_long : (p : ℕ → Bool) (v : Text) → first p v ≡ true → 1 ≤ 
 first_long p [] h = absurd (false≢true h)
 first_long p (x ∷ v) h = omega arith
 
-truth_ends : (z : Bool) → ends angle (if z then b "true" else b "false") ≡ false
-unfolding ends b if◌then◌else◌
+truth_ends : (z : Bool) → ends angle (if z then b "true" otherwise b "false") ≡ false
+unfolding ends b if◌then◌otherwise◌
 truth_ends true = refl
 truth_ends false = refl
 
 signed_ends : (g : Bool) (v m : Text) → first (digit 10) v ≡ true → all (digit 10) v ≡ true → all word_byte m ≡ true
     → ends angle (sign g ++ (v ++ m)) ≡ false
-unfolding word_byte digit digit_value if◌then◌else◌
+unfolding word_byte digit digit_value if◌then◌otherwise◌
 signed_ends g v m h k e =
     let l = first_long (digit 10) v h in
     let w : all word_byte (v ++ m) ≡ true = all_both word_byte v m (all_map (digit 10) word_byte digit_word v k) e in
@@ -306,7 +306,7 @@ signed_ends g v m h k e =
     digit_word x j = rw (digit_36 x j) refl
 
 lit_ends : (k : Kind) (g : Bool) (v : Text) → lit_ok k g v ≡ true → ends angle (literal k g v) ≡ false
-unfolding lit_ok word_byte digit digit_value b if◌then◌else◌
+unfolding lit_ok word_byte digit digit_value b if◌then◌otherwise◌
 lit_ends kb g v h = truth_ends (same v (b "1"))
 lit_ends ki g v h = signed_ends g v [] (numeral_some v (and_left (numeral v) (not (g && same v (b "0"))) h)) (lit_numeral ki g v h) refl
 lit_ends kj g v h = signed_ends g v (b "u") (numeral_some v (and_right (not g) (numeral v) h)) (lit_numeral kj g v h) refl
@@ -328,7 +328,7 @@ print_ends (app t xs) f =
 print_ends (lit k g v) f = lit_ends k g v f
 
 word_long : (l : Letter) → 1 ≤ length (word l)
-unfolding word word_for letters choose same b if◌then◌else◌
+unfolding word word_for letters choose same b if◌then◌otherwise◌
 word_long l = every_letter (λ x. 1 ≤ length (word x)) (omega arith) (omega arith) (omega arith) (omega arith) (omega arith) (omega arith)
     (omega arith) (omega arith) (omega arith) (omega arith) (omega arith) (omega arith) (omega arith) (omega arith) (omega arith)
     (omega arith) (omega arith) (omega arith) (omega arith) (omega arith) (omega arith) l
@@ -336,8 +336,8 @@ word_long l = every_letter (λ x. 1 ≤ length (word x)) (omega arith) (omega ar
 signed_long : (g : Bool) (v m : Text) → first (digit 10) v ≡ true → 1 ≤ length (sign g ++ (v ++ m))
 signed_long g v m h = let l = first_long (digit 10) v h in simp length-append (omega arith)
 
-truth_long : (z : Bool) → 1 ≤ length (if z then b "true" else b "false")
-unfolding b if◌then◌else◌
+truth_long : (z : Bool) → 1 ≤ length (if z then b "true" otherwise b "false")
+unfolding b if◌then◌otherwise◌
 truth_long true = omega arith
 truth_long false = omega arith
 
@@ -374,8 +374,8 @@ args_ends (also t xs) f =
 abbrev pub list_text : Args → Text
 list_text xs = b "<" ++ (print_args xs ++ shut (last_closes xs))
 
-shut_is : (z : Bool) → (if z then b " >" else b ">") ≡ shut z
-unfolding if◌then◌else◌
+shut_is : (z : Bool) → (if z then b " >" otherwise b ">") ≡ shut z
+unfolding if◌then◌otherwise◌
 shut_is true = refl
 shut_is false = refl
 

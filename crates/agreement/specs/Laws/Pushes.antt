@@ -2,7 +2,7 @@
 use Rattle.std.specs.Prelude.{Bool, List, [], ◌∷◌, ◌++◌, ◌≡◌, refl, ℕ, ◌+◌, ◌≤◌, length}
 use Rattle.std.proofs.Math.Bool.{true, false}
 use Rattle.std.proofs.Common.{sym, ◌∙◌, ap, arith}
-use Rattle.grammar.specs.Text.{Text, if◌then◌else◌, choose, same}
+use Rattle.grammar.specs.Text.{Text, if◌then◌otherwise◌, choose, same}
 use Rattle.grammar.specs.Limits.{most_open, most_text_bytes}
 use Rattle.grammar.specs.Reader.{State, Reader, onto, return, push_sub, recorded, bytes_of}
 use Rattle.grammar.specs.Grammar.{last}
@@ -75,8 +75,8 @@ module _ {room : Type 0} {K : List Text → Type 0} where
   pub old_entry_end :
       (t : Ty) (us : List Ty) (r : Text) (a : List Text) (d : ℕ) (c : Text) (q : Bool) → Wf t → AllWf (push t us) → K a →
       Verdict room (Gives (print t) r (texts (push t us)) d K)
-      ((if choose (last (texts (push t us))) (same (print t)) false then return (print t) else recorded (print t)) (at r (texts (push t us)) a d c q))
-  unfolding if◌then◌else◌
+      ((if choose (last (texts (push t us))) (same (print t)) false then return (print t) otherwise recorded (print t)) (at r (texts (push t us)) a d c q))
+  unfolding if◌then◌otherwise◌
   old_entry_end t us r a d c q f g h = rw (newest t (push t us) f g, last_push t us) (reads (gives h))
 
 module _ {room : Type 0} {K : List Text → Type 0} where
@@ -85,13 +85,13 @@ module _ {room : Type 0} {K : List Text → Type 0} where
       (t : Ty) (us : List Ty) (r : Text) (a : List Text) (d : ℕ) (c : Text) (q : Bool) → Wf t → AllWf us → (room → Fits (push_new t us)) →
       (room → bytes t ≤ most_text_bytes) → ((Fits us → Fits (push_new t us)) → K a) →
       Verdict room (Gives (print t) r (texts (push_new t us)) d K)
-      ((if choose (last (texts us)) (same (print t)) false then return (print t) else recorded (print t)) (at r (texts us) a d c q))
-  unfolding push_new if◌then◌else◌
+      ((if choose (last (texts us)) (same (print t)) false then return (print t) otherwise recorded (print t)) (at r (texts us) a d c q))
+  unfolding push_new if◌then◌otherwise◌
   new_entry_end t us r a d c q f g w v h = rw (newest t us f g) (go (last_is t us) w h)
     where
-      go : (p : Bool) → (room → Fits (if p then us else push t us)) → ((Fits us → Fits (if p then us else push t us)) → K a) →
-          Verdict room (Gives (print t) r (texts (if p then us else push t us)) d K)
-          ((if p then return (print t) else recorded (print t)) (at r (texts us) a d c q))
+      go : (p : Bool) → (room → Fits (if p then us otherwise push t us)) → ((Fits us → Fits (if p then us otherwise push t us)) → K a) →
+          Verdict room (Gives (print t) r (texts (if p then us otherwise push t us)) d K)
+          ((if p then return (print t) otherwise recorded (print t)) (at r (texts us) a d c q))
       go true w h = reads (gives (h (λ e. e)))
       go false w h = entry_end t us r a d c q w v (λ e. h (λ _. e))
 

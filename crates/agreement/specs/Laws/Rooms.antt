@@ -3,7 +3,7 @@ use Rattle.std.specs.Prelude.{Bool, true, false, not, ◌&&◌, List, [], ◌∷
 use Rattle.std.proofs.Common.{append_assoc, append-nil, sym, ◌∙◌, ap, arith, le-leb, leb-true}
 use Rattle.std.proofs.Math.Option.{Option, none, some}
 use Rattle.std.proofs.Math.ListN.{get_elem?}
-use Rattle.grammar.specs.Text.{Text, if◌then◌else◌}
+use Rattle.grammar.specs.Text.{Text, if◌then◌otherwise◌}
 use Rattle.grammar.specs.Limits.{most_open, most_entries, most_text_bytes, most_entry_bytes}
 use Rattle.grammar.specs.Reader.{fits, bytes_of}
 use Rattle.catalogue.specs.Bytes.{and_left, and_right, and_both}
@@ -98,10 +98,10 @@ pub grown_push : (t : Ty) (us : List Ty) → Grown us (push t us)
 grown_push t us = (t ∷ [], refl)
 
 pub grown_push_new : (t : Ty) (us : List Ty) → Grown us (push_new t us)
-unfolding push_new if◌then◌else◌
+unfolding push_new if◌then◌otherwise◌
 grown_push_new t us = go (last_is t us)
   where
-    go : (p : Bool) → Grown us (if p then us else push t us)
+    go : (p : Bool) → Grown us (if p then us otherwise push t us)
     go true = grown_refl us
     go false = grown_push t us
 

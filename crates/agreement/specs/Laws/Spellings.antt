@@ -7,7 +7,7 @@ use Rattle.std.proofs.Math.Option.{some}
 use Rattle.std.proofs.Common.{sym, arith, length-append, ne_eqb}
 use Prim.Native.Char.{code}
 use Rattle.std.proofs.Math.ListN.{get_elem?}
-use Rattle.grammar.specs.Text.{Text, b, if◌then◌else◌, starts, holds, digit, digit_value}
+use Rattle.grammar.specs.Text.{Text, b, if◌then◌otherwise◌, starts, holds, digit, digit_value}
 use Rattle.grammar.specs.Grammar.{⟨type⟩, ⟨template-args⟩, ⟨template-arg⟩, reading}
 use Rattle.catalogue.specs.Bytes.{first, and_right}
 use Rattle.catalogue.specs.Laws.Bytes.{not-true, or_left}
@@ -250,11 +250,11 @@ lit_read k s v us r d h =
 -- ---------------------------------------------------------------- the induction
 
 pub name_tag : (n r : Text) → starts (name_bytes n ++ r) (b "B") ≡ false
-unfolding digit digit_value if◌then◌else◌ b
+unfolding digit digit_value if◌then◌otherwise◌ b
 name_tag n r = starts_miss (digit 10) (name_bytes n ++ r) (b "B") (name_first n r) refl
 
 pub name_more : (n r : Text) → starts (name_bytes n ++ r) (b "E") ≡ false
-unfolding digit digit_value if◌then◌else◌ b
+unfolding digit digit_value if◌then◌otherwise◌ b
 name_more n r = starts_miss (digit 10) (name_bytes n ++ r) (b "E") (name_first n r) refl
 
 I_tag : (t : Text) → starts (code "I" ∷ t) (b "B") ≡ false

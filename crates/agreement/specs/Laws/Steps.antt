@@ -7,7 +7,7 @@ use Prim.Native.Char.{code}
 use Prim.Native.String.{String}
 use Rattle.std.proofs.Common.{arith, ne_eqb}
 use Rattle.std.proofs.Math.Dec.{eqb}
-use Rattle.grammar.specs.Text.{Text, b, if◌then◌else◌, choose, same, starts, holds, digit, digit_value}
+use Rattle.grammar.specs.Text.{Text, b, if◌then◌otherwise◌, choose, same, starts, holds, digit, digit_value}
 use Rattle.grammar.specs.Limits.{most_open}
 use Rattle.grammar.specs.Tables.{Row, ◌⇒◌, letters, d_letters, wrappers}
 use Rattle.grammar.specs.Reader.{State, Reader, onto, give, find, at_code, word_for}
@@ -24,7 +24,7 @@ use Rattle.agreement.specs.Laws.Heads.{opens, no_structor, first_map}
 -- ---------------------------------------------------------------- the 21 letters and the five wrappers
 
 pub letter_find : (l : Letter) (r : Text) → (w : String) × (find letters (letter_code l ∷ r) ≡ some (w, r)) × (b w ≡ word l)
-unfolding find letters starts b if◌then◌else◌ word word_for choose same
+unfolding find letters starts b if◌then◌otherwise◌ word word_for choose same
 letter_find lv r = ("void", refl, refl)
 letter_find lw r = ("wchar_t", refl, refl)
 letter_find lb r = ("bool", refl, refl)
@@ -48,7 +48,7 @@ letter_find lg r = ("__float128", refl, refl)
 letter_find lz r = ("...", refl, refl)
 
 pub wrap_find : (c : Wrap) (r : Text) → (w : String × String) × (find wrappers (wrap_code c ∷ r) ≡ some (w, r)) × (b w.0 ≡ suffix c)
-unfolding find wrappers starts b if◌then◌else◌
+unfolding find wrappers starts b if◌then◌otherwise◌
 wrap_find wP r = (("*", "*"), refl, refl)
 wrap_find wR r = (("&", "&"), refl, refl)
 wrap_find wO r = (("&&", "&&"), refl, refl)
@@ -56,7 +56,7 @@ wrap_find wK r = ((" const", " const"), refl, refl)
 wrap_find wV r = ((" volatile", " volatile"), refl, refl)
 
 pub wrap_miss : (c : Wrap) (r : Text) → (find letters (wrap_code c ∷ r) ≡ none) × (find d_letters (wrap_code c ∷ r) ≡ none)
-unfolding find letters d_letters starts b if◌then◌else◌
+unfolding find letters d_letters starts b if◌then◌otherwise◌
 wrap_miss wP r = (refl, refl)
 wrap_miss wR r = (refl, refl)
 wrap_miss wO r = (refl, refl)
@@ -107,7 +107,7 @@ module _ {room : Type 0} {y r : Text} {l : List Text} {d : ℕ} {K : List Text �
       (t : Text) (l' a : List Text) (c : Text) (q : Bool) → first (digit 10) t ≡ true → (room → d < most_open) →
       (d < most_open → Verdict room (Gives y r l (d + 1) K) (g.class_type reading (at t l' a (d + 1) c q))) →
       Verdict room (Gives y r l d K) (reading ⟨type⟩ (at t l' a d c q))
-  unfolding clear letters d_letters wrappers b digit digit_value if◌then◌else◌
+  unfolding clear letters d_letters wrappers b digit digit_value if◌then◌otherwise◌
   class_by t l' a c q f w h =
       late (digit 10) t l' a c q f refl refl refl refl w (λ k. at_code_miss _ _ _ (find_miss (digit 10) _ t f refl) (h k))
 
@@ -115,7 +115,7 @@ module _ {room : Type 0} {y r : Text} {l : List Text} {d : ℕ} {K : List Text �
       (t : Text) (l' a : List Text) (c : Text) (q : Bool) → (room → d < most_open) →
       (d < most_open → Verdict room (Gives y r l (d + 1) K) (g.s_type reading (at (code "S" ∷ t) l' a (d + 1) c q))) →
       Verdict room (Gives y r l d K) (reading ⟨type⟩ (at (code "S" ∷ t) l' a d c q))
-  unfolding clear letters d_letters wrappers b find starts if◌then◌else◌
+  unfolding clear letters d_letters wrappers b find starts if◌then◌otherwise◌
   s_type_by t l' a c q w h =
       late (λ x. eqb x (code "S")) (code "S" ∷ t) l' a c q refl refl refl refl refl w (λ k. at_code_hit _ _ _ _ t refl (h k))
 
@@ -123,7 +123,7 @@ module _ {room : Type 0} {y r : Text} {l : List Text} {d : ℕ} {K : List Text �
       (t : Text) (l' a : List Text) (c : Text) (q : Bool) → (room → d < most_open) →
       (d < most_open → Verdict room (Gives y r l (d + 1) K) (g.nested_type reading (at (code "N" ∷ t) l' a (d + 1) c q))) →
       Verdict room (Gives y r l d K) (reading ⟨type⟩ (at (code "N" ∷ t) l' a d c q))
-  unfolding clear letters d_letters wrappers b find starts if◌then◌else◌
+  unfolding clear letters d_letters wrappers b find starts if◌then◌otherwise◌
   nested_type_by t l' a c q w h =
       late (λ x. eqb x (code "N")) (code "N" ∷ t) l' a c q refl refl refl refl refl w (λ k. at_code_hit _ _ _ _ t refl (h k))
 
@@ -134,7 +134,7 @@ abbrev pub not_L : ℕ → Bool
 not_L x = not (eqb x (code "L"))
 
 L_find : {A : Type 0} (x : A) (t : Text) → find ("L" ⇒ x ∷ []) (code "L" ∷ t) ≡ some (x, t)
-unfolding find starts b if◌then◌else◌
+unfolding find starts b if◌then◌otherwise◌
 L_find x t = refl
 
 module _ {room : Type 0} {Q : Text → State → Type 0} where
@@ -168,15 +168,15 @@ digit_part x h =
 module _ (p : Parts) (l a : List Text) (d : ℕ) (c : Text) (q : Bool) where
   pub prefix_name : (t : Text) → first (digit 10) t ≡ true → g.prefix reading p
       (at t l a d c q) ≡ g.new_prefix reading ⟨unqualified-name⟩ p (at t l a d c q)
-  unfolding g.prefix onto if◌then◌else◌ clear b digit digit_value
+  unfolding g.prefix onto if◌then◌otherwise◌ clear b digit digit_value
   prefix_name t f =
       rw (no_structor t (first_map (digit 10) (λ x. not (holds x (b "CD"))) digit_part t f))
       (at_code_skip _ _ _ (find_miss (digit 10) _ t f refl))
 
   pub prefix_ref : (t : Text) → g.prefix reading p (at (code "S" ∷ t) l a d c q) ≡ g.old_prefix reading p (at (code "S" ∷ t) l a d c q)
-  unfolding g.prefix onto if◌then◌else◌ at_code choose find starts b holds
+  unfolding g.prefix onto if◌then◌otherwise◌ at_code choose find starts b holds
   prefix_ref t = rw (no_structor (code "S" ∷ t) refl)
 
   pub prefix_list : (t : Text) → g.prefix reading p (at (code "I" ∷ t) l a d c q) ≡ g.prefix_args reading p (at (code "I" ∷ t) l a d c q)
-  unfolding g.prefix onto if◌then◌else◌ at_code choose find starts b holds
+  unfolding g.prefix onto if◌then◌otherwise◌ at_code choose find starts b holds
   prefix_list t = rw (no_structor (code "I" ∷ t) refl)

@@ -5,7 +5,7 @@ use Rattle.std.proofs.Math.Option.{Option, none, some}
 use Rattle.std.proofs.Math.Path.{refl}
 use Prim.Native.Char.{code}
 use native.Mathlib.Omega.{arith}
-use Rattle.grammar.specs.Text.{Text, b, if◌then◌else◌, choose, same, join, each, digit, digit_value}
+use Rattle.grammar.specs.Text.{Text, b, if◌then◌otherwise◌, choose, same, join, each, digit, digit_value}
 use Rattle.grammar.specs.Limits.{most_open, most_entries, most_text_bytes, most_entry_bytes}
 use Rattle.grammar.specs.Tables.{labels, qualifiers, letters}
 use Rattle.grammar.specs.Reader.{bytes_of, State, ok, Reader, onto, return, give, while, set_cv, word_for}
@@ -56,10 +56,10 @@ SymRead (symbol m ps) e us = Verdict (RoomSym (symbol m ps) e us) (Told (symbol 
 abbrev with_types : Text → Text → Reader Text
 with_types n q =
     λ s. onto (λ templated u. onto (λ r v. onto (λ ps. give (r ++ n ++ b "(" ++ ps ++ b ")" ++ q)) (g.bare_function_type reading v))
-    ((if templated then (λ v. onto (λ r. return (r ++ b " ")) (reading ⟨type⟩ v)) else return []) u)) (ok s.templated s)
+    ((if templated then (λ v. onto (λ r. return (r ++ b " ")) (reading ⟨type⟩ v)) otherwise return []) u)) (ok s.templated s)
 
 abbrev after_name : Text → Reader Text
-after_name n = λ s. onto (λ q u. onto (λ _ v. onto (λ t. if ended t then give (n ++ q) else with_types n q) (ok v.rest v))
+after_name n = λ s. onto (λ q u. onto (λ _ v. onto (λ t. if ended t then give (n ++ q) otherwise with_types n q) (ok v.rest v))
     (set_cv [] u)) (ok s.cv s)
 
 function_is : (s : State) → g.function_or_data reading s ≡ onto after_name (reading ⟨name⟩ s)
@@ -70,20 +70,20 @@ abbrev in_brackets : Text → Text → Text → Reader Text
 in_brackets n q ps = give ([] ++ n ++ b "(" ++ ps ++ b ")" ++ q)
 
 abbrev types_end : List Text → Reader Text
-types_end ts = λ s. onto (λ t. give (if only_void ts && same t [] then [] else join (b ", ") ts)) (ok s.rest s)
+types_end ts = λ s. onto (λ t. give (if only_void ts && same t [] then [] otherwise join (b ", ") ts)) (ok s.rest s)
 
 module _ (n : Text) (l a : List Text) (d : ℕ) (c : Text) where
   no_types : after_name n (at [] l a d c false) ≡ give (n ++ c) (at [] l a d [] false)
-  unfolding onto set_cv ended same if◌then◌else◌
+  unfolding onto set_cv ended same if◌then◌otherwise◌
   no_types = refl
 
   some_types : (r : Text) → ended r ≡ false
       → after_name n (at r l a d c false) ≡ onto (in_brackets n c) (onto types_end (types_loop (suc (length r)) [] (at r l a d [] false)))
-  unfolding onto set_cv if◌then◌else◌ g.bare_function_type while
+  unfolding onto set_cv if◌then◌otherwise◌ g.bare_function_type while
   some_types r h = rw h
 
   types_end_is : (ts : List Text) (q : Bool)
-      → types_end ts (at [] l a d c q) ≡ give (if only_void ts && same [] [] then [] else join (b ", ") ts) (at [] l a d c q)
+      → types_end ts (at [] l a d c q) ≡ give (if only_void ts && same [] [] then [] otherwise join (b ", ") ts) (at [] l a d c q)
   unfolding onto
   types_end_is ts q = refl
 
@@ -98,20 +98,20 @@ unfolding name_head
 digit_head x h = rw h
 
 name_heads : (m : SpName) (r : Text) → first name_head (spell_name m ++ r) ≡ true
-unfolding name_head digit digit_value if◌then◌else◌
+unfolding name_head digit digit_value if◌then◌otherwise◌
 name_heads (flat n) r = first_map (digit 10) name_head digit_head (name_bytes n ++ r) (name_first n r)
 name_heads (scoped k p n) r = refl
 
 module _ {room : Type 0} {Q : Text → State → Type 0} where
   encoding_by : (s : State) → first name_head s.rest ≡ true → Verdict room Q (onto after_name (reading ⟨name⟩ s))
       → Verdict room Q (reading ⟨encoding⟩ s)
-  unfolding production g.encoding g.encoding_with g.thunks clear labels b name_head digit digit_value if◌then◌else◌
+  unfolding production g.encoding g.encoding_with g.thunks clear labels b name_head digit digit_value if◌then◌otherwise◌
   encoding_by s f h =
       in_reading _ _ (by_code_miss _ _ _ _ (find_miss name_head _ s.rest f refl) (by_code_miss _ _ _ _ (find_miss name_head _ s.rest f refl)
       (equal_by _ _ (function_is s) h)))
 
 qualified_is : (k : Bool) → qualified k ≡ tail k
-unfolding each g.qualifier choose word_for qualifiers same b if◌then◌else◌
+unfolding each g.qualifier choose word_for qualifiers same b if◌then◌otherwise◌
 qualified_is true = refl
 qualified_is false = refl
 
@@ -147,7 +147,7 @@ bare_says m t us h =
     alone m z = unfold depth_sym in omega arith
 
 void_short : length (print_args (one (letter lv))) ≤ most_text_bytes
-unfolding print word word_for letters choose same b if◌then◌else◌
+unfolding print word word_for letters choose same b if◌then◌otherwise◌
 void_short = omega arith
 
 args_short : (xs : Args) → length (inside (is_void xs) xs) ≤ most_text_bytes → length (print_args xs) ≤ most_text_bytes

@@ -4,7 +4,7 @@ use Rattle.std.proofs.Common.{append_assoc, ◌∙◌, arith, length-append}
 use Rattle.std.proofs.Math.Option.{none, some}
 use Prim.Native.Char.{code}
 use Rattle.std.proofs.Math.ListN.{get_elem?}
-use Rattle.grammar.specs.Text.{Text, b, if◌then◌else◌, choose, starts}
+use Rattle.grammar.specs.Text.{Text, b, if◌then◌otherwise◌, choose, starts}
 use Rattle.grammar.specs.Tables.{◌⇒◌}
 use Rattle.grammar.specs.Reader.{Result, Reader, onto, give, find, at_code}
 use Rattle.grammar.specs.Grammar as g
@@ -59,11 +59,11 @@ reference_gives i us t r a d c q e =
     substitution_is (ref_digits i) r (texts us) a d c q (numbered i) ∙ rw (ref_index i, texts_at us i, e)
 
 I_find : {A : Type 0} (x : A) (t : Text) → find ("I" ⇒ x ∷ []) (code "I" ∷ t) ≡ some (x, t)
-unfolding find starts b if◌then◌else◌
+unfolding find starts b if◌then◌otherwise◌
 I_find x t = refl
 
 pub I_miss : {A : Type 0} (x : A) (t : Text) → starts t (b "I") ≡ false → find ("I" ⇒ x ∷ []) t ≡ none
-unfolding find if◌then◌else◌
+unfolding find if◌then◌otherwise◌
 I_miss x t h = rw h
 
 -- ---------------------------------------------------------------- letters and wrappers
@@ -77,7 +77,7 @@ letter_says l us r a d c q =
 pub wrap_says : (w : Wrap) (t : Ty) (us vs : List Ty) (x r : Text) (a : List Text) (d m : ℕ) (c : Text) (q : Bool) → Wf t
     → Says us vs t r a (d + 1) m (reading ⟨type⟩ (at x (texts us) a (d + 1) c q))
     → Says us (push (wrap w t) vs) (wrap w t) r a d (suc m) (reading ⟨type⟩ (at (wrap_code w ∷ x) (texts us) a d c q))
-unfolding print g.wrapped if◌then◌else◌
+unfolding print g.wrapped if◌then◌otherwise◌
 wrap_says w t us vs x r a d m c q f h =
     let len : length (print t) ≤ length (print t ++ suffix w) = simp length-append (omega arith) in
     wrapped_by w x _ _ _ _ (λ p. let z = p.deep in omega arith)
@@ -92,7 +92,7 @@ wrap_says w t us vs x r a d m c q f h =
 
 pub ref_says : (i : ℕ) (t : Ty) (us : List Ty) (r : Text) (a : List Text) (d : ℕ) (c : Text) (q : Bool) → get_elem? us i ≡ some t → Follow r
     → Says us us t r a d 1 (reading ⟨type⟩ (at (code "S" ∷ (ref_digits i ++ (code "_" ∷ r))) (texts us) a d c q))
-unfolding g.s_type onto if◌then◌else◌
+unfolding g.s_type onto if◌then◌otherwise◌
 ref_says i t us r a d c q e f =
     s_type_by _ _ _ _ _ (λ p. let z = p.deep in omega arith)
     (λ k. rw (no_std i r, reference_gives i us t r a (d + 1) c q e)
@@ -148,7 +148,7 @@ pub retempl_says : (i : ℕ) (t : Ty) (xs : Args) (us ws : List Ty) (x r : Text)
     → SaysList us ws xs r a (d + 1) m (reading ⟨template-args⟩ (at (code "I" ∷ x) (texts us) a (d + 1) c q))
     → Says us (push (app t xs) ws) (app t xs) r a d (suc (suc m)) (reading ⟨type⟩ (at (code "S" ∷ (ref_digits i ++
     (code "_" ∷ code "I" ∷ x))) (texts us) a d c q))
-unfolding print g.s_type onto if◌then◌else◌
+unfolding print g.s_type onto if◌then◌otherwise◌
 retempl_says i t xs us ws x r a d m c q e gr s =
     let len : length (print t) ≤ length (print t ++ list_text xs) = rw (length-append (print t) (list_text xs)) (omega arith) in
     s_type_by _ _ _ _ _ (λ p. let z = p.deep in omega arith)

@@ -10,7 +10,7 @@ use Prim.Native.Char.{code}
 use Prim.Native.String.{String}
 use Rattle.std.proofs.Math.Dec.{leb}
 use borrow.Author.Tests.{ltb-true, lt-ltb, le-leb, leb-true, eq-eqb}
-use Rattle.grammar.specs.Text.{Text, b, if◌then◌else◌, choose, starts, same}
+use Rattle.grammar.specs.Text.{Text, b, if◌then◌otherwise◌, choose, starts, same}
 use Rattle.grammar.specs.Limits.{most_open, most_text_bytes}
 use Rattle.grammar.specs.Tables.{Row}
 use Rattle.grammar.specs.Reader.{State, Result, ok, refused, Reader, onto, refuse, return, fits, push_sub, push_arg, give, recorded, entered, go_to, set_subs}
@@ -94,10 +94,10 @@ module _ {A : Type 0} {room : Type 0} {Q : A → State → Type 0} where
 
   pub give_by : (t : Text) (k : Text → Reader A) (s : State) → (room → length t ≤ most_text_bytes) → Verdict room Q (k t s)
       → Verdict room Q (onto k (give t s))
-  unfolding give onto if◌then◌else◌
+  unfolding give onto if◌then◌otherwise◌
   give_by t k s w h = go (leb (length t) most_text_bytes) refl
     where
-      go : (c : Bool) → leb (length t) most_text_bytes ≡ c → Verdict room Q (onto k ((if c then return t else refuse 11) s))
+      go : (c : Bool) → leb (length t) most_text_bytes ≡ c → Verdict room Q (onto k ((if c then return t otherwise refuse 11) s))
       go true e = h
       go false e = stops (λ p. false≢true (sym e ∙ le-leb (length t) most_text_bytes (w p)))
 
@@ -105,10 +105,10 @@ module _ {A : Type 0} {room : Type 0} {Q : A → State → Type 0} where
       (t : Text) (k : Unit {0} → Reader A) (r : Text) (l a : List Text) (d : ℕ) (c : Text) (q : Bool) →
       (room → fits (l ++ (t ∷ [])) ≡ true) → (fits (l ++ (t ∷ [])) ≡ true → Verdict room Q (k tt (at r (l ++ (t ∷ [])) a d c q))) →
       Verdict room Q (onto k (push_sub t (at r l a d c q)))
-  unfolding push_sub onto set_subs if◌then◌else◌
+  unfolding push_sub onto set_subs if◌then◌otherwise◌
   push_sub_by t k r l a d c q w h = go (fits (l ++ (t ∷ []))) refl
     where
-      go : (z : Bool) → fits (l ++ (t ∷ [])) ≡ z → Verdict room Q (onto k ((if z then set_subs (l ++ (t ∷ [])) else refuse 9) (at r l a d c q)))
+      go : (z : Bool) → fits (l ++ (t ∷ [])) ≡ z → Verdict room Q (onto k ((if z then set_subs (l ++ (t ∷ [])) otherwise refuse 9) (at r l a d c q)))
       go true e = h e
       go false e = stops (λ p. false≢true (sym e ∙ w p))
 
@@ -116,10 +116,10 @@ module _ {A : Type 0} {room : Type 0} {Q : A → State → Type 0} where
       (t : Text) (k : Unit {0} → Reader A) (r : Text) (l a : List Text) (d : ℕ) (c : Text) (q : Bool) →
       (room → fits (a ++ (t ∷ [])) ≡ true) → Verdict room Q (k tt (at r l (a ++ (t ∷ [])) d c q)) →
       Verdict room Q (onto k (push_arg t (at r l a d c q)))
-  unfolding push_arg onto set_args if◌then◌else◌
+  unfolding push_arg onto set_args if◌then◌otherwise◌
   push_arg_by t k r l a d c q w h = go (fits (a ++ (t ∷ []))) refl
     where
-      go : (z : Bool) → fits (a ++ (t ∷ [])) ≡ z → Verdict room Q (onto k ((if z then set_args (a ++ (t ∷ [])) else refuse 10) (at r l a d c q)))
+      go : (z : Bool) → fits (a ++ (t ∷ [])) ≡ z → Verdict room Q (onto k ((if z then set_args (a ++ (t ∷ [])) otherwise refuse 10) (at r l a d c q)))
       go true e = h
       go false e = stops (λ p. false≢true (sym e ∙ w p))
 
@@ -129,7 +129,7 @@ module _ {A : Type 0} {room : Type 0} {Q : A → State → Type 0} where
   pub need_by :
       (w : String) (x : ℕ) (k : Unit {0} → Reader A) (t : Text) (l a : List Text) (d : ℕ) (c : Text) (q : Bool) →
       b w ≡ x ∷ [] → Verdict room Q (k tt (at t l a d c q)) → Verdict room Q (onto k (need w (at (x ∷ t) l a d c q)))
-  unfolding need eat onto go_to if◌then◌else◌ starts
+  unfolding need eat onto go_to if◌then◌otherwise◌ starts
   need_by w x k t l a d c q e h = rw (e, eqb_self x) h
 
   pub by_code_hit :
@@ -164,10 +164,10 @@ module _ {room : Type 0} {Q : Text → State → Type 0} where
 
   -- the text is within the limit where it was returned
   pub give_told : (t : Text) (s : State) → (room → length t ≤ most_text_bytes) → (length t ≤ most_text_bytes → Q t s) → Verdict room Q (give t s)
-  unfolding give if◌then◌else◌
+  unfolding give if◌then◌otherwise◌
   give_told t s w h = go (leb (length t) most_text_bytes) refl
     where
-      go : (c : Bool) → leb (length t) most_text_bytes ≡ c → Verdict room Q ((if c then return t else refuse 11) s)
+      go : (c : Bool) → leb (length t) most_text_bytes ≡ c → Verdict room Q ((if c then return t otherwise refuse 11) s)
       go true e = reads (h (leb-true (length t) most_text_bytes e))
       go false e = stops (λ p. false≢true (sym e ∙ le-leb (length t) most_text_bytes (w p)))
 
@@ -185,7 +185,7 @@ module _ {room : Type 0} {y r : Text} {l : List Text} {d : ℕ} {K : List Text �
       (m : Reader Text) (r' : Text) (l' a : List Text) (c : Text) (q : Bool) → (room → d < most_open) →
       (d < most_open → Verdict room (Gives y r l (d + 1) K) (m (at r' l' a (d + 1) c q)))
       → Verdict room (Gives y r l d K) (entered m (at r' l' a d c q))
-  unfolding entered onto set_depth if◌then◌else◌
+  unfolding entered onto set_depth if◌then◌otherwise◌
   entered_by m r' l' a c q w h = go (ltb d most_open) refl
     where
       leave : Text → Reader Text
@@ -196,7 +196,7 @@ module _ {room : Type 0} {y r : Text} {l : List Text} {d : ℕ} {K : List Text �
       out (stops k) = stops k
 
       go : (z : Bool) → ltb d most_open ≡ z → Verdict room (Gives y r l d K) ((if z then (λ s. onto (λ _ u. onto leave (m u)) (set_depth
-          (d + 1) s)) else refuse 8) (at r' l' a d c q))
+          (d + 1) s)) otherwise refuse 8) (at r' l' a d c q))
       go true e = out (h (ltb-true d most_open e))
       go false e = stops (λ p. false≢true (sym e ∙ lt-ltb d most_open (w p)))
 
@@ -207,13 +207,13 @@ abbrev pub before_E : Text → Bool
 before_E t = not (starts t (b "E"))
 
 abbrev pub guarded : {A : Type 0} → (A → Reader A) → A → Reader A
-guarded step z = λ s. onto (λ t. if same t [] then refuse 4 else step z) (ok s.rest s)
+guarded step z = λ s. onto (λ t. if same t [] then refuse 4 otherwise step z) (ok s.rest s)
 
 abbrev pub closed : {A : Type 0} → A → Reader A
 closed y = λ u. onto (λ _ v. ok y v) (need "E" u)
 
 pub guarded_is : {A : Type 0} (step : A → Reader A) (z : A) (s : State) → same s.rest [] ≡ false → guarded step z s ≡ step z s
-unfolding onto if◌then◌else◌
+unfolding onto if◌then◌otherwise◌
 guarded_is step z s e = rw e
 
 pub up_to_E_is : {A : Type 0} (step : A → Reader A) (z : A) (s : State)
@@ -230,14 +230,14 @@ module _ {A : Type 0} {room : Type 0} {Q : A → State → Type 0} where
   pub step_on :
       (n : ℕ) (on : Text → Bool) (step : A → Reader A) (x : A) (s : State) → 0 < n → on s.rest ≡ true →
       ((m : ℕ) → n ≡ suc m → Verdict room Q (onto (steps m on step) (step x s))) → Verdict room Q (steps n on step x s)
-  unfolding steps onto if◌then◌else◌
+  unfolding steps onto if◌then◌otherwise◌
   step_on zero on step x s l e h = absurd (omega arith)
   step_on (suc m) on step x s l e h = rw e (h m refl)
 
   pub step_off :
       (n : ℕ) (on : Text → Bool) (step : A → Reader A) (x : A) (s : State) → 0 < n → on s.rest ≡ false →
       Q x s → Verdict room Q (steps n on step x s)
-  unfolding steps onto if◌then◌else◌
+  unfolding steps onto if◌then◌otherwise◌
   step_off zero on step x s l e h = absurd (omega arith)
   step_off (suc m) on step x s l e h = rw e (reads h)
 
@@ -245,13 +245,13 @@ module _ {A B : Type 0} {room : Type 0} {Q : B → State → Type 0} where
   pub loop_on :
       (n : ℕ) (on : Text → Bool) (step : A → Reader A) (x : A) (k : A → Reader B) (s : State) → 0 < n → on s.rest ≡ true →
       ((m : ℕ) → n ≡ suc m → Verdict room Q (onto (λ y u. onto k (steps m on step y u)) (step x s))) → Verdict room Q (onto k (steps n on step x s))
-  unfolding steps onto if◌then◌else◌
+  unfolding steps onto if◌then◌otherwise◌
   loop_on zero on step x k s l e h = absurd (omega arith)
   loop_on (suc m) on step x k s l e h = rw e (assoc _ k (step x s) (h m refl))
 
   pub loop_off :
       (n : ℕ) (on : Text → Bool) (step : A → Reader A) (x : A) (k : A → Reader B) (s : State) → 0 < n → on s.rest ≡ false →
       Verdict room Q (k x s) → Verdict room Q (onto k (steps n on step x s))
-  unfolding steps onto if◌then◌else◌
+  unfolding steps onto if◌then◌otherwise◌
   loop_off zero on step x k s l e h = absurd (omega arith)
   loop_off (suc m) on step x k s l e h = rw e h

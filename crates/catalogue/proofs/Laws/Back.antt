@@ -2,7 +2,7 @@
 use Rattle.std.specs.Prelude.{Bool, true, false, not, ◌&&◌, ◌||◌, List, [], ◌∷◌, ◌++◌, ◌≡◌, refl, ℕ}
 use Rattle.std.proofs.Common.{append_assoc, append-nil, sym, ◌∙◌, ap}
 use Rattle.std.proofs.Math.Option.{none, some}
-use Rattle.grammar.specs.Text.{Text, b, if◌then◌else◌, choose, same, digit_value, digit}
+use Rattle.grammar.specs.Text.{Text, b, if◌then◌otherwise◌, choose, same, digit_value, digit}
 use Rattle.grammar.specs.Tables.{Row, ◌⇒◌, letters}
 use Rattle.grammar.specs.Reader.{word_for}
 use Rattle.catalogue.specs.Bytes.{all, first, and_left, and_right, same_eq}
@@ -24,7 +24,7 @@ hit x [] = false
 hit x ((w ⇒ t) ∷ rows) = same x (b w) || hit x rows
 
 find_none : (x : Text) (rows : List (Row Ty)) (d : Ty) → hit x rows ≡ false → find x rows d ≡ d
-unfolding find hit if◌then◌else◌
+unfolding find hit if◌then◌otherwise◌
 find_none x [] d h = refl
 find_none x ((w ⇒ t) ∷ rows) d h =
     rw (or_left (same x (b w)) (hit x rows) h) (find_none x rows d (or_right (same x (b w)) (hit x rows) h))
@@ -46,7 +46,7 @@ name_start [] r h = cc
 name_start (c ∷ n) r h = not-true (digit 10 c) (and_left (not (digit 10 c)) (all word_byte (c ∷ n) && not (listed (c ∷ n) reserved)) h)
 
 name_found : (n : Text) → name_ok n ≡ true → from_word n ≡ root n
-unfolding from_word if◌then◌else◌ name_ok
+unfolding from_word if◌then◌otherwise◌ name_ok
 name_found [] h = cc
 name_found (c ∷ n) h = rw (name_start (c ∷ n) [] h) (find_none (c ∷ n) words (root (c ∷ n)) (hit_listed (c ∷ n) ∙ name_free (c ∷ n) h))
 
@@ -68,7 +68,7 @@ word_step [] s q e h = cc
 word_step (c ∷ n) s q e h = rw (lex_word c n s e h) refl
 
 word_back : (l : Letter) (s : Text) (k : List Frame) → NoWord (lex s) → walk (lex (word l ++ s)) (want k) ≡ walk (lex s) (have (letter l) k)
-unfolding lex walk step from_word find words phrases word_byte digit digit_value if◌then◌else◌ same b word word_for letters choose print
+unfolding lex walk step from_word find words phrases word_byte digit digit_value if◌then◌otherwise◌ same b word word_for letters choose print
 word_back lv s k h = word_step (b "void") s (want k) refl h
 word_back lw s k h = word_step (b "wchar_t") s (want k) refl h
 word_back lb s k h = word_step (b "bool") s (want k) refl h
@@ -109,7 +109,7 @@ no_ref : (t : Ty) → not (is_lit t || is_ref t) ≡ true → is_ref t ≡ false
 no_ref t h = or_right (is_lit t) (is_ref t) (not-true (is_lit t || is_ref t) h)
 
 suffix_no : (c : Wrap) (s : Text) → NoWord (lex (suffix c ++ s))
-unfolding lex word_byte digit digit_value if◌then◌else◌ b
+unfolding lex word_byte digit digit_value if◌then◌otherwise◌ b
 suffix_no wP s = tt
 suffix_no wR s = tt
 suffix_no wO s = tt
@@ -118,7 +118,7 @@ suffix_no wV s = tt
 
 wrap_back : (c : Wrap) (t : Ty) (s : Text) (k : List Frame) → stands c t ≡ true → NoWord (lex s)
     → walk (lex (suffix c ++ s)) (have t k) ≡ walk (lex s) (have (wrap c t) k)
-unfolding lex walk step word_byte digit digit_value if◌then◌else◌ b same stands
+unfolding lex walk step word_byte digit digit_value if◌then◌otherwise◌ b same stands
 wrap_back wP t s k e h = refl
 wrap_back wR t s k e h = rw (once t (no_ref t e)) refl
 wrap_back wO t s k e h = rw (once t (no_ref t e)) refl
@@ -126,13 +126,13 @@ wrap_back wK t s k e h = word_step (b "const") s (gap t k) refl h
 wrap_back wV t s k e h = word_step (b "volatile") s (gap t k) refl h
 
 shut_no : (c : Bool) (s : Text) → NoWord (lex (shut c ++ s))
-unfolding lex word_byte digit digit_value if◌then◌else◌ b
+unfolding lex word_byte digit digit_value if◌then◌otherwise◌ b
 shut_no true s = tt
 shut_no false s = tt
 
 shut_back : (c : Bool) (t u : Ty) (ts : List Ty) (s : Text) (k : List Frame)
     → walk (lex (shut c ++ s)) (have u (items angle t ts ∷ k)) ≡ walk (lex s) (have (app t (gather ts (one u))) k)
-unfolding lex walk step word_byte digit digit_value if◌then◌else◌ b
+unfolding lex walk step word_byte digit digit_value if◌then◌otherwise◌ b
 shut_back true t u ts s k = refl
 shut_back false t u ts s k = refl
 
@@ -172,7 +172,7 @@ numeral_all v h =
 numeral_back : (m : Text) (c : Kind) (g : Bool) (v s : Text) (k : List Frame) → kind_of m ≡ c → first (digit 10) m ≡ false → all word_byte m ≡ true
     → numeral v ≡ true → NoWord (lex s)
     → walk (lex ((sign g ++ (v ++ m)) ++ s)) (want k) ≡ walk (lex s) (have (lit c g v) k)
-unfolding lex walk step word_byte digit digit_value if◌then◌else◌ b from_word
+unfolding lex walk step word_byte digit digit_value if◌then◌otherwise◌ b from_word
 numeral_back m c true v s k e₁ e₂ e₃ h q =
     word_step (v ++ m) s (minus k) (wordy_on v m (numeral_first v h) (numeral_all v h) e₃) q
     ∙ ap (λ t. walk (lex s) (have t k)) (number_back m c v true e₁ e₂ (numeral_all v h))
@@ -186,7 +186,7 @@ or_first false q h e = sym e ∙ h ∙ refl
 
 truth_back : (g : Bool) (v s : Text) (k : List Frame) (p : Bool) → same v (b "1") ≡ p → lit_ok kb g v ≡ true → NoWord (lex s)
     → walk (lex (literal kb g v ++ s)) (want k) ≡ walk (lex s) (have (lit kb g v) k)
-unfolding lex walk step word_byte digit digit_value if◌then◌else◌ b same from_word find words lit_ok
+unfolding lex walk step word_byte digit digit_value if◌then◌otherwise◌ b same from_word find words lit_ok
 truth_back true v s k p e h q = cc
 truth_back false v s k true e h q = rw (same_eq v (b "1") e) (word_step (b "true") s (want k) refl q)
 truth_back false v s k false e h q =
@@ -194,7 +194,7 @@ truth_back false v s k false e h q =
 
 lit_back : (c : Kind) (g : Bool) (v s : Text) (k : List Frame) → lit_ok c g v ≡ true → NoWord (lex s)
     → walk (lex (literal c g v ++ s)) (want k) ≡ walk (lex s) (have (lit c g v) k)
-unfolding kind_of word_byte digit digit_value if◌then◌else◌ b same lit_ok
+unfolding kind_of word_byte digit digit_value if◌then◌otherwise◌ b same lit_ok
 lit_back kb g v s k h q = truth_back g v s k (same v (b "1")) refl h q
 lit_back ki g v s k h q = numeral_back [] ki g v s k refl refl refl (and_left (numeral v) (not (g && same v (b "0"))) h) q
 lit_back kj g v s k h q = numeral_back (b "u") kj g v s k refl refl refl (and_right (not g) (numeral v) h) q
@@ -217,7 +217,7 @@ gather_before (one t) ts = refl
 gather_before (also t xs) ts = gather_before xs (t ∷ ts)
 
 mutual
-  unfolding print print_args lex walk step word_byte digit digit_value if◌then◌else◌ b before last_of gather
+  unfolding print print_args lex walk step word_byte digit digit_value if◌then◌otherwise◌ b before last_of gather
 
   pub back : (t : Ty) → Wf t → (s : Text) (k : List Frame) → NoWord (lex s) → walk (lex (print t ++ s)) (want k) ≡ walk (lex s) (have t k)
   back (letter l) f s k q = word_back l s k q
@@ -258,13 +258,13 @@ void_only (also t xs) h = cc
 
 list_back : (p : Bool) (xs : Args) → is_void xs ≡ p → WfArgs xs → (t : Ty) (s : Text)
     → walk (lex (inside p xs ++ (b ")" ++ s))) (want (items paren t [] ∷ [])) ≡ walk (lex s) (closed t xs)
-unfolding walk lex step word_byte digit digit_value if◌then◌else◌ b gather
+unfolding walk lex step word_byte digit digit_value if◌then◌otherwise◌ b gather
 list_back true xs e f t s = ap (λ ys. walk (lex s) (closed t ys)) (sym (void_only xs e))
 list_back false xs e f t s =
     back_args xs f (b ")" ++ s) paren t [] [] tt ∙ ap (λ ys. walk (lex s) (closed t ys)) (gather_before xs [])
 
 pub parse_name_print : (e : Enc) → WfEnc e → parse_name (print_enc e) ≡ some e
-unfolding parse_name print_enc walk lex step result word_byte digit digit_value if◌then◌else◌ b same
+unfolding parse_name print_enc walk lex step result word_byte digit digit_value if◌then◌otherwise◌ b same
 parse_name_print (enc true t none) f = cc f.2
 parse_name_print (enc false t none) f = ap result (back t (wf_name false t f.0) [] (at_name ∷ []) tt)
 parse_name_print (enc true t (some xs)) f =

@@ -3,7 +3,7 @@ use Rattle.std.specs.Prelude.{Bool, true, false, not, ◌&&◌, ◌||◌, List, 
 use Rattle.std.proofs.Math.Option.{Option, none, some}
 use Rattle.std.proofs.Common.{arith}
 use Rattle.std.proofs.Math.ListN.{get_elem?}
-use Rattle.grammar.specs.Text.{Text, if◌then◌else◌}
+use Rattle.grammar.specs.Text.{Text, if◌then◌otherwise◌}
 use Rattle.catalogue.specs.Tree.{Ty, Args, letter, wrap, root, sub, app, lit, one, also, is_class, is_bare, single}
 use Rattle.catalogue.specs.Spelling.{Sp, Pre, SpArgs, SpName, Sym, s_letter, s_wrap, s_ref, plain, templ, retempl, nest_sub, nest_app, s_lit, p_ref}
 use Rattle.catalogue.specs.Spelling.{p_root, p_sub, p_app, s_one, s_also, flat, scoped, symbol}
@@ -32,10 +32,10 @@ sum_push f t [] = omega arith
 sum_push f t (u ∷ us) = let k = sum_push f t us in omega arith
 
 sum_push_new : (t : Ty) (n : Text) (us : List Ty) → sum nargs (push_new (sub t n) us) ≡ sum nargs us
-unfolding push_new if◌then◌else◌
+unfolding push_new if◌then◌otherwise◌
 sum_push_new t n us = go (last_is (sub t n) us)
   where
-    go : (p : Bool) → sum nargs (if p then us else push (sub t n) us) ≡ sum nargs us
+    go : (p : Bool) → sum nargs (if p then us otherwise push (sub t n) us) ≡ sum nargs us
     go true = refl
     go false = let k = sum_push nargs (sub t n) us in omega arith
 

@@ -4,7 +4,7 @@ use Rattle.std.proofs.lemmas.Bool.{false≢true}
 use Rattle.std.proofs.Common.{inl, inr, sym, ◌∙◌, ap}
 use Rattle.std.proofs.Math.Option.{Option, none, some}
 use Rattle.std.proofs.Math.ListN.{get_elem?}
-use Rattle.grammar.specs.Text.{if◌then◌else◌}
+use Rattle.grammar.specs.Text.{if◌then◌otherwise◌}
 use Rattle.catalogue.specs.Laws.Bytes.{or-false, or_true, or_cases}
 use Rattle.catalogue.specs.Tree.{Ty, Args, letter, wrap, root, sub, app, lit, one, also, same_ty, same_ty_eq, same_ty_yes, is_class}
 use Rattle.catalogue.specs.Class.{push, last_is, push_new}
@@ -43,21 +43,21 @@ later_none none h = refl
 later_none (some i) h = cc
 
 pub seek_none : (t : Ty) (us : List Ty) → seek t us ≡ none → has t us ≡ false
-unfolding seek has if◌then◌else◌
+unfolding seek has if◌then◌otherwise◌
 seek_none t [] h = refl
 seek_none t (u ∷ us) h = go (λ k. seek_none t us k) (same_ty t u) refl h
   where
-    go : (seek t us ≡ none → has t us ≡ false) → (b : Bool) → same_ty t u ≡ b → (if b then some 0 else later (seek t us)) ≡ none → b || has t us ≡ false
+    go : (seek t us ≡ none → has t us ≡ false) → (b : Bool) → same_ty t u ≡ b → (if b then some 0 otherwise later (seek t us)) ≡ none → b || has t us ≡ false
     go ih true e q = cc
     go ih false e q = ih (later_none (seek t us) q)
 
 pub has_seek : (t : Ty) (us : List Ty) → has t us ≡ true → (i : ℕ) × (seek t us ≡ some i)
-unfolding seek has if◌then◌else◌
+unfolding seek has if◌then◌otherwise◌
 has_seek t [] h = absurd (false≢true h)
 has_seek t (u ∷ us) h = go (λ k. has_seek t us k) (same_ty t u) refl h
   where
     go : (has t us ≡ true → (i : ℕ) × (seek t us ≡ some i)) → (b : Bool) → same_ty t u ≡ b → b || has t us ≡ true
-        → (i : ℕ) × ((if b then some 0 else later (seek t us)) ≡ some i)
+        → (i : ℕ) × ((if b then some 0 otherwise later (seek t us)) ≡ some i)
     go ih true e q = (0, refl)
     go ih false e q = let r = ih q in (suc r.0, rw r.1 refl)
 
@@ -77,10 +77,10 @@ last_has t (u ∷ []) h = rw h refl
 last_has t (u ∷ v ∷ us) h = rw (last_has t (v ∷ us) h) (or_true (same_ty t u))
 
 pub has_push_new : (x t : Ty) (us : List Ty) → has x (push_new t us) ≡ has x us || same_ty x t
-unfolding push_new if◌then◌else◌
+unfolding push_new if◌then◌otherwise◌
 has_push_new x t us = go (last_is t us) refl
   where
-    go : (b : Bool) → last_is t us ≡ b → has x (if b then us else push t us) ≡ has x us || same_ty x t
+    go : (b : Bool) → last_is t us ≡ b → has x (if b then us otherwise push t us) ≡ has x us || same_ty x t
     go true e = sym (absorb x t us (last_has t us e))
     go false e = has_push x t us
 

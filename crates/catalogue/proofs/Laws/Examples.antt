@@ -3,7 +3,7 @@ use Rattle.std.specs.Prelude.{Bool, true, false, not, ◌&&◌, List, [], ◌∷
 use Rattle.std.proofs.lemmas.Bool.{false≢true}
 use Rattle.std.proofs.Common.{sym, ◌∙◌, ap}
 use Prim.Native.String.{String}
-use Rattle.grammar.specs.Text.{Text, b, if◌then◌else◌, choose, same, run, past, digit, digit_value, number, decimal}
+use Rattle.grammar.specs.Text.{Text, b, if◌then◌otherwise◌, choose, same, run, past, digit, digit_value, number, decimal}
 use Rattle.grammar.specs.Tables.{Row, ◌⇒◌, letters}
 use Rattle.grammar.specs.Reader.{word_for}
 use Rattle.grammar.specs.Grammar.{index}
@@ -132,7 +132,7 @@ agrees wrong n p = false
 
 unfoldable pub agreeing : Rows → Bool
 unfolding
-    b if◌then◌else◌ choose same run past digit digit_value number decimal letters word_for index
+    b if◌then◌otherwise◌ choose same run past digit digit_value number decimal letters word_for index
     text_discrete ty_discrete same_ty word print print_enc digit_of base36 ref_digits spell spell_sym
     word_byte reserved listed name_ok numeral lit_ok stands last_is push_new resolve resolve_name resolve_params resolve_sym count count_sym count_ok valid
     seek after normal normal_sym write cut read_name read_ref with_code read_lit lead parse parse_types parse_sym classify
@@ -141,7 +141,7 @@ agreeing ((w ⇒ (n, p)) ∷ rows) = agrees (classify (b w)) (b n) (b p) && agre
 
 unfoldable failing : List String → Bool
 unfolding
-    b if◌then◌else◌ choose same run past digit digit_value number decimal letters word_for index
+    b if◌then◌otherwise◌ choose same run past digit digit_value number decimal letters word_for index
     text_discrete ty_discrete same_ty word print print_enc digit_of base36 ref_digits spell spell_sym
     word_byte reserved listed name_ok numeral lit_ok stands last_is push_new resolve resolve_name resolve_params resolve_sym count count_sym count_ok valid
     cut read_name read_ref with_code read_lit lead parse parse_types parse_sym classify is_catalogue

@@ -3,7 +3,7 @@ use Rattle.std.specs.Prelude.{Bool, true, false, not, ◌&&◌, ◌||◌, [], �
 use Rattle.std.proofs.lemmas.Bool.{false≢true, lt-leb}
 use Rattle.std.proofs.Math.Option.{Option, none, some}
 use Rattle.std.proofs.Common.{arith, leb-true}
-use Rattle.grammar.specs.Text.{Text, if◌then◌else◌, between, digit_value, digit}
+use Rattle.grammar.specs.Text.{Text, if◌then◌otherwise◌, between, digit_value, digit}
 use Rattle.grammar.specs.Names.{high}
 use Rattle.catalogue.specs.Bytes.{all, and_left, and_right, eqb_eq}
 use Rattle.catalogue.specs.Laws.Bytes.{or_left, or_right, or_no}
@@ -21,11 +21,11 @@ use Rattle.catalogue.proofs.Laws.Decision.{resolves}
 -- ---------------------------------------------------------------- bytes that pass a test
 
 digit_small : (c : ℕ) → digit 36 c ≡ true → c < 128
-unfolding digit digit_value if◌then◌else◌
+unfolding digit digit_value if◌then◌otherwise◌
 digit_small c h = go (between 48 57 c) refl (between 65 90 c) refl (between 97 122 c) refl h
   where
     go : (p : Bool) → between 48 57 c ≡ p → (q : Bool) → between 65 90 c ≡ q → (r : Bool) → between 97 122 c ≡ r
-        → ltb (if p then c - 48 else if q then c - 65 + 10 else if r then c - 97 + 10 else 36) 36 ≡ true → c < 128
+        → ltb (if p then c - 48 otherwise if q then c - 65 + 10 otherwise if r then c - 97 + 10 otherwise 36) 36 ≡ true → c < 128
     go true e q f r g k = let z = leb-true c 57 (and_right (leb 48 c) (leb c 57) e) in omega arith
     go false e true f r g k = let z = leb-true c 90 (and_right (leb 65 c) (leb c 90) f) in omega arith
     go false e false f true g k = let z = leb-true c 122 (and_right (leb 97 c) (leb c 122) g) in omega arith

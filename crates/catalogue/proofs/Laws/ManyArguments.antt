@@ -3,7 +3,7 @@ use Rattle.std.specs.Prelude.{false, List, [], ◌∷◌, ◌++◌, ◌≡◌, r
 use Rattle.std.proofs.Math.Option.{some}
 use Rattle.std.proofs.Common.{◌∙◌, ap, arith}
 use Prim.Native.Char.{code}
-use Rattle.grammar.specs.Text.{Text, b, if◌then◌else◌, same, digit, digit_value, decimal}
+use Rattle.grammar.specs.Text.{Text, b, if◌then◌otherwise◌, same, digit, digit_value, decimal}
 use Rattle.catalogue.specs.Tree.{Ty, Args, Enc, letter, root, app, one, also, enc, li}
 use Rattle.catalogue.specs.Spelling.{Sym, SpArgs, s_letter, templ, s_one, s_also, flat, symbol, spell, spell_args, spell_sym}
 use Rattle.catalogue.specs.Class.{word_byte, reserved, listed, name_ok, ok, resolve, resolve_args, resolve_name, resolve_params, resolve_sym, number}
@@ -55,11 +55,11 @@ table k = root (b "a") ∷ app (root (b "a")) (int_args k) ∷ []
 
 resolves_to : (k : ℕ) → resolve_sym (with_ints k) ≡ ok (tree k) (table k)
 unfolding
-    resolve_sym resolve_name resolve_params resolve with_ints tree table name_ok word_byte reserved listed same digit digit_value if◌then◌else◌ b
+    resolve_sym resolve_name resolve_params resolve with_ints tree table name_ok word_byte reserved listed same digit digit_value if◌then◌otherwise◌ b
 resolves_to k = rw (ints_resolve k (root (b "a") ∷ [])) refl
 
 spelled : (k : ℕ) → spell_sym (with_ints k) ≡ ints_text k
-unfolding spell_sym spell with_ints ints_text decimal if◌then◌else◌ b
+unfolding spell_sym spell with_ints ints_text decimal if◌then◌otherwise◌ b
 spelled k = rw (ints_spell k) refl
 
 counted : (k : ℕ) → count_sym (with_ints k) ≡ suc k

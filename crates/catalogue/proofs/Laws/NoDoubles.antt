@@ -3,7 +3,7 @@ use Rattle.std.specs.Prelude.{Bool, true, false, ◌||◌, List, [], ◌∷◌, 
 use Rattle.std.proofs.lemmas.Bool.{false≢true}
 use Rattle.std.proofs.Common.{inl, inr, sym, ◌∙◌, arith}
 use Rattle.std.proofs.Math.Option.{Option, none, some}
-use Rattle.grammar.specs.Text.{if◌then◌else◌}
+use Rattle.grammar.specs.Text.{if◌then◌otherwise◌}
 use Rattle.catalogue.specs.Laws.Bytes.{or_left, or_right, or_true, or_cases, or_no}
 use Rattle.catalogue.specs.Tree.{Ty, Args, letter, wrap, root, sub, app, lit, one, also, same_ty, same_ty_eq, same_ty_yes}
 use Rattle.catalogue.specs.Class.{push, last_is, push_new}
@@ -115,10 +115,10 @@ nodup_push t (u ∷ us) h d = (
 )
 
 nodup_push_new : (t : Ty) (us : List Ty) → has t us ≡ false → NoDup us → NoDup (push_new t us)
-unfolding push_new if◌then◌else◌
+unfolding push_new if◌then◌otherwise◌
 nodup_push_new t us h d = go (last_is t us)
   where
-    go : (b : Bool) → NoDup (if b then us else push t us)
+    go : (b : Bool) → NoDup (if b then us otherwise push t us)
     go true = d
     go false = nodup_push t us h d
 
@@ -185,24 +185,24 @@ sum f (u ∷ us) = f u + sum f us
 
 remove : Ty → List Ty → List Ty
 remove t [] = []
-remove t (u ∷ us) = if same_ty t u then us else u ∷ remove t us
+remove t (u ∷ us) = if same_ty t u then us otherwise u ∷ remove t us
 
 sum_remove : (f : Ty → ℕ) (t : Ty) (us : List Ty) → has t us ≡ true → sum f us ≡ f t + sum f (remove t us)
-unfolding sum remove has if◌then◌else◌
+unfolding sum remove has if◌then◌otherwise◌
 sum_remove f t [] h = absurd (false≢true h)
 sum_remove f t (u ∷ us) h = go (same_ty t u) refl h (λ k. sum_remove f t us k)
   where
     go : (b : Bool) → same_ty t u ≡ b → b || has t us ≡ true → (has t us ≡ true → sum f us ≡ f t + sum f (remove t us))
-        → f u + sum f us ≡ f t + sum f (if b then us else u ∷ remove t us)
+        → f u + sum f us ≡ f t + sum f (if b then us otherwise u ∷ remove t us)
     go true e k ih = rw (same_ty_eq t u e) refl
     go false e k ih = let z = ih k in omega arith
 
 has_remove : (x t : Ty) (us : List Ty) → same_ty x t ≡ false → has x (remove t us) ≡ has x us
-unfolding remove has if◌then◌else◌
+unfolding remove has if◌then◌otherwise◌
 has_remove x t [] h = refl
 has_remove x t (u ∷ us) h = go (same_ty t u) refl (has_remove x t us h)
   where
-    go : (b : Bool) → same_ty t u ≡ b → has x (remove t us) ≡ has x us → has x (if b then us else u ∷ remove t us) ≡ same_ty x u || has x us
+    go : (b : Bool) → same_ty t u ≡ b → has x (remove t us) ≡ has x us → has x (if b then us otherwise u ∷ remove t us) ≡ same_ty x u || has x us
     go true e ih = let z : same_ty x u ≡ false = rw (same_ty_eq t u e) at h in rw z refl
     go false e ih = rw ih refl
 

@@ -3,7 +3,7 @@ use Rattle.std.specs.Prelude.{Bool, true, false, List, [], ◌∷◌, ◌≡◌,
 use Rattle.std.proofs.Math.Option.{Option, none, some, none-ne-some}
 use Rattle.std.proofs.Common.{sym, ap}
 use Rattle.std.proofs.Math.ListN.{get_elem?}
-use Rattle.grammar.specs.Text.{Text, if◌then◌else◌}
+use Rattle.grammar.specs.Text.{Text, if◌then◌otherwise◌}
 use Rattle.catalogue.specs.Tree.{Ty, Args, Enc, letter, wrap, root, sub, app, lit, one, also, enc, same_ty, same_ty_eq, is_class, is_bare, single}
 use Rattle.catalogue.specs.Spelling.{Sp, Pre, SpArgs, s_wrap, plain, nest_sub, p_root, p_sub, p_app}
 use Rattle.catalogue.specs.Class.{name_ok, push, push_new, ok, resolve, resolve_pre, resolve_args, resolve_name, resolve_params, resolve_sym, is_const, has_params}
@@ -17,12 +17,12 @@ later_some (some j) i h = (j, (cc), refl)
 
 -- what is found stands there
 pub seek_at : (t : Ty) (us : List Ty) (i : ℕ) → seek t us ≡ some i → get_elem? us i ≡ some t
-unfolding seek if◌then◌else◌
+unfolding seek if◌then◌otherwise◌
 seek_at t [] i h = cc
 seek_at t (u ∷ us) i h = go (λ j. seek_at t us j) (same_ty t u) refl h
   where
     go : ((j : ℕ) → seek t us ≡ some j → get_elem? us j ≡ some t) → (p : Bool) → same_ty t u ≡ p
-        → (if p then some 0 else later (seek t us)) ≡ some i → get_elem? (u ∷ us) i ≡ some t
+        → (if p then some 0 otherwise later (seek t us)) ≡ some i → get_elem? (u ∷ us) i ≡ some t
     go ih true e q = let z : i ≡ 0 = cc in rw z (ap some (sym (same_ty_eq t u e)))
     go ih false e q = let r = later_some (seek t us) i q in rw r.1 (ih r.0 r.2)
 

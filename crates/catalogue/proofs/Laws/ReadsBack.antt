@@ -4,7 +4,7 @@ use Rattle.std.proofs.Common.{append_assoc, ◌∙◌, ap, arith, length-append,
 use Rattle.std.proofs.Math.Option.{some}
 use Prim.Native.Char.{code}
 use Rattle.std.proofs.Math.Seq.{take-append_seam, drop-append_seam}
-use Rattle.grammar.specs.Text.{Text, if◌then◌else◌, choose, digit, digit_value}
+use Rattle.grammar.specs.Text.{Text, if◌then◌otherwise◌, choose, digit, digit_value}
 use Rattle.catalogue.specs.Bytes.{all, first, and_left}
 use Rattle.catalogue.specs.Laws.Bytes.{or_left, or_right, run_of, past_of}
 use Rattle.catalogue.specs.Tree.{Letter, Wrap, Kind, letter_code, wrap_code, kind_code, lv, lw, lb, lc, la, lh, ls, lt, li, lj, ll, lm, lx, ly, ln, lo}
@@ -20,7 +20,7 @@ use Rattle.catalogue.specs.Recogniser.{lead_wrap, lead_digit, lead, finish, pars
 -- ---------------------------------------------------------------- leaves
 
 cut_at : (n r : Text) → cut (length n) (n ++ r) ≡ rd n r
-unfolding cut if◌then◌else◌
+unfolding cut if◌then◌otherwise◌
 cut_at n r =
     rw (le-leb (length n) (length (n ++ r)) (rw (length-append n r) (omega arith)))
     (rw (take-append_seam n r, drop-append_seam n r) refl)
@@ -41,16 +41,16 @@ name_read n r h =
     ) (cut_at n r)
 
 pub ref_read : (i : ℕ) (r : Text) → read_ref (ref_digits i ++ (code "_" ∷ r)) ≡ rd i r
-unfolding read_ref digit digit_value if◌then◌else◌
+unfolding read_ref digit digit_value if◌then◌otherwise◌
 ref_read i r =
     rw (past_of (digit 36) (ref_digits i) (code "_" ∷ r) (ref_all i) refl, run_of (digit 36) (ref_digits i) (code "_" ∷ r) (ref_all i) refl, ref_index i) refl
 
 pub lead_digit_is : (c : ℕ) → digit 10 c ≡ true → lead c ≡ lead_digit
-unfolding lead if◌then◌else◌
+unfolding lead if◌then◌otherwise◌
 lead_digit_is c h = rw h refl
 
 pub lead_letter_is : (l : Letter) → lead (letter_code l) ≡ lead_letter l
-unfolding lead digit digit_value if◌then◌else◌ choose with_code
+unfolding lead digit digit_value if◌then◌otherwise◌ choose with_code
 lead_letter_is lv = refl
 lead_letter_is lw = refl
 lead_letter_is lb = refl
@@ -74,7 +74,7 @@ lead_letter_is lg = refl
 lead_letter_is lz = refl
 
 pub lead_wrap_is : (w : Wrap) → lead (wrap_code w) ≡ lead_wrap w
-unfolding lead digit digit_value if◌then◌else◌ choose with_code
+unfolding lead digit digit_value if◌then◌otherwise◌ choose with_code
 lead_wrap_is wP = refl
 lead_wrap_is wR = refl
 lead_wrap_is wO = refl
@@ -158,7 +158,7 @@ no_E [] h = refl
 no_E (c ∷ r) h = or_right (eqb c 73) (eqb c 69) h
 
 pub next_no : {A : Type 0} (c : ℕ) (r : Text) (g : Text → A) (x : A) → first (λ d. eqb d c) r ≡ false → if_next c r g x ≡ x
-unfolding if◌then◌else◌
+unfolding if◌then◌otherwise◌
 next_no c [] g x h = refl
 next_no c (d ∷ r) g x h = rw h refl
 
@@ -203,11 +203,11 @@ more_name n r f q h =
     rw (append_assoc (length_digits n) n r) (more_digits (length_digits n) (n ++ r) f q (digits_some n) (digits_all n) n r (name_read n r h))
 
 parse_ref : (i : ℕ) (r : Text) (f : ℕ) → parse (suc f) (ref_bytes i ++ r) ≡ refs_or i r (λ r'. parse_args f r')
-unfolding parse lead digit digit_value if◌then◌else◌
+unfolding parse lead digit digit_value if◌then◌otherwise◌
 parse_ref i r f = rw (append_assoc (ref_digits i) (95 ∷ []) r, ref_read i r) refl
 
 nest_ref : (i : ℕ) (r : Text) (f : ℕ) → parse_nest (suc f) (ref_bytes i ++ r) ≡ parse_more f (p_ref i) r
-unfolding parse lead digit digit_value if◌then◌else◌
+unfolding parse lead digit digit_value if◌then◌otherwise◌
 nest_ref i r f = rw (append_assoc (ref_digits i) (95 ∷ []) r, ref_read i r) refl
 
 -- ---------------------------------------------------------------- lengths
@@ -242,7 +242,7 @@ ref_long i r = simp length-append (omega arith)
 -- ---------------------------------------------------------------- literals
 
 pub kind_at : (k : Kind) → with_code kind_code (kind_code k) all_kinds ≡ some k
-unfolding with_code if◌then◌else◌
+unfolding with_code if◌then◌otherwise◌
 kind_at kb = refl
 kind_at ki = refl
 kind_at kj = refl
@@ -254,11 +254,11 @@ no_n [] r h = refl
 no_n (c ∷ v) r h = let k = digit_low c (and_left (digit 10 c) (all (digit 10) v) h) in ne_eqb c 110 (λ e. (omega arith))
 
 with_kind_is : (k : Kind) (g : Bool) (v r : Text) → all (digit 10) v ≡ true → with_kind (some k) g (v ++ (69 ∷ r)) ≡ rd (s_lit k g v) r
-unfolding digit digit_value if◌then◌else◌
+unfolding digit digit_value if◌then◌otherwise◌
 with_kind_is k g v r h = rw (past_of (digit 10) v (69 ∷ r) h refl, run_of (digit 10) v (69 ∷ r) h refl) refl
 
 lit_read : (k : Kind) (g : Bool) (v r : Text) → all (digit 10) v ≡ true → read_lit (kind_code k ∷ (minus g ++ (v ++ (69 ∷ r)))) ≡ rd (s_lit k g v) r
-unfolding read_lit if◌then◌else◌
+unfolding read_lit if◌then◌otherwise◌
 lit_read k true v r h = rw (kind_at k) (with_kind_is k true v r h)
 lit_read k false v r h =
     rw (kind_at k)
@@ -326,7 +326,7 @@ spell_long (nest_app p ss) o r = simp length-append (omega arith)
 spell_long (s_lit k g v) o r = simp length-append (omega arith)
 
 mutual
-  unfolding parse spell lead digit digit_value if◌then◌else◌ choose with_code
+  unfolding parse spell lead digit digit_value if◌then◌otherwise◌ choose with_code
 
   pub parse_spell : (s : Sp) → OkSp s → (r : Text) → first (λ c. eqb c (code "I")) r ≡ false → (f : ℕ) → length (spell s ++ r) ≤ f
       → parse f (spell s ++ r) ≡ rd s r

@@ -4,7 +4,7 @@ use Rattle.std.proofs.Common.{append_assoc, append-nil, ◌∙◌, ap, arith, le
 use Rattle.std.proofs.Math.Option.{Option, none, some}
 use Prim.Native.Char.{code}
 use Rattle.std.proofs.Math.ListN.{get_elem?}
-use Rattle.grammar.specs.Text.{Text, b, if◌then◌else◌, same, digit, digit_value}
+use Rattle.grammar.specs.Text.{Text, b, if◌then◌otherwise◌, same, digit, digit_value}
 use Rattle.catalogue.specs.Bytes.{all, first, and_left, and_right, same_eq}
 use Rattle.catalogue.specs.Tree.{Kind, Ty, Args, Enc, kb, ki, kj, kl, km, app, is_class, is_bare, single}
 use Rattle.catalogue.specs.Spelling.{Sp, Pre, SpArgs, SpName, Sym, s_letter, s_wrap, s_ref, plain, templ, retempl, nest_sub, nest_app, s_lit, p_ref}
@@ -21,7 +21,7 @@ use Rattle.catalogue.proofs.Laws.ReadsBack.{OkSp, OkPre, OkArgs, is_ie, no_I, ar
 -- ---------------------------------------------------------------- what resolves has permitted names and values
 
 pub lit_digits : (k : Kind) (g : Bool) (v : Text) → lit_ok k g v ≡ true → all (digit 10) v ≡ true
-unfolding lit_ok digit digit_value if◌then◌else◌ b
+unfolding lit_ok digit digit_value if◌then◌otherwise◌ b
 lit_digits kb g v h = truth (same v (b "0")) refl (and_right (not g) (same v (b "0") || same v (b "1")) h)
   where
     truth : (p : Bool) → same v (b "0") ≡ p → p || same v (b "1") ≡ true → all (digit 10) v ≡ true

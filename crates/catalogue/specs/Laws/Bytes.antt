@@ -1,7 +1,7 @@
 -- Laws of Bytes.antt. Assumes nothing.
 use Rattle.std.specs.Prelude.{Bool, true, false, not, ◌||◌, ◌⊎◌, [], ◌∷◌, ◌++◌, ◌≡◌, refl, ℕ}
 use Rattle.std.proofs.Common.{inl, inr, sym, ap}
-use Rattle.grammar.specs.Text.{Text, if◌then◌else◌, run, past}
+use Rattle.grammar.specs.Text.{Text, if◌then◌otherwise◌, run, past}
 use Rattle.catalogue.specs.Bytes.{all, first, and_left, and_right}
 
 pub or_left : (p q : Bool) → p || q ≡ false → p ≡ false
@@ -35,13 +35,13 @@ not-true false h = refl
 -- ---------------------------------------------------------------- the longest run that passes a test
 
 pub run_of : (p : ℕ → Bool) (v m : Text) → all p v ≡ true → first p m ≡ false → run p (v ++ m) ≡ v
-unfolding run if◌then◌else◌
+unfolding run if◌then◌otherwise◌
 run_of p [] [] h e = refl
 run_of p [] (x ∷ m) h e = rw e refl
 run_of p (x ∷ v) m h e = rw (and_left (p x) (all p v) h) (ap (◌∷◌ x) (run_of p v m (and_right (p x) (all p v) h) e))
 
 pub past_of : (p : ℕ → Bool) (v m : Text) → all p v ≡ true → first p m ≡ false → past p (v ++ m) ≡ m
-unfolding past if◌then◌else◌
+unfolding past if◌then◌otherwise◌
 past_of p [] [] h e = refl
 past_of p [] (x ∷ m) h e = rw e refl
 past_of p (x ∷ v) m h e = rw (and_left (p x) (all p v) h) (past_of p v m (and_right (p x) (all p v) h) e)

@@ -6,7 +6,7 @@ use Rattle.std.proofs.Math.Path.{refl, sym, ap}
 use Rattle.std.proofs.Common.{◌∙◌, arith}
 use borrow.Author.Tests.{le-leb, leb-true}
 use Rattle.std.proofs.Math.Dec.{leb}
-use Rattle.grammar.specs.Text.{Text, if◌then◌else◌, choose}
+use Rattle.grammar.specs.Text.{Text, if◌then◌otherwise◌, choose}
 use Rattle.grammar.specs.Limits.{most_symbol_bytes, least_text, least_store}
 use Rattle.grammar.specs.Tables.{◌⇒◌}
 use Rattle.grammar.specs.Reader.{find}
@@ -33,11 +33,11 @@ module _ {m n : ℕ} (h : m ≤ n) where
 -- two readings that differ only where one is refused with 13
 behind_front : (limit : ℕ) (s : Text) (f g : Text → Answer) → ((u : Text) → (f u ≡ refusal 13 → ⊥) → g u ≡ f u)
     → (front limit s f ≡ refusal 13 → ⊥) → front limit s g ≡ front limit s f
-unfolding front if◌then◌else◌ choose
+unfolding front if◌then◌otherwise◌ choose
 behind_front limit s f g e = go (ltb limit (length s)) (high s) (find ("_Z" ⇒ tt {0} ∷ "__Z" ⇒ tt {0} ∷ []) s)
   where
     told : Bool → Bool → Option (Unit {0} × Text) → (Text → Answer) → Answer
-    told i j o f = if i then refusal 1 else if j then refusal 2 else choose o (λ r. f r.1) (refusal 3)
+    told i j o f = if i then refusal 1 otherwise if j then refusal 2 otherwise choose o (λ r. f r.1) (refusal 3)
 
     go : (i j : Bool) (o : Option (Unit {0} × Text)) → (told i j o f ≡ refusal 13 → ⊥) → told i j o g ≡ told i j o f
     go true j o k = refl
@@ -63,7 +63,7 @@ module _ {m n : ℕ} (h : m ≤ n) where
       )
 
   longer_told : (o : Option Text) → (normal_told m o ≡ refusal 13 → ⊥) → normal_told n o ≡ normal_told m o
-  unfolding normal_told if◌then◌else◌
+  unfolding normal_told if◌then◌otherwise◌
   longer_told none k = refl
   longer_told (some w) k = go (leb (length w) m) refl
     where
@@ -85,10 +85,10 @@ module _ {m n : ℕ} (h : m ≤ n) where
   -- with the slices of the entry
   module _ (l : Lent) (fits : normal_work_fits n l ≡ true) (s : Text) where
     abbrev behind : ℕ → Text → Answer
-    behind limit u = if normal_work_fits limit l then within l.out (normal_after limit s (mangled_name u)) else refusal 14
+    behind limit u = if normal_work_fits limit l then within l.out (normal_after limit s (mangled_name u)) otherwise refusal 14
 
     longer_behind : (u : Text) → (behind m u ≡ refusal 13 → ⊥) → behind n u ≡ behind m u
-    unfolding within if◌then◌else◌
+    unfolding within if◌then◌otherwise◌
     longer_behind u k =
         let e : behind m u ≡ within l.out (normal_after m s (mangled_name u)) = rw (longer_fits l fits) in
         rw fits (ap (within l.out) (longer_after s (mangled_name u) (λ z. k (e ∙ ap (within l.out) z))) ∙ sym e)

@@ -3,7 +3,7 @@
 use Rattle.std.specs.Prelude.{Bool, true, false, List, [], ◌∷◌, ◌++◌, ℕ, eqb}
 use Rattle.std.proofs.Math.Option.{Option, none, some}
 use Prim.Native.Char.{code}
-use Rattle.grammar.specs.Text.{Text, b, if◌then◌else◌, same, run, past, digit}
+use Rattle.grammar.specs.Text.{Text, b, if◌then◌otherwise◌, same, run, past, digit}
 use Rattle.grammar.specs.Tables.{Row, ◌⇒◌}
 use Rattle.catalogue.specs.Bytes.{first}
 use Rattle.catalogue.specs.Tree.{Ty, Args, Enc, Kind, letter, wrap, root, sub, app, lit, one, also, enc, print, lv, lw, lb, lc, la, lh, ls, lt, li, lj}
@@ -14,7 +14,7 @@ use Rattle.catalogue.specs.Laws.Words.{Token, a_word, a_mark, lex}
 
 unfoldable pub find : Text → List (Row Ty) → Ty → Ty
 find x [] d = d
-find x ((w ⇒ t) ∷ rows) d = if same x (b w) then t else find x rows d
+find x ((w ⇒ t) ∷ rows) d = if same x (b w) then t otherwise find x rows d
 
 -- the words that no source name is, in document 01's order
 unfoldable pub words : List (Row Ty)
@@ -49,13 +49,13 @@ phrases =
     ∷ []
 
 unfoldable pub kind_of : Text → Kind
-kind_of m = if same m (b "u") then kj else if same m (b "l") then kl else if same m (b "ul") then km else ki
+kind_of m = if same m (b "u") then kj otherwise if same m (b "l") then kl otherwise if same m (b "ul") then km otherwise ki
 
 unfoldable pub number_of : Bool → Text → Ty
 number_of g x = lit (kind_of (past (digit 10) x)) g (run (digit 10) x)
 
 unfoldable pub from_word : Text → Ty
-from_word x = if first (digit 10) x then number_of false x else find x words (root x)
+from_word x = if first (digit 10) x then number_of false x otherwise find x words (root x)
 
 -- ---------------------------------------------------------------- the automaton
 
@@ -131,27 +131,27 @@ no_item (items paren c ts ∷ k) = closed c (one (letter lv))
 
 abbrev at_want : List Frame → ℕ → State
 at_want k c =
-    if eqb c (code "-") then minus k else
-    if eqb c (code ".") then dot k else
-    if eqb c (code ")") then no_item k else bad
+    if eqb c (code "-") then minus k otherwise
+    if eqb c (code ".") then dot k otherwise
+    if eqb c (code ")") then no_item k otherwise bad
 
 abbrev at_have : Ty → List Frame → ℕ → State
 at_have t k c =
-    if eqb c (code "*") then have (wrap wP t) k else
-    if eqb c (code "&") then have (ampersand t) k else
-    if eqb c (code " ") then gap t k else
-    if eqb c (code ":") then colon t k else
-    if eqb c (code "<") then want (items angle t [] ∷ k) else
-    if eqb c (code ">") then close_angle t k else
-    if eqb c (code ",") then next_item t k else
-    if eqb c (code "(") then open_paren t k else
-    if eqb c (code ")") then close_paren t k else bad
+    if eqb c (code "*") then have (wrap wP t) k otherwise
+    if eqb c (code "&") then have (ampersand t) k otherwise
+    if eqb c (code " ") then gap t k otherwise
+    if eqb c (code ":") then colon t k otherwise
+    if eqb c (code "<") then want (items angle t [] ∷ k) otherwise
+    if eqb c (code ">") then close_angle t k otherwise
+    if eqb c (code ",") then next_item t k otherwise
+    if eqb c (code "(") then open_paren t k otherwise
+    if eqb c (code ")") then close_paren t k otherwise bad
 
 -- a word after a space: const or volatile, or the next word of a phrase
 abbrev joined : Ty → Text → Ty
 joined t x =
-    if same x (b "const") then wrap wK t else
-    if same x (b "volatile") then wrap wV t else find (print t ++ (code " " ∷ x)) phrases t
+    if same x (b "const") then wrap wK t otherwise
+    if same x (b "volatile") then wrap wV t otherwise find (print t ++ (code " " ∷ x)) phrases t
 
 unfoldable pub step : State → Token → State
 step (want k) (a_word x) = have (from_word x) k
@@ -159,22 +159,22 @@ step (want k) (a_mark c) = at_want k c
 step (have t k) (a_word x) = bad
 step (have t k) (a_mark c) = at_have t k c
 step (gap t k) (a_word x) = have (joined t x) k
-step (gap t k) (a_mark c) = if eqb c (code ">") then close_angle t k else bad
+step (gap t k) (a_mark c) = if eqb c (code ">") then close_angle t k otherwise bad
 step (colon t k) (a_word x) = bad
-step (colon t k) (a_mark c) = if eqb c (code ":") then scope t k else bad
+step (colon t k) (a_mark c) = if eqb c (code ":") then scope t k otherwise bad
 step (scope t k) (a_word x) = have (sub t x) k
 step (scope t k) (a_mark c) = bad
 step (comma k) (a_word x) = bad
-step (comma k) (a_mark c) = if eqb c (code " ") then want k else bad
+step (comma k) (a_mark c) = if eqb c (code " ") then want k otherwise bad
 step (minus k) (a_word x) = have (number_of true x) k
 step (minus k) (a_mark c) = bad
 step (dot k) (a_word x) = bad
-step (dot k) (a_mark c) = if eqb c (code ".") then dots k else bad
+step (dot k) (a_mark c) = if eqb c (code ".") then dots k otherwise bad
 step (dots k) (a_word x) = bad
-step (dots k) (a_mark c) = if eqb c (code ".") then have (letter lz) k else bad
+step (dots k) (a_mark c) = if eqb c (code ".") then have (letter lz) k otherwise bad
 step (closed t xs) (a_word x) = bad
-step (closed t xs) (a_mark c) = if eqb c (code " ") then closed_gap t xs else bad
-step (closed_gap t xs) (a_word x) = if same x (b "const") then closed_const t xs else bad
+step (closed t xs) (a_mark c) = if eqb c (code " ") then closed_gap t xs otherwise bad
+step (closed_gap t xs) (a_word x) = if same x (b "const") then closed_const t xs otherwise bad
 step (closed_gap t xs) (a_mark c) = bad
 step (closed_const t xs) (a_word x) = bad
 step (closed_const t xs) (a_mark c) = bad

@@ -2,7 +2,7 @@
 use Rattle.std.specs.Prelude.{Bool, true, false, [], ◌∷◌, ◌++◌, ◌≡◌, refl, ℕ, zero, suc, ◌+◌, ◌-◌, ◌*◌, ◌/◌, ◌%◌, ◌≤◌, ◌<◌, leb, ltb}
 use Rattle.std.proofs.lemmas.Bool.{false≢true, lt-leb}
 use Rattle.std.proofs.Common.{sym, ◌∙◌, ap, arith, ltb-true, ltb-false, leb-true, le-leb, lt-ltb, le-ltb}
-use Rattle.grammar.specs.Text.{Text, if◌then◌else◌, between, digit_value, digit, number, decimal}
+use Rattle.grammar.specs.Text.{Text, if◌then◌otherwise◌, between, digit_value, digit, number, decimal}
 use Rattle.grammar.specs.Grammar.{index}
 use Rattle.catalogue.specs.Bytes.{all, and_left, and_right}
 use Rattle.catalogue.specs.Laws.Bytes.{all_append}
@@ -11,10 +11,10 @@ use Rattle.catalogue.specs.Spelling.{digit_of, base36, ref_digits}
 -- ---------------------------------------------------------------- one digit
 
 pub value_digit : (d : ℕ) → d < 36 → digit_value (digit_of d) ≡ d
-unfolding digit_value digit_of if◌then◌else◌
+unfolding digit_value digit_of if◌then◌otherwise◌
 value_digit d h = go (ltb d 10) refl
   where
-    go : (p : Bool) → ltb d 10 ≡ p → digit_value (if p then 48 + d else 65 + (d - 10)) ≡ d
+    go : (p : Bool) → ltb d 10 ≡ p → digit_value (if p then 48 + d otherwise 65 + (d - 10)) ≡ d
     go true e =
         let k = ltb-true d 10 e in
         rw (le-leb 48 (48 + d) (omega arith), le-leb (48 + d) 57 (omega arith)) (omega arith)
@@ -29,11 +29,11 @@ value_digit d h = go (ltb d 10) refl
 
 -- a decimal digit is a byte from 48 to 57
 pub digit_low : (c : ℕ) → digit 10 c ≡ true → (48 ≤ c) × (c ≤ 57)
-unfolding digit digit_value if◌then◌else◌
+unfolding digit digit_value if◌then◌otherwise◌
 digit_low c h = go (between 48 57 c) refl (between 65 90 c) (between 97 122 c) h
   where
     go : (p : Bool) → between 48 57 c ≡ p → (q r : Bool)
-        → ltb (if p then c - 48 else if q then c - 65 + 10 else if r then c - 97 + 10 else 36) 10 ≡ true → (48 ≤ c) × (c ≤ 57)
+        → ltb (if p then c - 48 otherwise if q then c - 65 + 10 otherwise if r then c - 97 + 10 otherwise 36) 10 ≡ true → (48 ≤ c) × (c ≤ 57)
     go true e q r k = (leb-true 48 c (and_left (leb 48 c) (leb c 57) e), leb-true c 57 (and_right (leb 48 c) (leb c 57) e))
     go false e true r k = absurd (false≢true (sym (le-ltb (c - 65 + 10) 10 (omega arith)) ∙ k))
     go false e false true k = absurd (false≢true (sym (le-ltb (c - 97 + 10) 10 (omega arith)) ∙ k))
@@ -44,7 +44,7 @@ unfolding digit
 digit_36 c h = let k = ltb-true (digit_value c) 10 h in lt-ltb (digit_value c) 36 (omega arith)
 
 digit_of_10 : (d : ℕ) → d < 10 → digit_of d ≡ 48 + d
-unfolding digit_of if◌then◌else◌
+unfolding digit_of if◌then◌otherwise◌
 digit_of_10 d h = rw (lt-ltb d 10 h) refl
 
 pub decimal_value_digit : (d : ℕ) → d < 10 → digit_value (48 + d) ≡ d
@@ -75,67 +75,67 @@ some_snoc (d ∷ t) c = tt
 -- ---------------------------------------------------------------- decimal
 
 pub decimal_value : (k n : ℕ) → n < k → number 10 0 (decimal k n) ≡ n
-unfolding decimal number if◌then◌else◌
+unfolding decimal number if◌then◌otherwise◌
 decimal_value zero n h = absurd (omega arith)
 decimal_value (suc k) n h = go (ltb n 10) refl (λ l. decimal_value k (n / 10) l)
   where
     go : (p : Bool) → ltb n 10 ≡ p → (n / 10 < k → number 10 0 (decimal k (n / 10)) ≡ n / 10)
-        → number 10 0 (if p then (48 + n) ∷ [] else decimal k (n / 10) ++ ((48 + n % 10) ∷ [])) ≡ n
+        → number 10 0 (if p then (48 + n) ∷ [] otherwise decimal k (n / 10) ++ ((48 + n % 10) ∷ [])) ≡ n
     go true e ih = rw (decimal_value_digit n (ltb-true n 10 e)) (omega arith)
     go false e ih =
         let l = ltb-false n 10 e in
         rw (number_snoc 10 0 (48 + n % 10) (decimal k (n / 10)), ih (omega arith), decimal_value_digit (n % 10) (omega arith)) (omega arith)
 
 pub decimal_all : (k n : ℕ) → all (digit 10) (decimal k n) ≡ true
-unfolding decimal if◌then◌else◌
+unfolding decimal if◌then◌otherwise◌
 decimal_all zero n = refl
 decimal_all (suc k) n = go (ltb n 10) refl (decimal_all k (n / 10))
   where
     go : (p : Bool) → ltb n 10 ≡ p → all (digit 10) (decimal k (n / 10)) ≡ true
-        → all (digit 10) (if p then (48 + n) ∷ [] else decimal k (n / 10) ++ ((48 + n % 10) ∷ [])) ≡ true
+        → all (digit 10) (if p then (48 + n) ∷ [] otherwise decimal k (n / 10) ++ ((48 + n % 10) ∷ [])) ≡ true
     go true e ih = rw (decimal_digit n (ltb-true n 10 e)) refl
     go false e ih = all_append (digit 10) (decimal k (n / 10)) ((48 + n % 10) ∷ []) ih (rw (decimal_digit (n % 10) (omega arith)) refl)
 
 pub decimal_some : (k n : ℕ) → Some (decimal (suc k) n)
-unfolding decimal if◌then◌else◌
+unfolding decimal if◌then◌otherwise◌
 decimal_some k n = go (ltb n 10)
   where
-    go : (p : Bool) → Some (if p then (48 + n) ∷ [] else decimal k (n / 10) ++ ((48 + n % 10) ∷ []))
+    go : (p : Bool) → Some (if p then (48 + n) ∷ [] otherwise decimal k (n / 10) ++ ((48 + n % 10) ∷ []))
     go true = tt
     go false = some_snoc (decimal k (n / 10)) (48 + n % 10)
 
 -- ---------------------------------------------------------------- base 36
 
 base36_value : (k n : ℕ) → n ≤ k → number 36 0 (base36 k n) ≡ n
-unfolding base36 number if◌then◌else◌
+unfolding base36 number if◌then◌otherwise◌
 base36_value zero n h = rw (value_digit n (omega arith)) (omega arith)
 base36_value (suc k) n h = go (ltb n 36) refl (λ l. base36_value k (n / 36) l)
   where
     go : (p : Bool) → ltb n 36 ≡ p → (n / 36 ≤ k → number 36 0 (base36 k (n / 36)) ≡ n / 36)
-        → number 36 0 (if p then digit_of n ∷ [] else base36 k (n / 36) ++ (digit_of (n % 36) ∷ [])) ≡ n
+        → number 36 0 (if p then digit_of n ∷ [] otherwise base36 k (n / 36) ++ (digit_of (n % 36) ∷ [])) ≡ n
     go true e ih = rw (value_digit n (ltb-true n 36 e)) (omega arith)
     go false e ih =
         let l = ltb-false n 36 e in
         rw (number_snoc 36 0 (digit_of (n % 36)) (base36 k (n / 36)), ih (omega arith), value_digit (n % 36) (omega arith)) (omega arith)
 
 base36_all : (k n : ℕ) → n ≤ k → all (digit 36) (base36 k n) ≡ true
-unfolding base36 if◌then◌else◌
+unfolding base36 if◌then◌otherwise◌
 base36_all zero n h = rw (base36_digit n (omega arith)) refl
 base36_all (suc k) n h = go (ltb n 36) refl (λ l. base36_all k (n / 36) l)
   where
     go : (p : Bool) → ltb n 36 ≡ p → (n / 36 ≤ k → all (digit 36) (base36 k (n / 36)) ≡ true)
-        → all (digit 36) (if p then digit_of n ∷ [] else base36 k (n / 36) ++ (digit_of (n % 36) ∷ [])) ≡ true
+        → all (digit 36) (if p then digit_of n ∷ [] otherwise base36 k (n / 36) ++ (digit_of (n % 36) ∷ [])) ≡ true
     go true e ih = rw (base36_digit n (ltb-true n 36 e)) refl
     go false e ih =
         let l = ltb-false n 36 e in
         all_append (digit 36) (base36 k (n / 36)) (digit_of (n % 36) ∷ []) (ih (omega arith)) (rw (base36_digit (n % 36) (omega arith)) refl)
 
 base36_some : (k n : ℕ) → Some (base36 k n)
-unfolding base36 if◌then◌else◌
+unfolding base36 if◌then◌otherwise◌
 base36_some zero n = tt
 base36_some (suc k) n = go (ltb n 36)
   where
-    go : (p : Bool) → Some (if p then digit_of n ∷ [] else base36 k (n / 36) ++ (digit_of (n % 36) ∷ []))
+    go : (p : Bool) → Some (if p then digit_of n ∷ [] otherwise base36 k (n / 36) ++ (digit_of (n % 36) ∷ []))
     go true = tt
     go false = some_snoc (base36 k (n / 36)) (digit_of (n % 36))
 

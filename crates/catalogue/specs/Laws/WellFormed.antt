@@ -2,7 +2,7 @@
 use Rattle.std.specs.Prelude.{Bool, true, false, not, ◌&&◌, ◌||◌, List, [], ◌∷◌, ◌≡◌, refl, ℕ, zero, suc}
 use Rattle.std.proofs.Math.Option.{Option, none, some}
 use Rattle.std.proofs.Math.ListN.{get_elem?}
-use Rattle.grammar.specs.Text.{if◌then◌else◌}
+use Rattle.grammar.specs.Text.{if◌then◌otherwise◌}
 use Rattle.catalogue.specs.Bytes.{and_right}
 use Rattle.catalogue.specs.Tree.{Ty, Args, Enc, letter, wrap, root, sub, app, lit, one, also, enc, is_class, is_bare, single}
 use Rattle.catalogue.specs.Spelling.{Sp, Pre, SpArgs, SpName, Sym, s_letter, s_wrap, s_ref, plain, templ, retempl, nest_sub, nest_app, s_lit, p_ref}
@@ -111,10 +111,10 @@ wf_push t [] f a = (f, tt)
 wf_push t (u ∷ us) f a = (a.0, wf_push t us f a.1)
 
 pub wf_push_new : (t : Ty) (us : List Ty) → Wf t → AllWf us → AllWf (push_new t us)
-unfolding push_new if◌then◌else◌
+unfolding push_new if◌then◌otherwise◌
 wf_push_new t us f a = go (last_is t us)
   where
-    go : (p : Bool) → AllWf (if p then us else push t us)
+    go : (p : Bool) → AllWf (if p then us otherwise push t us)
     go true = a
     go false = wf_push t us f a
 

@@ -8,7 +8,7 @@ use Prim.Native.Nat.{ℕ, suc, ◌+◌, ◌-◌, ◌≤◌, ◌<◌}
 use native.Mathlib.Omega.{arith}
 use Rattle.std.proofs.Math.ListN.{length, take, drop}
 use Rattle.std.proofs.Math.Seq.{take-length, take_at, take-suc-set}
-use Rattle.grammar.specs.Text.{Text, if◌then◌else◌}
+use Rattle.grammar.specs.Text.{Text, if◌then◌otherwise◌}
 use Rattle.grammar.specs.Names.{Lent}
 use Rattle.answer.specs.Told.{Slices, lent}
 use Rattle.answer.specs.Laws.Told.{both_true, long_fit, long_numbers_fit}
@@ -44,19 +44,19 @@ part_length l from to h = length-take-le (to - from) (drop from l) (omega (arith
 -- ---------------------------------------------------------------- the end, and one chunk more
 
 completed_more : (all chunk : Text) (q : Bool) → q ≡ eqb (length chunk) 0 → completed q (all ++ chunk) ≡ all ++ added (column 0 all) chunk
-unfolding completed added if◌then◌else◌
+unfolding completed added if◌then◌otherwise◌
 completed_more all [] q e = ap (λ (p : Bool). completed p (all ++ [])) e ∙ ap (λ (t : Text). t ++ closing (column 0 t)) (append-nil all)
 completed_more all (x ∷ t) q e = ap (λ (p : Bool). completed p (all ++ (x ∷ t))) (e ∙ ne_eqb (suc (length t)) 0 (λ z. omega arith))
 
 not_ended : (all : Text) {q : Bool} → q ≡ false → completed q all ≡ all
-unfolding completed if◌then◌else◌
+unfolding completed if◌then◌otherwise◌
 not_ended all e = ap (λ (p : Bool). completed p all) e
 
 module _ (l : Text) (used : ℕ) where
   pub completes : 0 < used → used < length l → Completes l (set l used 10) used (record { from = 0; start = used + 1; end = used + 1; ended = true })
-  unfolding closing if◌then◌else◌
+  unfolding closing if◌then◌otherwise◌
   completes h k =
-      let e : line_feed ∷ [] ≡ closing used = ap (λ (q : Bool). if q then [] else line_feed ∷ []) (sym (ne_eqb used 0 (λ z. omega arith))) in
+      let e : line_feed ∷ [] ≡ closing used = ap (λ (q : Bool). if q then [] otherwise line_feed ∷ []) (sym (ne_eqb used 0 (λ z. omega arith))) in
       record {
         is = ap (λ (j : ℕ). take j (set l used 10)) {x = used + 1} {y = suc used} (omega arith) ∙ take-suc-set l used 10 k ∙ ap (λ (t : Text). take used l ++ t) e;
         ends = ap (λ (t : Text). used + length t) e;
@@ -66,9 +66,9 @@ module _ (l : Text) (used : ℕ) where
       }
 
   pub completes_none : used ≤ 0 → Completes l l used (record { from = 0; start = used; end = used; ended = true })
-  unfolding closing if◌then◌else◌
+  unfolding closing if◌then◌otherwise◌
   completes_none h =
-      let e : [] ≡ closing used = ap (λ (q : Bool). if q then [] else line_feed ∷ []) (sym (eq-eqb used 0 (omega arith))) in
+      let e : [] ≡ closing used = ap (λ (q : Bool). if q then [] otherwise line_feed ∷ []) (sym (eq-eqb used 0 (omega arith))) in
       record {
         is = sym (append-nil (take used l)) ∙ ap (λ (t : Text). take used l ++ t) e;
         ends = omega arith ∙ ap (λ (t : Text). used + length t) e;
@@ -78,9 +78,9 @@ module _ (l : Text) (used : ℕ) where
       }
 
 closing_size : (n : ℕ) → length (closing n) ≤ 1
-unfolding closing if◌then◌else◌
+unfolding closing if◌then◌otherwise◌
 closing_size n = go (eqb n 0) where
-  go : (q : Bool) → length (if◌then◌else◌ {A = Text} q [] (line_feed ∷ [])) ≤ 1
+  go : (q : Bool) → length (if◌then◌otherwise◌ {A = Text} q [] (line_feed ∷ [])) ≤ 1
   go true = omega arith
   go false = omega arith
 
@@ -136,15 +136,15 @@ module _ (kind : Kind) (input out : Text) where
   lines_listed = fitting kind (length out) (lines input)
 
   abbrev if_sized : Bool → List Text
-  if_sized q = if q then fitting kind (length out) (lines input) else []
+  if_sized q = if q then fitting kind (length out) (lines input) otherwise []
 
 module _ (kind : Kind) (input out : Text) (work : Slices) {out' : Text} {work' : Slices} {r : Listed} (m : Lists kind input out out' work work' r) (s : work_sized kind work ≡ true) where
   listed_taken : r.taken ≡ bytes_taken (lines_listed kind input out)
-  unfolding listed lists if◌then◌else◌
+  unfolding listed lists if◌then◌otherwise◌
   listed_taken = ap (λ (x : Outcome). x.taken) m ∙ ap (λ (q : Bool). bytes_taken (if_sized kind input out q)) s
 
   listed_written : take r.written out' ≡ listing kind (lines_listed kind input out)
-  unfolding listed lists if◌then◌else◌
+  unfolding listed lists if◌then◌otherwise◌
   listed_written =
       let t : Bool → Text = λ q. listing kind (if_sized kind input out q) in
       ap (λ (x : Outcome). take x.written x.out) m
@@ -206,7 +206,7 @@ fed_as {kind} {all} {all'} {handed} {handed'} {l} {b} f e h =
     subst (λ (t : Text). Fed kind t handed' l b) e (subst (λ (t : Text). Fed kind all t l b) h f)
 
 pub fed_none : (kind : Kind) (l : Text) → Fed kind [] header l nothing
-unfolding lines bytes_taken listing cut_lines column completed if◌then◌else◌
+unfolding lines bytes_taken listing cut_lines column completed if◌then◌otherwise◌
 fed_none kind l = record {
   done = [];
   whole = refl;

@@ -5,7 +5,7 @@ use Rattle.std.proofs.Common.{true≢false, sym, add-one, arith, drop_of_length-
 use Rattle.std.proofs.Math.Path.{refl}
 use borrow.Author.Tests.{le-leb, lt-leb, lt-ltb, le-ltb}
 use Rattle.std.proofs.Math.Seq.{drop-cons}
-use Rattle.grammar.specs.Text.{Text, b, if◌then◌else◌, choose, starts}
+use Rattle.grammar.specs.Text.{Text, b, if◌then◌otherwise◌, choose, starts}
 use Rattle.grammar.specs.Limits.{most_symbol_bytes}
 use Rattle.grammar.specs.Reader.{find}
 use Rattle.grammar.specs.Names.{front, high}
@@ -46,24 +46,24 @@ starts_long (x ∷ s) (y ∷ w) e = omega (arith, starts_long s w (both_true (eq
 
 module _ (s : Text) where
   pub front_1 : most_symbol_bytes < length s → Fronts s (Refused 1)
-  unfolding front if◌then◌else◌
+  unfolding front if◌then◌otherwise◌
   front_1 h = record { is = λ f. rw (lt-ltb most_symbol_bytes (length s) h); inside = tt }
 
   module _ (h : length s ≤ most_symbol_bytes) where
     pub front_2 : high s ≡ true → Fronts s (Refused 2)
-    unfolding front if◌then◌else◌
+    unfolding front if◌then◌otherwise◌
     front_2 g = record { is = λ f. rw (le-ltb most_symbol_bytes (length s) h, g); inside = tt }
 
     module _ (g : high s ≡ false) where
       pub front_z : starts s (b "_Z") ≡ true → Fronts s (Behind 2)
-      unfolding front find b choose if◌then◌else◌
+      unfolding front find b choose if◌then◌otherwise◌
       front_z e = record { is = λ f. rw (le-ltb most_symbol_bytes (length s) h, g, e); inside = (starts_long s (b "_Z") e, h) }
 
       module _ (e : starts s (b "_Z") ≡ false) where
         pub front_zz : starts s (b "__Z") ≡ true → Fronts s (Behind 3)
-        unfolding front find b choose if◌then◌else◌
+        unfolding front find b choose if◌then◌otherwise◌
         front_zz k = record { is = λ f. rw (le-ltb most_symbol_bytes (length s) h, g, e, k); inside = (starts_long s (b "__Z") k, h) }
 
         pub front_3 : starts s (b "__Z") ≡ false → Fronts s (Refused 3)
-        unfolding front find b choose if◌then◌else◌
+        unfolding front find b choose if◌then◌otherwise◌
         front_3 k = record { is = λ f. rw (le-ltb most_symbol_bytes (length s) h, g, e, k); inside = tt }

@@ -3,7 +3,7 @@
 use Rattle.std.specs.Prelude.{Bool, true, false, [], ◌∷◌, ◌++◌, ◌≡◌, refl, ℕ, suc, ◌≤◌, eqb, leb, length}
 use Rattle.std.proofs.Math.Option.{Option, none, some}
 use Rattle.std.proofs.Common.{sym, ap, ◌∙◌, subst, arith, le-leb, leb-true}
-use Rattle.grammar.specs.Text.{Text, if◌then◌else◌, choose, each}
+use Rattle.grammar.specs.Text.{Text, if◌then◌otherwise◌, choose, each}
 use Rattle.grammar.specs.Limits.{most_symbol_bytes, most_text_bytes}
 use Rattle.grammar.specs.Tables.{labels}
 use Rattle.grammar.specs.Reader.{State, Result, ok, refused, Reader, onto, refuse, give, find, by_code, start}
@@ -19,9 +19,9 @@ data Short : Result Text → Type 0 where
   none_read : {r : ℕ} → Short (refused r)
 
 give_short : (t : Text) (s : State) → Short (give t s)
-unfolding give if◌then◌else◌
+unfolding give if◌then◌otherwise◌
 give_short t s = go (leb (length t) most_text_bytes) refl where
-  go : (q : Bool) → leb (length t) most_text_bytes ≡ q → Short (if◌then◌else◌ {A = Reader Text} q (λ u. ok t u) (refuse 11) s)
+  go : (q : Bool) → leb (length t) most_text_bytes ≡ q → Short (if◌then◌otherwise◌ {A = Reader Text} q (λ u. ok t u) (refuse 11) s)
   go true e = short (leb-true (length t) most_text_bytes e)
   go false e = none_read
 
@@ -30,8 +30,8 @@ unfolding onto
 onto_short (ok x s) f h = h x s
 onto_short (refused r) f h = none_read
 
-if_short : (q : Bool) (f g : Reader Text) (s : State) → Short (f s) → Short (g s) → Short ((if q then f else g) s)
-unfolding if◌then◌else◌
+if_short : (q : Bool) (f g : Reader Text) (s : State) → Short (f s) → Short (g s) → Short ((if q then f otherwise g) s)
+unfolding if◌then◌otherwise◌
 if_short true f g s h k = h
 if_short false f g s h k = k
 
@@ -42,8 +42,8 @@ choose_short none f m s h k = k
 
 -- the first row, or another
 row_short : {A : Type 0} (q : Bool) (y : A) (x : Option A) (f : A → Reader Text) (m : Reader Text) (s : State)
-    → Short (f y s) → Short (choose x f m s) → Short (choose (if q then some y else x) f m s)
-unfolding choose if◌then◌else◌
+    → Short (f y s) → Short (choose x f m s) → Short (choose (if q then some y otherwise x) f m s)
+unfolding choose if◌then◌otherwise◌
 row_short true y x f m s h k = h
 row_short false y x f m s h k = k
 
@@ -76,10 +76,10 @@ reading_short s = subst Short (sym (reading_is ⟨encoding⟩ s)) (encoding_shor
 -- ---------------------------------------------------------------- a name
 
 fewer : (t : Text) → length (without_slots t) ≤ length t
-unfolding without_slots each if◌then◌else◌
+unfolding without_slots each if◌then◌otherwise◌
 fewer [] = omega arith
 fewer (x ∷ t) = go (eqb x slot) (fewer t) where
-  go : (q : Bool) → length (without_slots t) ≤ length t → length (if◌then◌else◌ {A = Text} q [] (x ∷ []) ++ without_slots t) ≤ suc (length t)
+  go : (q : Bool) → length (without_slots t) ≤ length t → length (if◌then◌otherwise◌ {A = Text} q [] (x ∷ []) ++ without_slots t) ≤ suc (length t)
   go true h = omega arith
   go false h = omega arith
 
@@ -88,9 +88,9 @@ data Fits : Answer → Type 0 where
   no_name : {r : ℕ} → Fits (refusal r)
 
 finished_fits : (r : Result Text) → Short r → Fits (finished r)
-unfolding finished if◌then◌else◌
+unfolding finished if◌then◌otherwise◌
 finished_fits (ok t s) (short h) = go (ended s.rest) where
-  go : (q : Bool) → Fits (if q then named (without_slots t) else refusal 5)
+  go : (q : Bool) → Fits (if q then named (without_slots t) otherwise refusal 5)
   go true = fits {t = without_slots t} (omega (arith, fewer t, h))
   go false = no_name
 finished_fits (refused r) none_read = no_name
@@ -99,8 +99,8 @@ mangled_fits : (t : Text) → Fits (mangled_name t)
 unfolding mangled_name
 mangled_fits t = finished_fits (reading ⟨encoding⟩ (start t)) (reading_short (start t))
 
-if_fits : (q : Bool) (x y : Answer) → Fits x → Fits y → Fits (if q then x else y)
-unfolding if◌then◌else◌
+if_fits : (q : Bool) (x y : Answer) → Fits x → Fits y → Fits (if q then x otherwise y)
+unfolding if◌then◌otherwise◌
 if_fits true x y h k = h
 if_fits false x y h k = k
 
@@ -124,14 +124,14 @@ short_answer s = short_length (demangle most_symbol_bytes s) (demangle_fits most
 -- ---------------------------------------------------------------- the entry for names
 
 pub within_is : (n : ℕ) (a : Answer) → length_of a ≤ n → within n a ≡ a
-unfolding within length_of if◌then◌else◌
+unfolding within length_of if◌then◌otherwise◌
 within_is n (named t) h = rw (le-leb (length t) n h)
 within_is n (refusal r) h = refl
 
 pub answer_is : (l : Slices) (s : Text) → most_text_bytes ≤ length l.out → work_fits (lent l) ≡ true → answer most_symbol_bytes (lent l) s ≡ demangle most_symbol_bytes s
-unfolding answer demangle if◌then◌else◌
+unfolding answer demangle if◌then◌otherwise◌
 answer_is l s h k = ap (front most_symbol_bytes s) (λ i u. step u i) where
-  step : (u : Text) → (if work_fits (lent l) then within (length l.out) (mangled_name u) else refusal 14) ≡ mangled_name u
+  step : (u : Text) → (if work_fits (lent l) then within (length l.out) (mangled_name u) otherwise refusal 14) ≡ mangled_name u
   step u =
-      ap (λ (q : Bool). if q then within (length l.out) (mangled_name u) else refusal 14) k
+      ap (λ (q : Bool). if q then within (length l.out) (mangled_name u) otherwise refusal 14) k
       ∙ within_is (length l.out) (mangled_name u) (omega (arith, short_length (mangled_name u) (mangled_fits u)))

@@ -3,7 +3,7 @@ use Rattle.std.specs.Prelude.{Bool, true, false, [], ◌∷◌, ◌++◌, ◌≡
 use Rattle.std.proofs.Common.{append_assoc, append-nil, sym, ap, ap₂, ◌∙◌, add-one, arith, eq-eqb, ne_eqb, length-append, length-drop, take-append-drop, take-suc, take-take, drop-cons, get_or-drop}
 use Rattle.std.proofs.Math.Seq.{paste, take-length}
 use Rattle.std.proofs.lemmas.List.{set_at}
-use Rattle.grammar.specs.Text.{Text, if◌then◌else◌, each}
+use Rattle.grammar.specs.Text.{Text, if◌then◌otherwise◌, each}
 use Rattle.grammar.specs.Names.{without_slots}
 use Rattle.store.specs.Stack.{slots_in}
 
@@ -12,8 +12,8 @@ unfolding without_slots each
 slotless_append [] t = refl
 slotless_append (x ∷ s) t = rw (slotless_append s t, append_assoc)
 
-one : (x : ℕ) (t : Text) (q : Bool) → (if q then 1 else 0) + length ((if q then [] else x ∷ []) ++ t) ≡ 1 + length t
-unfolding if◌then◌else◌
+one : (x : ℕ) (t : Text) (q : Bool) → (if q then 1 otherwise 0) + length ((if q then [] otherwise x ∷ []) ++ t) ≡ 1 + length t
+unfolding if◌then◌otherwise◌
 one x t true = omega arith
 one x t false = omega arith
 
@@ -24,8 +24,8 @@ slotless_length [] = omega arith
 slotless_length (x ∷ t) = omega (arith, one x (without_slots t) (eqb x 1), slotless_length t)
 
 -- a text that has none is its own
-bare : (x : ℕ) (s t : Text) (q : Bool) → (if q then 1 else 0) + slots_in t ≡ 0 → (slots_in t ≡ 0 → s ≡ t) → (if q then [] else x ∷ []) ++ s ≡ x ∷ t
-unfolding if◌then◌else◌
+bare : (x : ℕ) (s t : Text) (q : Bool) → (if q then 1 otherwise 0) + slots_in t ≡ 0 → (slots_in t ≡ 0 → s ≡ t) → (if q then [] otherwise x ∷ []) ++ s ≡ x ∷ t
+unfolding if◌then◌otherwise◌
 bare x s t true e f = absurd (omega (arith, e))
 bare x s t false e f = ap (λ (z : Text). x ∷ z) (f (omega (arith, e)))
 
@@ -61,11 +61,11 @@ module _ (t : Text) (f i : ℕ) (h : f + i < length t) where
       ∙ ap (λ (x : ℕ). without_slots (take i (drop f t)) ++ without_slots (x ∷ [])) (get_or-drop f t i 0)
 
   pub slotless_skip : get_or t (f + i) 0 ≡ 1 → without_slots (take (i + 1) (drop f t)) ≡ without_slots (take i (drop f t))
-  unfolding without_slots each if◌then◌else◌
+  unfolding without_slots each if◌then◌otherwise◌
   slotless_skip e = more ∙ rw (eq-eqb (get_or t (f + i) 0) 1 e) (append-nil (without_slots (take i (drop f t))))
 
   pub slotless_more : (get_or t (f + i) 0 ≡ 1 → ⊥) → without_slots (take (i + 1) (drop f t)) ≡ without_slots (take i (drop f t)) ++ (get_or t (f + i) 0 ∷ [])
-  unfolding without_slots each if◌then◌else◌
+  unfolding without_slots each if◌then◌otherwise◌
   slotless_more e = more ∙ rw (ne_eqb (get_or t (f + i) 0) 1 e)
 
   -- a byte that is no slot has its place

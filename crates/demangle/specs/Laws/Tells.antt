@@ -2,7 +2,7 @@
 use Rattle.std.specs.Prelude.{true, false, [], ◌≡◌, refl, ℕ, ◌-◌, ◌≤◌, ◌<◌, length, drop}
 use Rattle.std.proofs.Common.{sym, ap, ◌∙◌, subst, arith, length-drop, length-take-le}
 use borrow.Author.Tests.{le-leb, lt-leb}
-use Rattle.grammar.specs.Text.{Text, if◌then◌else◌}
+use Rattle.grammar.specs.Text.{Text, if◌then◌otherwise◌}
 use Rattle.grammar.specs.Reader.{State, Result, ok, refused, start}
 use Rattle.grammar.specs.Grammar.{reading, ended, ⟨encoding⟩}
 use Rattle.grammar.specs.Names.{named, refusal, without_slots, finished, within, mangled_name}
@@ -23,16 +23,16 @@ use Rattle.demangle.specs.Laws.Slotless.{slotless_length}
 
 module _ (n : ℕ) (t : Text) (σ : State) where
   pub within_5 : ended σ.rest ≡ false → within n (finished (ok t σ)) ≡ refusal 5
-  unfolding within finished if◌then◌else◌
+  unfolding within finished if◌then◌otherwise◌
   within_5 h = rw h
 
   module _ (h : ended σ.rest ≡ true) where
     pub within_12 : n < length (without_slots t) → within n (finished (ok t σ)) ≡ refusal 12
-    unfolding within finished if◌then◌else◌
+    unfolding within finished if◌then◌otherwise◌
     within_12 l = rw (h, lt-leb (length (without_slots t)) n l)
 
     pub within_name : length (without_slots t) ≤ n → within n (finished (ok t σ)) ≡ named (without_slots t)
-    unfolding within finished if◌then◌else◌
+    unfolding within finished if◌then◌otherwise◌
     within_name l = rw (h, le-leb (length (without_slots t)) n l)
 
 -- ---- the text on the stack

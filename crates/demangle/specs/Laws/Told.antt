@@ -2,7 +2,7 @@
 use Rattle.std.specs.Prelude.{true, false, ◌≡◌, ℕ, ◌≤◌, length, drop}
 use Rattle.std.proofs.Common.{sym, ap, ◌∙◌}
 use Rattle.std.proofs.Math.Path.{subst}
-use Rattle.grammar.specs.Text.{Text, if◌then◌else◌}
+use Rattle.grammar.specs.Text.{Text, if◌then◌otherwise◌}
 use Rattle.grammar.specs.Limits.{most_symbol_bytes, least_ends}
 use Rattle.grammar.specs.Names.{front, answer, work_fits, within, mangled_name}
 use Rattle.grammar.specs.Names as n
@@ -33,14 +33,14 @@ module _ {s : Text} {f : Front} (h : Fronts s f) where
     front_inside = subst (Front_inside s) e h.inside
 
     pub front_short : (l : Slices) → fit least_ends l ≡ false → Tells (answer most_symbol_bytes (lent l) s) l.out l.out (Refused 14)
-    unfolding answer work_fits if◌then◌else◌
+    unfolding answer work_fits if◌then◌otherwise◌
     front_short l g =
         let i : Fronts s (front_as.Behind k) = subst (Fronts s) e h in
         tells_refusal (i.is _ ∙ rw g)
 
     pub front_reads : (l : Slices) (out : Text) (r : Answer) → fit least_ends l ≡ true → Tells (within (length l.out) (mangled_name (drop k s))) l.out out r
         → Tells (answer most_symbol_bytes (lent l) s) l.out out r
-    unfolding answer work_fits if◌then◌else◌
+    unfolding answer work_fits if◌then◌otherwise◌
     front_reads l out r g z =
         let i : Fronts s (front_as.Behind k) = subst (Fronts s) e h in
         tells_as (sym (i.is _ ∙ rw g)) z

@@ -4,7 +4,7 @@ use Rattle.std.specs.Prelude.{true, false, ◌≡◌, refl, ℕ, ◌≤◌, ◌<
 use Rattle.std.proofs.Common.{sym, ap, arith, le-leb, leb-true, leb-false}
 use Rattle.std.proofs.Math.Path.{subst}
 use Rattle.std.proofs.lemmas.Bool.{lt-leb}
-use Rattle.grammar.specs.Text.{Text, if◌then◌else◌}
+use Rattle.grammar.specs.Text.{Text, if◌then◌otherwise◌}
 use Rattle.grammar.specs.Limits.{most_text_bytes, most_length}
 use Rattle.grammar.specs.Reader.{State, Result, ok, refused, Reader, onto, give}
 use Rattle.store.specs.Laws.Tails.{weaken}
@@ -40,14 +40,14 @@ module _ {k : ℕ} {s base : Text} {m : Memory} where
       told holds.refuses = refuses
 
   pub encodes_given : {p : Parser} {n : ℕ} {t : Text} {σ : State} {v : Read} → v ≡ given_of p n → n ≡ min (length t) most_length → (length t ≤ most_text_bytes → Prints k s base m p n t σ) → Encodes k s base m v (give t σ)
-  unfolding given_of give if◌then◌else◌
+  unfolding given_of give if◌then◌otherwise◌
   encodes_given {p} {n} {t} {σ} {v} e z h = subst (λ (x : Read). Encodes k s base m x (give t σ)) (sym e) (go (leb n most_text_bytes) refl)
     where
       given : Bool → Read
-      given q = if q then read p n else Refused 11
+      given q = if q then read p n otherwise Refused 11
 
       told : Bool → State → Result Text
-      told q = if q then (λ u. ok t u) else (λ u. refused 11)
+      told q = if q then (λ u. ok t u) otherwise (λ u. refused 11)
 
       go : (q : Bool) → leb n most_text_bytes ≡ q → Encodes k s base m (given q) (told (leb (length t) most_text_bytes) σ)
       go true f =

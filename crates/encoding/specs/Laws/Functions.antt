@@ -4,7 +4,7 @@ use mathlib.Core.List.{List, [], ◌∷◌, ◌++◌, append-nil, append_assoc}
 use Rattle.std.proofs.Common.{sym, ◌∙◌, subst, arith, length-append}
 use Rattle.std.proofs.Math.Path.{ap}
 use Prim.Native.Nat.{ℕ, ◌+◌, ◌≤◌, ◌<◌, min}
-use Rattle.grammar.specs.Text.{Text, b, if◌then◌else◌, same, join}
+use Rattle.grammar.specs.Text.{Text, b, if◌then◌otherwise◌, same, join}
 use Rattle.grammar.specs.Reader.{State, Result, ok, Reader, onto, give, while, one_more}
 use Rattle.grammar.specs.Grammar.{reading, ⟨type⟩, ended, only_void, bare_function_type}
 use Rattle.grammar.specs.Laws.Text.{both, same→eq}
@@ -32,7 +32,7 @@ abbrev pub parameters : Reader (List Text)
 parameters = while (λ t. not (ended t)) (one_more (reading ⟨type⟩)) []
 
 abbrev shown : Bool → List Text → Text
-shown q ts = if q then [] else join (b ", ") ts
+shown q ts = if q then [] otherwise join (b ", ") ts
 
 abbrev listed_on : List Text → Reader Text
 listed_on ts τ = give (shown (only_void ts && same τ.rest []) ts) τ
@@ -146,7 +146,7 @@ module _ {s text text₁ text₂ store ends store₂ ends₂ : Text} {p o : Pars
         }
 
         void_is : with_parameters t (qualified_by s from to) σ ≡ give (((t ++ b "(") ++ b ")") ++ qualified_by s from to) found.state
-        unfolding onto if◌then◌else◌
+        unfolding onto if◌then◌otherwise◌
         void_is =
             shown_is x
             ∙ ap (onto closing) (give_short [] found.state (omega arith))
@@ -157,11 +157,11 @@ module _ {s text text₁ text₂ store ends store₂ ends₂ : Text} {p o : Pars
 
       module _ (x : LoneVoid s text₂ last m count false) where
         pub list_long : {m' : Memory} → most_text_bytes < m → Opened m' (Refused 11)
-        unfolding onto if◌then◌else◌
+        unfolding onto if◌then◌otherwise◌
         list_long y = by (shown_is x ∙ ap (onto closing) (give_long words found.state (omega (arith, found.stands.size)))) refuses
 
         list_is : m ≤ most_text_bytes → with_parameters t (qualified_by s from to) σ ≡ give ((((t ++ b "(") ++ words) ++ b ")") ++ qualified_by s from to) found.state
-        unfolding onto if◌then◌else◌
+        unfolding onto if◌then◌otherwise◌
         list_is y = shown_is x ∙ ap (onto closing) (give_short words found.state (omega (arith, found.stands.size)))
 
         pub list_given : {text₃ text₄ : Text} {close : Parser} {v : Read} → m ≤ most_text_bytes → Puts text₂ text₃ last close (b ")") → Qualifies s text₃ text₄ close (n + m + 2) from to v → Opened (mem text₄ store₂ ends₂) v

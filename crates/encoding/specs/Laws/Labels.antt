@@ -4,7 +4,7 @@ use Rattle.std.proofs.Math.Option.{Option, none, some}
 use Rattle.std.proofs.Common.{sym, ap₂, ◌∙◌, arith, ne_eqb, eqb→eq}
 use Rattle.std.proofs.Math.Path.{ap, subst}
 use Prim.Native.String.{String}
-use Rattle.grammar.specs.Text.{Text, b, if◌then◌else◌, choose, starts, holds}
+use Rattle.grammar.specs.Text.{Text, b, if◌then◌otherwise◌, choose, starts, holds}
 use Rattle.grammar.specs.Tables.{Row, ◌⇒◌, Table, labels}
 use Rattle.grammar.specs.Reader.{State, Result, ok, refused, Reader, onto, go_to, give, start, find, by_code, cases, word_for}
 use Rattle.grammar.specs.Grammar.{reading, ⟨encoding⟩, ⟨name⟩, ⟨type⟩, encoding, encoding_with, labelled, thunks, anew, function_or_data, production}
@@ -38,11 +38,11 @@ abbrev pub guard : Text
 guard = b "guard variable for "
 
 clone_is : (u : Text) → reading ⟨encoding⟩ (start (71 ∷ 84 ∷ 116 ∷ u)) ≡ onto (after clone) (reading ⟨encoding⟩ (start u))
-unfolding production encoding encoding_with anew by_code find onto choose go_to labels starts b if◌then◌else◌ start
+unfolding production encoding encoding_with anew by_code find onto choose go_to labels starts b if◌then◌otherwise◌ start
 clone_is u = reading_is ⟨encoding⟩ (start (71 ∷ 84 ∷ 116 ∷ u)) ∙ onto_after clone (reading ⟨encoding⟩ (start u))
 
 guard_is : (u : Text) → reading ⟨encoding⟩ (start (71 ∷ 86 ∷ u)) ≡ onto (after guard) (reading ⟨name⟩ (start u))
-unfolding production encoding encoding_with anew by_code find onto choose go_to labels starts b if◌then◌else◌ start
+unfolding production encoding encoding_with anew by_code find onto choose go_to labels starts b if◌then◌otherwise◌ start
 guard_is u = reading_is ⟨encoding⟩ (start (71 ∷ 86 ∷ u)) ∙ onto_after guard (reading ⟨name⟩ (start u))
 
 pub clone_read : (s : Text) → starts s (71 ∷ 84 ∷ 116 ∷ []) ≡ true → reading ⟨encoding⟩ (start s) ≡ onto (after clone) (reading ⟨encoding⟩ (start (drop 3 s)))
@@ -87,7 +87,7 @@ module _ {s word : Text} {r : Word} (l : Labels s word r) where
 
   pub unlabelled_is : r ≡ Nothing → starts s (71 ∷ 84 ∷ 116 ∷ []) ≡ false → starts s (71 ∷ 86 ∷ []) ≡ false →
       reading ⟨encoding⟩ (start s) ≡ cases (thunks reading) (function_or_data reading) (start s)
-  unfolding word_in choose by_code onto find b start if◌then◌else◌
+  unfolding word_in choose by_code onto find b start if◌then◌otherwise◌
   unlabelled_is e f h =
       told_is
       ∙ ap (λ (q : Word). choose (word_in word q) (λ w. typed w (moved (drop 2 s) (start s))) (unlabelled (start s))) e
@@ -106,7 +106,7 @@ starts_short (x ∷ t) (y ∷ w) h = ap (λ (q : Bool). eqb x y && q) (starts_sh
     and-false false = refl
 
 find_short : (s : Text) (rows : Table) → T (all_of 2 rows) → length s < 2 → find rows s ≡ none
-unfolding find all_of if◌then◌else◌
+unfolding find all_of if◌then◌otherwise◌
 find_short s [] h l = refl
 find_short s ((k ⇒ w) ∷ rows) h l =
     let (p, q) = both (eqb (length (b k)) 2) (all_of 2 rows) h in

@@ -4,7 +4,7 @@ use Rattle.std.proofs.Math.Bool.{true, false}
 use Rattle.std.proofs.Common.{sym, ◌∙◌, subst, arith}
 use Rattle.std.proofs.Math.Path.{ap}
 use Rattle.std.proofs.Math.ListN.{drop}
-use Rattle.grammar.specs.Text.{Text, b, if◌then◌else◌, each}
+use Rattle.grammar.specs.Text.{Text, b, if◌then◌otherwise◌, each}
 use Rattle.grammar.specs.Limits.{most_text_bytes}
 use Rattle.grammar.specs.Reader.{State, Result, ok, refused, Reader, onto, give, set_cv}
 use Rattle.grammar.specs.Grammar.{reading, ⟨name⟩, ⟨type⟩, ended, bare_function_type, function_or_data}
@@ -28,10 +28,10 @@ abbrev returned_first : Reader Text
 returned_first u = onto (λ r v. ok (r ++ b " ") v) (reading ⟨type⟩ u)
 
 abbrev function_on : Text → Text → Bool → Reader Text
-function_on n q templated σ = onto (behind n q) ((if templated then returned_first else (λ u. ok [] u)) σ)
+function_on n q templated σ = onto (behind n q) ((if templated then returned_first otherwise (λ u. ok [] u)) σ)
 
 abbrev named_on : Text → Text → Bool → Reader Text
-named_on n q over = if over then give (n ++ q) else (λ σ. function_on n q σ.templated σ)
+named_on n q over = if over then give (n ++ q) otherwise (λ σ. function_on n q σ.templated σ)
 
 abbrev from_name : Text → Reader Text
 from_name n σ = named_on n σ.cv (ended σ.rest) (with_cv [] σ)
@@ -46,7 +46,7 @@ onto_ok f g (ok t σ) = refl
 onto_ok f g (refused r) = refl
 
 returned_is : (n q : Text) (σ : State) → function_on n q true σ ≡ with_returned n q σ
-unfolding if◌then◌else◌
+unfolding if◌then◌otherwise◌
 returned_is n q σ = onto_ok (λ r. r ++ b " ") (behind n q) (reading ⟨type⟩ σ)
 
 -- ---------------------------------------------------------------- answers
@@ -104,18 +104,18 @@ module _ {s text store ends text₁ store₁ ends₁ : Text} {p : Parser} {r : R
           ∙ ap (λ (q : Bool). named_on y.said (qualified_by s left right) q there) (ap ended (y.wrote.holds.rest ∙ ap (λ (w : Parser). drop w.at s) (sym z)) ∙ x)
 
       pub name_over : {text₂ : Text} {v : Read} → ended (drop next.at s) ≡ true → Qualifies s text₁ text₂ next n left right v → Named (mem text₂ store₁ ends₁) v
-      unfolding if◌then◌else◌
+      unfolding if◌then◌otherwise◌
       name_over x g = by (name_is true x) (less (omega arith) (g _ _ _ _ _ _ _ _ name_stands))
 
       templated_is : (q : Bool) → next.templated ≡ q → function_on name_got.said (qualified_by s left right) there.templated there ≡ function_on name_got.said (qualified_by s left right) q there
       templated_is q x = ap (λ (w : Bool). function_on name_got.said (qualified_by s left right) w there) (name_holds.templated ∙ x)
 
       pub name_templated : {m' : Memory} {v : Read} → ended (drop next.at s) ≡ false → next.templated ≡ true → GoesOn with_returned s (mem text₁ store₁ ends₁) m' next n left right v → Named m' v
-      unfolding if◌then◌else◌
+      unfolding if◌then◌otherwise◌
       name_templated x y g =
           by (name_is false x ∙ templated_is true y ∙ returned_is name_got.said (qualified_by s left right) there)
           (goes_on_at with_returned left right g name_stands)
 
       pub name_plain : {m' : Memory} {v : Read} → ended (drop next.at s) ≡ false → next.templated ≡ false → GoesOn with_parameters s (mem text₁ store₁ ends₁) m' next n left right v → Named m' v
-      unfolding if◌then◌else◌ onto
+      unfolding if◌then◌otherwise◌ onto
       name_plain x y g = by (name_is false x ∙ templated_is false y) (goes_on_at with_parameters left right g name_stands)

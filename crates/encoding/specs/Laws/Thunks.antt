@@ -4,7 +4,7 @@ use mathlib.Core.List.{[], ◌∷◌}
 use Rattle.std.proofs.Math.Path.{◌≡◌, refl, sym, ap, subst}
 use Rattle.std.proofs.Common.{◌∙◌, arith}
 use Rattle.std.proofs.Math.ListN.{length}
-use Rattle.grammar.specs.Text.{Text, b, if◌then◌else◌, choose, same, starts, run, digit}
+use Rattle.grammar.specs.Text.{Text, b, if◌then◌otherwise◌, choose, same, starts, run, digit}
 use Rattle.grammar.specs.Limits.{most_text_bytes}
 use Rattle.grammar.specs.Reader.{State, Result, ok, refused, Reader, onto, go_to, start, find, by_code, cases, need}
 use Rattle.grammar.specs.Grammar.{reading, unsigned, offset, labelled, thunks, function_or_data}
@@ -54,7 +54,7 @@ module _ {s : Text} {p : Parser} {σ : State} {r : Eaten} {x : Result (Unit {0})
 
 module _ (s : Text) (at : ℕ) (σ : State) (e : σ.rest ≡ drop at s) {end : ℕ} (n : end ≡ at + length (run (digit 10) (drop at s))) where
   no_digits : end ≡ at → unsigned σ ≡ refused 4
-  unfolding unsigned onto if◌then◌else◌ same
+  unfolding unsigned onto if◌then◌otherwise◌ same
   no_digits h = rw (every_at (digit 10) s at σ e, none_there (run (digit 10) (drop at s)) (omega (arith, n, h)))
     where
       none_there : (d : Text) → length d ≡ 0 → d ≡ []
@@ -63,7 +63,7 @@ module _ (s : Text) (at : ℕ) (σ : State) (e : σ.rest ≡ drop at s) {end : �
 
   module _ (h : end ≡ at → ⊥) where
     by_end : unsigned σ ≡ need "_" (moved (drop end s) σ)
-    unfolding unsigned onto if◌then◌else◌
+    unfolding unsigned onto if◌then◌otherwise◌
     by_end = rw (every_at (digit 10) s at σ e, same_not (run (digit 10) (drop at s)) [] (λ z. h (omega (arith, n, z))), ← n)
 
     digits_open : starts (drop end s) (95 ∷ []) ≡ false → unsigned σ ≡ refused 4
@@ -79,7 +79,7 @@ module _ {s : Text} {p : Parser} {end : ℕ} (n : end ≡ p.at + length (run (di
   unsigned_none h σ e = stopped refl (no_digits s p.at σ e n h)
 
   pub unsigned_ate : {q : Parser} {r : Eaten} → (end ≡ p.at → ⊥) → q ≡ moved_to p end → r ≡ eaten q 95 (drop q.at s) → StepsOver unsigned s p r
-  unfolding if◌then◌else◌
+  unfolding if◌then◌otherwise◌
   unsigned_ate {q} {r} h z f σ e = go (starts (drop end s) (95 ∷ [])) refl
     where
       is : r ≡ eaten (moved_to p end) 95 (drop end s)
@@ -132,17 +132,17 @@ onto_onto f g (refused r) = refl
 
 module _ (s : Text) where
   pub row_h : starts s (84 ∷ 104 ∷ []) ≡ true → rows (start s) ≡ onto (λ _. labelled (b "non-virtual thunk to ") base) (offset (opened s))
-  unfolding thunks by_code find choose onto go_to starts b if◌then◌else◌ start
+  unfolding thunks by_code find choose onto go_to starts b if◌then◌otherwise◌ start
   row_h e = subst (λ (t : Text). rows (start t) ≡ onto (λ _. labelled (b "non-virtual thunk to ") base) (offset (opened t))) (sym (starts_is s (84 ∷ 104 ∷ []) e)) refl
 
   pub row_v : starts s (84 ∷ 118 ∷ []) ≡ true → rows (start s) ≡ onto (λ _. labelled (b "virtual thunk to ") base) (two_offsets (opened s))
-  unfolding thunks by_code find choose onto go_to starts b if◌then◌else◌ start
+  unfolding thunks by_code find choose onto go_to starts b if◌then◌otherwise◌ start
   row_v e =
       subst (λ (t : Text). rows (start t) ≡ onto (λ _. labelled (b "virtual thunk to ") base) (two_offsets (opened t))) (sym (starts_is s (84 ∷ 118 ∷ []) e))
       (onto_onto (λ _. offset) (λ _. labelled (b "virtual thunk to ") base) (offset (opened s)))
 
   pub no_thunk : starts s (84 ∷ 104 ∷ []) ≡ false → starts s (84 ∷ 118 ∷ []) ≡ false → rows (start s) ≡ base (start s)
-  unfolding thunks by_code find choose onto b if◌then◌else◌ start
+  unfolding thunks by_code find choose onto b if◌then◌otherwise◌ start
   no_thunk e f = rw (e, f)
 
 -- what is stepped over behind T and a letter

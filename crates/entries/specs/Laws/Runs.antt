@@ -5,7 +5,7 @@ use Rattle.std.proofs.Math.Path.{refl, sym, ap, ap₂}
 use Rattle.std.proofs.Common.{◌∙◌, arith, le-leb, leb-true}
 use Rattle.std.proofs.Math.ListN.{length, take, drop}
 use Rattle.std.proofs.Math.Seq.{take_at}
-use Rattle.grammar.specs.Text.{Text, if◌then◌else◌}
+use Rattle.grammar.specs.Text.{Text, if◌then◌otherwise◌}
 use Rattle.grammar.specs.Limits.{most_symbol_bytes}
 use Rattle.grammar.specs.Names.{Answer, named, refusal, front, mangled_name, demangle, within, work_fits, answer, number_of, length_of, written}
 use Rattle.grammar.specs.Laws.Fuel.{never_0}
@@ -21,20 +21,20 @@ use Rattle.entries.specs.Outcome.{Outcome, leaves, Leaves, demangled, Demangles,
 -- ---- an answer within slices, and without
 
 abbrev cut : Bool → ℕ → Answer → Answer
-cut q n a = if q then within n a else refusal 14
+cut q n a = if q then within n a otherwise refusal 14
 
 cut_is : (q : Bool) (n : ℕ) (a : Answer) → number_of (cut q n a) ≡ 0 → cut q n a ≡ a
-unfolding number_of within if◌then◌else◌
+unfolding number_of within if◌then◌otherwise◌
 cut_is false n a e = absurd (omega arith)
 cut_is true n (refusal r) e = refl
 cut_is true n (named t) e = go (leb (length t) n) e
   where
-    go : (p : Bool) → number_of (if p then named t else refusal 12) ≡ 0 → (if p then named t else refusal 12) ≡ named t
+    go : (p : Bool) → number_of (if p then named t otherwise refusal 12) ≡ 0 → (if p then named t otherwise refusal 12) ≡ named t
     go true e = refl
     go false e = absurd (omega arith)
 
 cut_named : (q : Bool) (n : ℕ) (x : Text) → q ≡ true → length x ≤ n → cut q n (named x) ≡ named x
-unfolding within if◌then◌else◌
+unfolding within if◌then◌otherwise◌
 cut_named q n x e h = rw (e, le-leb (length x) n h)
 
 module _ (F : (Text → Answer) → Answer) (g : Text → Answer) (q : Bool) (n : ℕ) where
@@ -115,12 +115,12 @@ pub record Has_normal (s v : Text) : Type 0 where
   pub short : length v ≤ most_symbol_bytes
 
 told_is : (o : Option Text) → number_of (normal_told most_symbol_bytes o) ≡ 0 → (v : Text) × ((normal_told most_symbol_bytes o ≡ named v) × ((o ≡ some v) × (length v ≤ most_symbol_bytes)))
-unfolding number_of normal_told if◌then◌else◌
+unfolding number_of normal_told if◌then◌otherwise◌
 told_is none e = absurd (omega arith)
 told_is (some v) e = go (leb (length v) most_symbol_bytes) refl e
   where
-    go : (p : Bool) → leb (length v) most_symbol_bytes ≡ p → number_of (if p then named v else refusal 13) ≡ 0
-        → (u : Text) × (((if p then named v else refusal 13) ≡ named u) × ((some v ≡ some u) × (length u ≤ most_symbol_bytes)))
+    go : (p : Bool) → leb (length v) most_symbol_bytes ≡ p → number_of (if p then named v otherwise refusal 13) ≡ 0
+        → (u : Text) × (((if p then named v otherwise refusal 13) ≡ named u) × ((some v ≡ some u) × (length u ≤ most_symbol_bytes)))
     go true f e = (v, (refl, (refl, leb-true (length v) most_symbol_bytes f)))
     go false f e = absurd (omega arith)
 
@@ -131,7 +131,7 @@ has_normal s (named x) e z = let (v, (i, (j, k))) = told_is (normal_in (classify
 has_normal s (refusal r) e z = absurd (never_0 most_symbol_bytes s (e ∙ ap refusal z))
 
 normal_named : (s v : Text) → Has_normal s v → normal_symbol most_symbol_bytes s ≡ named v
-unfolding normal_symbol normal_after normal_told if◌then◌else◌
+unfolding normal_symbol normal_after normal_told if◌then◌otherwise◌
 normal_named s v h = ap (normal_after most_symbol_bytes s) h.accepted ∙ ap (normal_told most_symbol_bytes) h.is ∙ rw (le-leb (length v) most_symbol_bytes h.short)
 
 module _ (s : Text) (l l' : Slices) (r : Code) (h : Normalizes s l l' r) where

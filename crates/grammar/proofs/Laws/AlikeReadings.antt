@@ -7,7 +7,7 @@ use Rattle.std.proofs.Common.{arith}
 use borrow.Author.Tests.{le-leb, leb-true, leb-false}
 use Rattle.std.proofs.Math.ListN.{length-drop, length-append}
 use Rattle.std.proofs.Math.Seq.{take-append-le, drop-append-le}
-use Rattle.grammar.specs.Text.{Text, b, if◌then◌else◌, choose, same, starts, holds, join, digit, digit_value, number}
+use Rattle.grammar.specs.Text.{Text, b, if◌then◌otherwise◌, choose, same, starts, holds, join, digit, digit_value, number}
 use Rattle.grammar.specs.Tables.{◌⇒◌, letters, d_letters, operators, labels, abbreviations, wrappers}
 use Rattle.grammar.specs.Reader.{State, Result, ok, refused, Reader, onto, refuse, start, go_to, give, one_more, cases}
 use Rattle.grammar.specs.Grammar.{Production, ⟨encoding⟩, ⟨name⟩, ⟨nested-name⟩, ⟨unqualified-name⟩, ⟨source-name⟩, ⟨operator-name⟩, ⟨type⟩}
@@ -74,7 +74,7 @@ module _ {u v : Text} (read : Production → Reader Text) (on : (k : Production)
   unfolding g.bare_function_type
   bare_function_type_alike =
       bind (while_alike _ _ (items_alike ⟨type⟩) (items_shrink ⟨type⟩) (λ t. not (ended t)) (λ w u v. ap not (ended_blind w u v)) []) λ ts.
-      told (λ t. if only_void ts && same t [] then [] else join (b ", ") ts) (λ w u v. rw (empty_blind w u v)) give_alike
+      told (λ t. if only_void ts && same t [] then [] otherwise join (b ", ") ts) (λ w u v. rw (empty_blind w u v)) give_alike
 
   function_or_data_alike : Alike u v (g.function_or_data read) (g.function_or_data reading)
   unfolding g.function_or_data
@@ -172,7 +172,7 @@ module _ {u v : Text} (read : Production → Reader Text) (on : (k : Production)
   ctor_dtor_name_read :
       (p : Parts) {t : Text} (s : State) (l : Place u t) → T (structor_ahead t) →
       Same u v (ahead_of l) (g.ctor_dtor_name read p (moved t s)) (g.ctor_dtor_name reading p (moved (other v l) s))
-  unfolding g.ctor_dtor_name structor_ahead onto go_to starts holds digit digit_value if◌then◌else◌ b
+  unfolding g.ctor_dtor_name structor_ahead onto go_to starts holds digit digit_value if◌then◌otherwise◌ b
   ctor_dtor_name_read p s (before []) h = absurd (rw (structor_dot u) at h)
   ctor_dtor_name_read p s (before (x ∷ [])) h = absurd (both (holds x (b "CD")) _ h).1
   ctor_dtor_name_read p s (before (x ∷ y ∷ w)) h = reads {s = moved (w ++ (dot ∷ u)) s} (before w)
@@ -199,8 +199,8 @@ module _ {u v : Text} (read : Production → Reader Text) (on : (k : Production)
 
   part_alike :
       (c : Bool) {m : Bool} (f g f' g' : Reader Parts) (s s' : State) → (T c → Same u v m (f s) (f' s')) → Same u v m (g s) (g' s') →
-      Same u v m ((if c then f else g) s) ((if c then f' else g') s')
-  unfolding if◌then◌else◌
+      Same u v m ((if c then f otherwise g) s) ((if c then f' otherwise g') s')
+  unfolding if◌then◌otherwise◌
   part_alike true f g f' g' s s' h k = h tt
   part_alike false f g f' g' s s' h k = k
 
@@ -245,20 +245,20 @@ module _ {u v : Text} (read : Production → Reader Text) (on : (k : Production)
   tags_alike x = by_code_alike tt (row tt (bind (on ⟨source-name⟩) λ w. give_alike _) end) (give_alike x)
 
   abbrev sized : (Production → Reader Text) → ℕ → Text → Reader Text
-  sized r n t = if nat_le 1 n && nat_le n (length t) then (λ s. onto (λ _. tags r (take n t)) (go_to (drop n t) s)) else refuse 4
+  sized r n t = if nat_le 1 n && nat_le n (length t) then (λ s. onto (λ _. tags r (take n t)) (go_to (drop n t) s)) otherwise refuse 4
 
   -- a name that goes by the dot
   sized_past : {m : Bool} (n : ℕ) (t : Text) (s : State) (r : Result Text) → length (drop n t) ≤ length u → Same u v m (sized read n t s) r
-  unfolding onto go_to if◌then◌else◌
+  unfolding onto go_to if◌then◌otherwise◌
   sized_past {m} n t s r l = go (nat_le 1 n && nat_le n (length t))
     where
-      go : (c : Bool) → Same u v m ((if c then (λ z. onto (λ _. tags read (take n t)) (go_to (drop n t) z)) else refuse 4) s) r
+      go : (c : Bool) → Same u v m ((if c then (λ z. onto (λ _. tags read (take n t)) (go_to (drop n t) z)) otherwise refuse 4) s) r
       go true = stays_past m r (at (tags_alike (take n t)) (moved (drop n t) s) (behind {t = drop n t} l)) refl
       go false = refuses
 
   -- a name that ends before the dot
   sized_before : (n : ℕ) (w : Text) (s : State) → n ≤ length w → Same u v true (sized read n (w ++ (dot ∷ u)) s) (sized reading n (w ++ (dot ∷ v)) (moved (w ++ (dot ∷ v)) s))
-  unfolding onto go_to if◌then◌else◌
+  unfolding onto go_to if◌then◌otherwise◌
   sized_before n w s h =
       let i : n ≤ length (w ++ (dot ∷ u)) = simp length-append (omega arith) in
       let j : n ≤ length (w ++ (dot ∷ v)) = simp length-append (omega arith) in
@@ -273,7 +273,7 @@ module _ {u v : Text} (read : Production → Reader Text) (on : (k : Production)
       (go (nat_le 1 n && true))
     where
       named_by : (Production → Reader Text) → Text → Bool → Reader Text
-      named_by r t c = if c then (λ z. onto (λ _. tags r (take n w)) (go_to (drop n w ++ (dot ∷ t)) z)) else refuse 4
+      named_by r t c = if c then (λ z. onto (λ _. tags r (take n w)) (go_to (drop n w ++ (dot ∷ t)) z)) otherwise refuse 4
 
       go : (c : Bool) → Same u v true (named_by read u c s) (named_by reading v c (moved (w ++ (dot ∷ v)) s))
       go true = at (tags_alike (take n w)) (moved (drop n w ++ (dot ∷ u)) s) (before (drop n w))

@@ -5,7 +5,7 @@ use Rattle.std.specs.Prelude.{◌≡◌, ℕ, ◌≤◌, Bool, false, [], ◌∷
 use Rattle.std.proofs.Math.Option.{Option, none, some}
 use Rattle.std.proofs.Math.Path.{refl, ap}
 use Rattle.std.proofs.Common.{arith, le-ltb, length-append}
-use Rattle.grammar.specs.Text.{Text, b, if◌then◌else◌, choose, holds}
+use Rattle.grammar.specs.Text.{Text, b, if◌then◌otherwise◌, choose, holds}
 use Rattle.grammar.specs.Tables.{◌⇒◌}
 use Rattle.grammar.specs.Reader.{Result, ok, refused, start, find}
 use Rattle.grammar.specs.Grammar.{⟨encoding⟩, ended, reading}
@@ -48,7 +48,7 @@ front_alike :
     (limit : ℕ) (h : Answer → Answer) (t u v : Text) → left_of (t ++ (dot ∷ u)) ≡ some (dot ∷ u) →
     Plain limit (t ++ (dot ∷ u)) → Plain limit (t ++ (dot ∷ v)) →
     front limit (t ++ (dot ∷ u)) (λ r. h (mangled_name r)) ≡ front limit (t ++ (dot ∷ v)) (λ r. h (mangled_name r))
-unfolding front left_of if◌then◌else◌ coded undotted all_undotted holds b
+unfolding front left_of if◌then◌otherwise◌ coded undotted all_undotted holds b
 front_alike limit h t u v e p q =
     rw (le-ltb limit (length (t ++ (dot ∷ u))) p.short, le-ltb limit (length (t ++ (dot ∷ v))) q.short, p.low, q.low)
     (told_alike h (find_hit (row tt tt (row tt tt end)) tt (before t)) e)
@@ -67,7 +67,7 @@ pub behind_dot_lent :
     Plain limit (t ++ (b "." ++ u)) → Plain limit (t ++ (b "." ++ v)) →
     answer limit l (t ++ (b "." ++ u)) ≡ answer limit l (t ++ (b "." ++ v))
 unfolding answer b
-behind_dot_lent limit l t u v e p q = front_alike limit (λ a. if work_fits l then within l.out a else refusal 14) t u v e p q
+behind_dot_lent limit l t u v e p q = front_alike limit (λ a. if work_fits l then within l.out a otherwise refusal 14) t u v e p q
 
 -- the reading of the other symbol ends at that dot too
 

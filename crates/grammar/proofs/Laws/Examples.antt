@@ -107,7 +107,7 @@ unfoldable pub answered : List (Row Case) → Bool
 unfolding
     same_answer
     t.b
-    t.if◌then◌else◌
+    t.if◌then◌otherwise◌
     t.choose
     t.same
     t.starts

@@ -5,7 +5,7 @@ use Rattle.std.proofs.Math.Option.{Option, none, some}
 use Prim.Native.String.{String}
 use Rattle.std.proofs.Common.{arith}
 use Rattle.std.proofs.Math.ListN.{length-drop}
-use Rattle.grammar.specs.Text.{Text, b, if◌then◌else◌, choose, starts, past}
+use Rattle.grammar.specs.Text.{Text, b, if◌then◌otherwise◌, choose, starts, past}
 use Rattle.grammar.specs.Laws.Text.{both}
 use Rattle.grammar.specs.Tables.{Row, ◌⇒◌}
 use Rattle.grammar.specs.Reader.{State, Result, ok, refused, Reader, onto, find, by_code, at_code, go_to, set_subs, set_args, set_depth, set_cv}
@@ -37,12 +37,12 @@ module _ {A : Type 0} {n : ℕ} where
   weaken l refuses = refuses
 
   -- the test may be used where it held
-  pub tested : (c : Bool) (p q p' q' : Reader A) (s : State) → (T c → Agree n (p s) (p' s)) → Agree n (q s) (q' s) → Agree n ((if c then p else q) s) ((if c then p' else q') s)
-  unfolding if◌then◌else◌
+  pub tested : (c : Bool) (p q p' q' : Reader A) (s : State) → (T c → Agree n (p s) (p' s)) → Agree n (q s) (q' s) → Agree n ((if c then p otherwise q) s) ((if c then p' otherwise q') s)
+  unfolding if◌then◌otherwise◌
   tested true p q p' q' s h k = h tt
   tested false p q p' q' s h k = k
 
-  pub branch : (c : Bool) (p q p' q' : Reader A) (s : State) → Agree n (p s) (p' s) → Agree n (q s) (q' s) → Agree n ((if c then p else q) s) ((if c then p' else q') s)
+  pub branch : (c : Bool) (p q p' q' : Reader A) (s : State) → Agree n (p s) (p' s) → Agree n (q s) (q' s) → Agree n ((if c then p otherwise q) s) ((if c then p' otherwise q') s)
   branch c p q p' q' s h k = tested c p q p' q' s (λ _. h) k
 
 pub chosen : {A B : Type 0} {n : ℕ} (o : Option A) (f g : A → Reader B) (m k : Reader B) (s : State) → ((x : A) → Agree n (f x s) (g x s)) → Agree n (m s) (k s) → Agree n (choose o f m s) (choose o g k s)
@@ -72,8 +72,8 @@ data Hit {A : Type 0} (R : A → A → Type 0) (t : Text) : Option (A × Text) �
   miss : Hit R t none none
   hit : {x y : A} {u : Text} → R x y → length u < length t → Hit R t (some (x, u)) (some (y, u))
 
-found : {A : Type 0} {R : A → A → Type 0} (c : Bool) (t u : Text) (x y : A) (o p : Option (A × Text)) → (T c → length u < length t) → R x y → Hit R t o p → Hit R t (if c then some (x, u) else o) (if c then some (y, u) else p)
-unfolding if◌then◌else◌
+found : {A : Type 0} {R : A → A → Type 0} (c : Bool) (t u : Text) (x y : A) (o p : Option (A × Text)) → (T c → length u < length t) → R x y → Hit R t o p → Hit R t (if c then some (x, u) otherwise o) (if c then some (y, u) otherwise p)
+unfolding if◌then◌otherwise◌
 found true t u x y o p l r h = hit r (l tt)
 found false t u x y o p l r h = h
 
@@ -137,8 +137,8 @@ Keeps n p q = (s : State) → unread s < n → Agree n (p s) (q s)
 abbrev pub Takes : {A : Type 0} → ℕ → Reader A → Reader A → Type 0
 Takes n p q = (s : State) → unread s < suc n → Agree n (p s) (q s)
 
-pass_shorter : (c : Bool) (p : ℕ → Bool) (x : ℕ) (t : Text) → length (past p t) ≤ length t → length (if c then past p t else x ∷ t) ≤ suc (length t)
-unfolding if◌then◌else◌
+pass_shorter : (c : Bool) (p : ℕ → Bool) (x : ℕ) (t : Text) → length (past p t) ≤ length t → length (if c then past p t otherwise x ∷ t) ≤ suc (length t)
+unfolding if◌then◌otherwise◌
 pass_shorter true p x t l = omega arith
 pass_shorter false p x t l = omega arith
 
@@ -197,14 +197,14 @@ module _ {n : ℕ} where
   see_keeps w s h = reads h
 
   pub need_takes : (w : String) → T (coded w) → Takes n (need w) (need w)
-  unfolding need eat onto go_to coded if◌then◌else◌
+  unfolding need eat onto go_to coded if◌then◌otherwise◌
   need_takes w c s h = go (starts s.rest (b w)) (starts_shorter s.rest (b w) c)
     where
       here : Bool → Reader (Unit {0})
-      here c = if c then return tt else refuse 4
+      here c = if c then return tt otherwise refuse 4
 
       eaten : Bool → Result (Unit {0})
-      eaten c = onto here ((if c then (λ v. onto (λ _ v. ok true v) (go_to (drop (length (b w)) s.rest) v)) else return false) s)
+      eaten c = onto here ((if c then (λ v. onto (λ _ v. ok true v) (go_to (drop (length (b w)) s.rest) v)) otherwise return false) s)
 
       go : (c : Bool) → (T c → length (drop (length (b w)) s.rest) < unread s) → Agree n (eaten c) (eaten c)
       go true l = let k = l tt in reads {u = moved (drop (length (b w)) s.rest) s} (omega arith)
@@ -253,7 +253,7 @@ module _ {A : Type 0} {n : ℕ} (p q : A → Reader A) (shrinks : Shrinks n p q)
 module _ {A : Type 0} (p : A → Reader A) (shrinks : (x : A) (s : State) → Agree (unread s) (p x s) (p x s)) where
   pub while_is :
       (on : Text → Bool) (x : A) (s : State) →
-      while on p x s ≡ (if on s.rest then (λ u. onto (λ y. while on p y) (p x u)) else return x) s
+      while on p x s ≡ (if on s.rest then (λ u. onto (λ y. while on p y) (p x u)) otherwise return x) s
   unfolding while steps onto
   while_is on x s =
       agree_eq (branch {n = suc (unread s)} _ _ _ _ _ s

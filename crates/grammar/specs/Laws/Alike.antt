@@ -6,7 +6,7 @@ use Rattle.std.proofs.Math.Bool.{and-false}
 use Rattle.std.proofs.Math.Option.{Option, none, some}
 use Rattle.std.proofs.Math.Path.{refl, ap}
 use Prim.Native.String.{String}
-use Rattle.grammar.specs.Text.{Text, b, if◌then◌else◌, choose, same, starts, holds, run, past}
+use Rattle.grammar.specs.Text.{Text, b, if◌then◌otherwise◌, choose, same, starts, holds, run, past}
 use Rattle.grammar.specs.Tables.{Row, ◌⇒◌}
 use Rattle.grammar.specs.Reader.{State, Result, ok, refused, Reader, onto, refuse, return, the, find, by_code, at_code, go_to, set_subs, set_args, set_depth, set_cv}
 use Rattle.grammar.specs.Reader.{set_templated, push_sub, push_arg, give, recorded, entered, see, eat, need, first, any, every, steps, while, up_to_E}
@@ -77,8 +77,8 @@ module _ {A B : Type 0} {u v : Text} where
   chosen none h k = k
 
 module _ {A : Type 0} {u v : Text} where
-  pub branch : (c : Bool) {p q p' q' : Reader A} → Alike u v p p' → Alike u v q q' → Alike u v (if c then p else q) (if c then p' else q')
-  unfolding if◌then◌else◌
+  pub branch : (c : Bool) {p q p' q' : Reader A} → Alike u v p p' → Alike u v q q' → Alike u v (if c then p otherwise q) (if c then p' otherwise q')
+  unfolding if◌then◌otherwise◌
   branch true h k = h
   branch false h k = k
 
@@ -111,7 +111,7 @@ unfolding onto
 told {v} f e h = alike λ s p. rw (← unseen f v e p) (at (h (f s.rest)) s p)
 
 pub ask : {A : Type 0} {u v : Text} (on : Text → Bool) {p q p' q' : Reader A} → Blind on → Alike u v p p' → Alike u v q q' →
-    Alike u v (λ s. onto (λ t. if on t then p else q) (ok s.rest s)) (λ s. onto (λ t. if on t then p' else q') (ok s.rest s))
+    Alike u v (λ s. onto (λ t. if on t then p otherwise q) (ok s.rest s)) (λ s. onto (λ t. if on t then p' otherwise q') (ok s.rest s))
 ask on e h k = told on e λ c. branch c h k
 
 -- no byte of the word is a dot
@@ -209,8 +209,8 @@ module _ {u v : Text} {A : Type 0} {R : A → A → Type 0} where
 
   found :
       {m : Bool} (x y : A) {t t' : Text} (c : Bool) (o o' : Option (A × Text)) → (T c → Cut u v m t t') → R x y → Hit u v R m o o' →
-      Hit u v R m (if c then some (x, t) else o) (if c then some (y, t') else o')
-  unfolding if◌then◌else◌
+      Hit u v R m (if c then some (x, t) otherwise o) (if c then some (y, t') otherwise o')
+  unfolding if◌then◌otherwise◌
   found x y true o o' l r h = cut_hit r (l tt)
   found x y false o o' l r h = h
 
@@ -268,15 +268,15 @@ module _ {u v : Text} (q : ℕ → Bool) where
   ran_more x (stops p) = stops p
   ran_more x (goes_by l) = goes_by l
 
-  ran_dot : (c : Bool) → Ran u v true (if c then dot ∷ run q u else []) (if c then past q u else dot ∷ u) (if c then dot ∷ run q v else []) (if c then past q v else dot ∷ v)
-  unfolding if◌then◌else◌
+  ran_dot : (c : Bool) → Ran u v true (if c then dot ∷ run q u otherwise []) (if c then past q u otherwise dot ∷ u) (if c then dot ∷ run q v otherwise []) (if c then past q v otherwise dot ∷ v)
+  unfolding if◌then◌otherwise◌
   ran_dot true = goes_by (past_shorter q u)
   ran_dot false = stops (before [])
 
   ran_byte :
       {r t r' t' : Text} (c : Bool) (x : ℕ) (w : Text) → Ran u v true r t r' t' →
-      Ran u v true (if c then x ∷ r else []) (if c then t else x ∷ (w ++ (dot ∷ u))) (if c then x ∷ r' else []) (if c then t' else x ∷ (w ++ (dot ∷ v)))
-  unfolding if◌then◌else◌
+      Ran u v true (if c then x ∷ r otherwise []) (if c then t otherwise x ∷ (w ++ (dot ∷ u))) (if c then x ∷ r' otherwise []) (if c then t' otherwise x ∷ (w ++ (dot ∷ v)))
+  unfolding if◌then◌otherwise◌
   ran_byte true x w h = ran_more x h
   ran_byte false x w h = stops (before (x ∷ w))
 
@@ -346,8 +346,8 @@ module _ {u v : Text} where
 
   word_read :
       {m : Bool} {t t' : Text} (c : Bool) (z : Text) (s : State) → (T c → Cut u v m t t') → Same u v m (ok false s) (ok false (moved z s)) →
-      Same u v m ((if c then (λ y. onto (λ _. return true) (go_to t y)) else return false) s) ((if c then (λ y. onto (λ _. return true) (go_to t' y)) else return false) (moved z s))
-  unfolding if◌then◌else◌ onto go_to
+      Same u v m ((if c then (λ y. onto (λ _. return true) (go_to t y)) otherwise return false) s) ((if c then (λ y. onto (λ _. return true) (go_to t' y)) otherwise return false) (moved z s))
+  unfolding if◌then◌otherwise◌ onto go_to
   word_read true z s l h = of (l tt)
     where
       of : {m : Bool} {t t' : Text} → Cut u v m t t' → Same u v m (ok true (moved t s)) (ok true (moved t' s))

@@ -2,7 +2,7 @@
 use Rattle.std.specs.Prelude.{◌≡◌, ℕ, zero, suc, ◌+◌, ◌-◌, ◌/◌, ◌%◌, ◌^◌, ◌<◌, ◌≤◌, Bool, true, false, [], ◌∷◌, ◌++◌, length, take, drop, nat_lt, slice_set, refl}
 use Rattle.std.proofs.Common.{append_assoc, sym, ap, ap₂, ◌∙◌, div-lt_iff_lt-mul, arith, ltb-true, ltb-false, length-set, length-append, length-drop, take-append-drop, drop_at, length-take-le}
 use Rattle.std.proofs.lemmas.List.{take-set-le}
-use Rattle.grammar.specs.Text.{Text, if◌then◌else◌, decimal}
+use Rattle.grammar.specs.Text.{Text, if◌then◌otherwise◌, decimal}
 use Rattle.grammar.specs.Numbers.{decimal_size, Decimal}
 use Rattle.grammar.specs.Laws.Text.{decimal_last, decimal_more}
 use Rattle.grammar.specs.Laws.Places.{set_front}
@@ -10,20 +10,20 @@ use Rattle.grammar.specs.Laws.Places.{set_front}
 -- ---------------------------------------------------------------- how many digits
 
 pub decimal_some : (k n : ℕ) → 1 ≤ k → 1 ≤ length (decimal k n)
-unfolding decimal if◌then◌else◌
+unfolding decimal if◌then◌otherwise◌
 decimal_some zero n h = absurd (omega arith)
 decimal_some (suc k) n h = go (nat_lt n 10)
   where
-    go : (q : Bool) → 1 ≤ length (if q then (48 + n) ∷ [] else decimal k (n / 10) ++ ((48 + n % 10) ∷ []))
+    go : (q : Bool) → 1 ≤ length (if q then (48 + n) ∷ [] otherwise decimal k (n / 10) ++ ((48 + n % 10) ∷ []))
     go true = omega arith
     go false = omega (arith, length-append (decimal k (n / 10)) ((48 + n % 10) ∷ []))
 
 pub decimal_most : (k n : ℕ) → length (decimal k n) ≤ k
-unfolding decimal if◌then◌else◌
+unfolding decimal if◌then◌otherwise◌
 decimal_most zero n = omega arith
 decimal_most (suc k) n = go (decimal_most k (n / 10)) (nat_lt n 10)
   where
-    go : length (decimal k (n / 10)) ≤ k → (q : Bool) → length (if q then (48 + n) ∷ [] else decimal k (n / 10) ++ ((48 + n % 10) ∷ [])) ≤ suc k
+    go : length (decimal k (n / 10)) ≤ k → (q : Bool) → length (if q then (48 + n) ∷ [] otherwise decimal k (n / 10) ++ ((48 + n % 10) ∷ [])) ≤ suc k
     go l true = omega arith
     go l false = omega (arith, length-append (decimal k (n / 10)) ((48 + n % 10) ∷ []))
 

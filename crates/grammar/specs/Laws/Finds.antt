@@ -6,7 +6,7 @@ use Rattle.std.proofs.Math.Option.{Option, some}
 use Prim.Native.String.{String}
 use Rattle.std.proofs.Math.Nat.{suc_inj}
 use Rattle.std.proofs.Math.Seq.{drop-append_seam}
-use Rattle.grammar.specs.Text.{Text, b, if◌then◌else◌, choose, same, starts}
+use Rattle.grammar.specs.Text.{Text, b, if◌then◌otherwise◌, choose, same, starts}
 use Rattle.grammar.specs.Tables.{Row, ◌⇒◌, Table}
 use Rattle.grammar.specs.Reader.{find, word_for}
 use Rattle.grammar.specs.Words.{halves}
@@ -26,16 +26,16 @@ starts_code (x ∷ code) rest (y ∷ k) e = rw (starts_code code rest k (suc_inj
 
 module _ (code rest : Text) where
   found_one : {A : Type 0} (k : String) (x : A) (rows : List (Row A)) → length (b k) ≡ length code
-      → find ((k ⇒ x) ∷ rows) (code ++ rest) ≡ (if same code (b k) then some (x, rest) else find rows (code ++ rest))
+      → find ((k ⇒ x) ∷ rows) (code ++ rest) ≡ (if same code (b k) then some (x, rest) otherwise find rows (code ++ rest))
   unfolding find
   found_one k x rows e = rw (starts_code code rest (b k) e, e, drop-append_seam)
 
   module _ {B : Type 0} (f : Text → Text → B) (y : B) where
     one_word : (q : Bool) (w : String) (rows : Table)
         → choose (find rows (code ++ rest)) (λ r. f (b r.0) r.1) y ≡ choose (word_for rows code) (λ t. f t rest) y
-        → choose (if q then some (w, rest) else find rows (code ++ rest)) (λ r. f (b r.0) r.1) y
-        ≡ choose (if q then some (b w) else word_for rows code) (λ t. f t rest) y
-    unfolding if◌then◌else◌ choose
+        → choose (if q then some (w, rest) otherwise find rows (code ++ rest)) (λ r. f (b r.0) r.1) y
+        ≡ choose (if q then some (b w) otherwise word_for rows code) (λ t. f t rest) y
+    unfolding if◌then◌otherwise◌ choose
     one_word true w rows e = refl
     one_word false w rows e = e
 
@@ -58,10 +58,10 @@ module _ (code rest : Text) where
 
     one_pair : (q : Bool) (w : String × String) (rows : List (Row (String × String)))
         → from_row (find rows (code ++ rest)) ≡ from_words (word_for (halves (λ v. v.0) rows) code) (word_for (halves (λ v. v.1) rows) code)
-        → from_row (if q then some (w, rest) else find rows (code ++ rest))
-        ≡ from_words (if q then some (b w.0) else word_for (halves (λ v. v.0) rows) code)
-        (if q then some (b w.1) else word_for (halves (λ v. v.1) rows) code)
-    unfolding if◌then◌else◌ choose
+        → from_row (if q then some (w, rest) otherwise find rows (code ++ rest))
+        ≡ from_words (if q then some (b w.0) otherwise word_for (halves (λ v. v.0) rows) code)
+        (if q then some (b w.1) otherwise word_for (halves (λ v. v.1) rows) code)
+    unfolding if◌then◌otherwise◌ choose
     one_pair true w rows e = refl
     one_pair false w rows e = e
 

@@ -5,7 +5,7 @@ use Rattle.std.proofs.Math.Option.{Option, none, some}
 use Rattle.std.proofs.Common.{ap, ◌∙◌, length-drop, leb→le}
 use native.Mathlib.Omega.{arith}
 use Prim.Native.String.{String}
-use Rattle.grammar.specs.Text.{Text, b, if◌then◌else◌, choose, number}
+use Rattle.grammar.specs.Text.{Text, b, if◌then◌otherwise◌, choose, number}
 use Rattle.grammar.specs.Laws.Text.{both}
 use Rattle.grammar.specs.Tables.{letters, d_letters, operators, labels, abbreviations, wrappers}
 use Rattle.grammar.specs.Reader.{State, Result, ok, refused, Reader, onto, give, go_to, set_args, push_arg, one_more, start}
@@ -88,8 +88,8 @@ module _ (read read' : Production → Reader Text) (n : ℕ) (below : (k : Produ
   on : (k : Production) → Keeps n (read k) (read' k)
   on k u h = weaken (omega arith) (below k u h)
 
-  either : (c : Bool) (j k : Production) (s : State) → Agree n (read j s) (read' j s) → Agree n (read k s) (read' k s) → Agree n (read (if c then j else k) s) (read' (if c then j else k) s)
-  unfolding if◌then◌else◌
+  either : (c : Bool) (j k : Production) (s : State) → Agree n (read j s) (read' j s) → Agree n (read k s) (read' k s) → Agree n (read (if c then j otherwise k) s) (read' (if c then j otherwise k) s)
+  unfolding if◌then◌otherwise◌
   either true j k s h i = h
   either false j k s h i = i
 
@@ -483,8 +483,8 @@ data Told : Answer → Type 0 where
   by_name : {t : Text} → Told (named t)
   by_number : {r : ℕ} → Told (refusal (suc r))
 
-told_if : (c : Bool) (x y : Answer) → Told x → Told y → Told (if c then x else y)
-unfolding if◌then◌else◌
+told_if : (c : Bool) (x y : Answer) → Told x → Told y → Told (if c then x otherwise y)
+unfolding if◌then◌otherwise◌
 told_if true x y p q = p
 told_if false x y p q = q
 

@@ -3,7 +3,7 @@ use Rattle.std.specs.Prelude.{◌≡◌, ℕ, ◌≤◌, Bool, true, false, leng
 use Rattle.std.proofs.Math.Path.{refl}
 use Rattle.std.proofs.Common.{arith}
 use borrow.Author.Tests.{ltb-false, le-ltb}
-use Rattle.grammar.specs.Text.{Text, if◌then◌else◌}
+use Rattle.grammar.specs.Text.{Text, if◌then◌otherwise◌}
 use Rattle.grammar.specs.Limits.{most_symbol_bytes}
 use Rattle.grammar.specs.Names.{Answer, refusal, Lent, front, demangle, answer}
 
@@ -15,7 +15,7 @@ earlier_symbol_bytes = 4096
 module _ {m n : ℕ} (h : m ≤ n) (t : Text) where
   -- whatever is read behind the front
   pub longer_front : (f : Text → Answer) → (front m t f ≢ refusal 1) → front n t f ≡ front m t f
-  unfolding front if◌then◌else◌
+  unfolding front if◌then◌otherwise◌
   longer_front f k = go (nat_lt m (length t)) refl
     where
       go : (q : Bool) → nat_lt m (length t) ≡ q → front n t f ≡ front m t f

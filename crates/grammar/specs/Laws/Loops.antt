@@ -2,7 +2,7 @@
 use Rattle.std.specs.Prelude.{◌≡◌, ℕ, zero, suc, ◌<◌, Bool, true, false, not, List, [], ◌∷◌, length, ◌==◌}
 use Rattle.std.proofs.Math.Path.{refl}
 use Rattle.std.proofs.Common.{arith}
-use Rattle.grammar.specs.Text.{Text, b, if◌then◌else◌, same, starts}
+use Rattle.grammar.specs.Text.{Text, b, if◌then◌otherwise◌, same, starts}
 use Rattle.grammar.specs.Reader.{State, Result, Reader, onto, ◌>>=◌, ◌>>◌, return, unfit, ahead, need, eat, steps, while, up_to_E, one_more}
 use Rattle.grammar.specs.Grammar.{Production, ⟨template-arg⟩, Parts, prefix, reading}
 use Rattle.grammar.specs.Laws.Agree.{unread, moved, Agree, reads, refuses, bind, push_arg_keeps, while_is}
@@ -11,7 +11,7 @@ use Rattle.grammar.specs.Loops.{argument, before_E}
 
 -- a step of a loop, and the loop from there
 abbrev pub Stepped : {A : Type 0} → (Text → Bool) → (A → Reader A) → A → State → Result A
-Stepped on step x s = (if on s.rest then (λ u. onto (λ y. while on step y) (step x u)) else return x) s
+Stepped on step x s = (if on s.rest then (λ u. onto (λ y. while on step y) (step x u)) otherwise return x) s
 
 -- each step reads a byte
 pub items_shrink : (k : Production) (l : List Text) (s : State) → Agree (unread s) (one_more (reading k) l s) (one_more (reading k) l s)
@@ -52,7 +52,7 @@ module _ {A : Type 0} (step : A → Reader A) (shrinks : (x : A) (s : State) →
   unfoldable guarded : A → Reader A
   guarded z = do
     t ← ahead
-    if same t [] then unfit else step z
+    if same t [] then unfit otherwise step z
 
   abbrev Closes : ℕ → A → State → Type 0
   Closes k x s = onto closed (steps k (λ t. not (starts t (b "E"))) guarded x s) ≡ onto closed (steps k before_E step x s)
@@ -62,7 +62,7 @@ module _ {A : Type 0} (step : A → Reader A) (shrinks : (x : A) (s : State) →
       (c == 69) ≡ q →
       ((y : A) (u : State) → unread u < suc (length r) → Closes k y u) →
       Closes (suc k) x (moved (c ∷ r) s)
-  unfolding steps onto guarded before_E if◌then◌else◌ same starts b need eat
+  unfolding steps onto guarded before_E if◌then◌otherwise◌ same starts b need eat
   at_byte true c r k x s f h = rw f
   at_byte false c r k x s f h = rw f (through _ _ _ (shrinks x (moved (c ∷ r) s)) h)
 
@@ -70,7 +70,7 @@ module _ {A : Type 0} (step : A → Reader A) (shrinks : (x : A) (s : State) →
       (t : Text) (k : ℕ) (x : A) (s : State) →
       ((y : A) (u : State) → unread u < length t → Closes k y u) →
       Closes (suc k) x (moved t s)
-  unfolding steps onto guarded before_E if◌then◌else◌ same starts b need eat
+  unfolding steps onto guarded before_E if◌then◌otherwise◌ same starts b need eat
   at_text [] k x s h = refl
   at_text (c ∷ r) k x s h = at_byte (c == 69) c r k x s refl h
 

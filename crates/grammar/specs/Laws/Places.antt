@@ -3,7 +3,7 @@ use Rattle.std.specs.Prelude.{◌≡◌, ℕ, suc, ◌+◌, ◌<◌, ◌≤◌, 
 use Rattle.std.proofs.lemmas.Bool.{false≢true}
 use Rattle.std.proofs.Math.Bool.{and-true}
 use Rattle.std.proofs.Common.{sym, ap, ap₂, ◌∙◌, add-one, arith, length-set, length-drop, drop_of_length-le, drop-cons, drop-set-lt, get_or-set_same}
-use Rattle.grammar.specs.Text.{Text, if◌then◌else◌, starts, run, past}
+use Rattle.grammar.specs.Text.{Text, if◌then◌otherwise◌, starts, run, past}
 use Rattle.grammar.specs.Laws.Text.{starts_nothing}
 
 module _ (s : Text) (i : ℕ) where
@@ -34,10 +34,10 @@ starts_inside s at c h = omega (arith, some_there (drop at s) h, length-drop at 
 
 -- what stands behind a run
 pub past_run : (p : ℕ → Bool) (t : Text) → past p t ≡ drop (length (run p t)) t
-unfolding past run if◌then◌else◌
+unfolding past run if◌then◌otherwise◌
 past_run p [] = refl
 past_run p (x ∷ t) = go (p x) (past_run p t)
   where
-    go : (q : Bool) → past p t ≡ drop (length (run p t)) t → (if q then past p t else x ∷ t) ≡ drop (length (if q then x ∷ run p t else [])) (x ∷ t)
+    go : (q : Bool) → past p t ≡ drop (length (run p t)) t → (if q then past p t otherwise x ∷ t) ≡ drop (length (if q then x ∷ run p t otherwise [])) (x ∷ t)
     go true e = e
     go false e = refl

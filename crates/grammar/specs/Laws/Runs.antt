@@ -5,15 +5,15 @@ use Rattle.std.proofs.Math.Path.{refl, ap}
 use Rattle.std.proofs.Common.{◌∙◌, length-drop, drop-drop}
 use Prim.Native.String.{String}
 use native.Mathlib.Omega.{arith}
-use Rattle.grammar.specs.Text.{Text, b, if◌then◌else◌, choose, starts, run, past}
+use Rattle.grammar.specs.Text.{Text, b, if◌then◌otherwise◌, choose, starts, run, past}
 use Rattle.grammar.specs.Tables.{◌⇒◌}
 use Rattle.grammar.specs.Reader.{State, Result, ok, refused, Reader, onto, go_to, eat, need, first, any, every, find, by_code, cases}
 use Rattle.grammar.specs.Laws.Agree.{moved}
 use Rattle.grammar.specs.Laws.Places.{rest_some, rest_none, starts_byte, past_run}
 
 module _ (p : ℕ → Bool) where
-  shorter_if : (q : Bool) (x : ℕ) (t : Text) → length (run p t) ≤ length t → length (if q then x ∷ run p t else []) ≤ suc (length t)
-  unfolding if◌then◌else◌
+  shorter_if : (q : Bool) (x : ℕ) (t : Text) → length (run p t) ≤ length t → length (if q then x ∷ run p t otherwise []) ≤ suc (length t)
+  unfolding if◌then◌otherwise◌
   shorter_if true x t h = omega arith
   shorter_if false x t h = omega arith
 
@@ -22,8 +22,8 @@ module _ (p : ℕ → Bool) where
   run_shorter [] = omega arith
   run_shorter (x ∷ t) = shorter_if (p x) x t (run_shorter t)
 
-  stops_if : (q : Bool) (x y : ℕ) (t u : Text) → p x ≡ q → (past p t ≡ y ∷ u → p y ≡ false) → (if q then past p t else x ∷ t) ≡ y ∷ u → p y ≡ false
-  unfolding if◌then◌else◌
+  stops_if : (q : Bool) (x y : ℕ) (t u : Text) → p x ≡ q → (past p t ≡ y ∷ u → p y ≡ false) → (if q then past p t otherwise x ∷ t) ≡ y ∷ u → p y ≡ false
+  unfolding if◌then◌otherwise◌
   stops_if true x y t u e f g = f g
   stops_if false x y t u e f g = let h : x ≡ y = cc in rw (← h) e
 
@@ -46,11 +46,11 @@ module _ (p : ℕ → Bool) where
 
     -- a run, one byte at a time
     pub run_more : at < length s → p (slice_index s at) ≡ true → run p (drop at s) ≡ slice_index s at ∷ run p (drop (at + 1) s)
-    unfolding if◌then◌else◌ run
+    unfolding if◌then◌otherwise◌ run
     run_more h e = rw (rest_some s at h, e)
 
     pub run_stop : at < length s → p (slice_index s at) ≡ false → run p (drop at s) ≡ []
-    unfolding if◌then◌else◌ run
+    unfolding if◌then◌otherwise◌ run
     run_stop h e = rw (rest_some s at h, e)
 
     pub run_end : length s ≤ at → run p (drop at s) ≡ []
@@ -82,44 +82,44 @@ module _ (s : Text) (at : ℕ) (σ : State) (e : σ.rest ≡ drop at s) where
 -- a word at a place
 module _ (w : String) (s : Text) (at : ℕ) (σ : State) (e : σ.rest ≡ drop at s) where
   abbrev eaten : Bool → Text → Result Bool
-  eaten q t = if◌then◌else◌ {A = Reader Bool} q (λ u. onto (λ _. λ v. ok true v) (go_to (drop (length (b w)) t) u)) (λ u. ok false u) σ
+  eaten q t = if◌then◌otherwise◌ {A = Reader Bool} q (λ u. onto (λ _. λ v. ok true v) (go_to (drop (length (b w)) t) u)) (λ u. ok false u) σ
 
   eat_is : eat w σ ≡ eaten (starts (drop at s) (b w)) (drop at s)
   unfolding eat onto
   eat_is = ap (λ (t : Text). eaten (starts t (b w)) t) e
 
   pub eat_here : starts (drop at s) (b w) ≡ true → eat w σ ≡ ok true (moved (drop (at + length (b w)) s) σ)
-  unfolding if◌then◌else◌ onto go_to
+  unfolding if◌then◌otherwise◌ onto go_to
   eat_here h = eat_is ∙ ap (λ (q : Bool). eaten q (drop at s)) h ∙ ap (λ (t : Text). ok true (moved t σ)) (drop-drop (length (b w)) at s)
 
   pub eat_not : starts (drop at s) (b w) ≡ false → eat w σ ≡ ok false σ
-  unfolding if◌then◌else◌ onto go_to
+  unfolding if◌then◌otherwise◌ onto go_to
   eat_not h = eat_is ∙ ap (λ (q : Bool). eaten q (drop at s)) h
 
   abbrev needed : Bool → State → Result (Unit {0})
-  needed q = if q then (λ u. ok tt u) else (λ _. refused 4)
+  needed q = if q then (λ u. ok tt u) otherwise (λ _. refused 4)
 
   pub need_here : starts (drop at s) (b w) ≡ true → need w σ ≡ ok tt (moved (drop (at + length (b w)) s) σ)
-  unfolding if◌then◌else◌ onto need
+  unfolding if◌then◌otherwise◌ onto need
   need_here h = ap (onto needed) (eat_here h)
 
   pub need_not : starts (drop at s) (b w) ≡ false → need w σ ≡ refused 4
-  unfolding if◌then◌else◌ onto need
+  unfolding if◌then◌otherwise◌ onto need
   need_not h = ap (onto needed) (eat_not h)
 
   -- a reading that goes by one word
   module _ {A : Type 0} (m f : Reader A) where
     abbrev found : Bool → Text → Result A
-    found q t = choose {A = Reader A × Text} (if q then some (m, drop (length (b w)) t) else none) (λ r. λ (u : State). onto (λ _. r.0) (go_to r.1 u)) f σ
+    found q t = choose {A = Reader A × Text} (if q then some (m, drop (length (b w)) t) otherwise none) (λ r. λ (u : State). onto (λ _. r.0) (go_to r.1 u)) f σ
 
     case_is : cases ((w ⇒ m) ∷ []) f σ ≡ found (starts (drop at s) (b w)) (drop at s)
     unfolding by_code onto find
     case_is = ap (λ (t : Text). found (starts t (b w)) t) e
 
     pub case_here : starts (drop at s) (b w) ≡ true → cases ((w ⇒ m) ∷ []) f σ ≡ m (moved (drop (at + length (b w)) s) σ)
-    unfolding if◌then◌else◌ choose onto go_to
+    unfolding if◌then◌otherwise◌ choose onto go_to
     case_here h = case_is ∙ ap (λ (q : Bool). found q (drop at s)) h ∙ ap (λ (t : Text). m (moved t σ)) (drop-drop (length (b w)) at s)
 
     pub case_not : starts (drop at s) (b w) ≡ false → cases ((w ⇒ m) ∷ []) f σ ≡ f σ
-    unfolding if◌then◌else◌ choose
+    unfolding if◌then◌otherwise◌ choose
     case_not h = case_is ∙ ap (λ (q : Bool). found q (drop at s)) h

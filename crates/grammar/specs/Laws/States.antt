@@ -3,7 +3,7 @@ use Rattle.std.specs.Prelude.{◌≡◌, ℕ, ◌+◌, ◌<◌, ◌≤◌, Bool,
 use Rattle.std.proofs.Math.Path.{refl, sym}
 use Rattle.std.proofs.Common.{ap, ◌∙◌, subst, arith, ltb-true, ltb-false, eq-eqb, length-drop, drop-drop}
 use Rattle.grammar.specs.Limits.{most_open}
-use Rattle.grammar.specs.Text.{Text, if◌then◌else◌, starts}
+use Rattle.grammar.specs.Text.{Text, if◌then◌otherwise◌, starts}
 use Rattle.grammar.specs.Laws.Places.{starts_byte, rest_some}
 use Rattle.grammar.specs.Laws.NameSteps.{starts_one}
 use Rattle.grammar.specs.declared.state.Parser.{Parser}
@@ -19,7 +19,7 @@ use Rattle.grammar.specs.States.{moved_to, deeper, taken, eaten, entered}
 
 module _ (p : Parser) {r : Read} (e : r ≡ entered p) where
   pub went_in : {q : Parser} {n : ℕ} → r ≡ read_as.Text q n → (p.depth < most_open) × (q ≡ deeper p)
-  unfolding if◌then◌else◌
+  unfolding if◌then◌otherwise◌
   went_in {q} {n} f = go (nat_lt p.depth most_open) refl
     where
       go : (b : Bool) → nat_lt p.depth most_open ≡ b → (p.depth < most_open) × (q ≡ deeper p)
@@ -27,7 +27,7 @@ module _ (p : Parser) {r : Read} (e : r ≡ entered p) where
       go false g = let h : read_as.Text q n ≡ read_as.Refused 8 = sym f ∙ e ∙ rw g refl in let z : ◌≡◌ {A = ℕ} 0 1 = cc in absurd (omega arith)
 
   pub stayed_out : {k : ℕ} → r ≡ read_as.Refused k → (most_open ≤ p.depth) × (r ≡ read_as.Refused 8)
-  unfolding if◌then◌else◌
+  unfolding if◌then◌otherwise◌
   stayed_out {k} f = go (nat_lt p.depth most_open) refl
     where
       go : (b : Bool) → nat_lt p.depth most_open ≡ b → (most_open ≤ p.depth) × (r ≡ read_as.Refused 8)
@@ -85,7 +85,7 @@ module _ (s : Text) (p : Parser) {r : Taken} (e : r ≡ taken p (drop p.at s)) w
 
 module _ (s : Text) (p : Parser) (c : ℕ) {r : Eaten} (e : r ≡ eaten p c (drop p.at s)) where
   pub ate : {q : Parser} → r ≡ eaten_as.Next q → Past s p c q
-  unfolding if◌then◌else◌
+  unfolding if◌then◌otherwise◌
   ate {q} f = go (starts (drop p.at s) (c ∷ [])) refl
     where
       go : (b : Bool) → starts (drop p.at s) (c ∷ []) ≡ b → Past s p c q
@@ -95,7 +95,7 @@ module _ (s : Text) (p : Parser) (c : ℕ) {r : Eaten} (e : r ≡ eaten p c (dro
       go false g = let h : eaten_as.Next q ≡ eaten_as.Nothing = sym f ∙ e ∙ rw g refl in let z : ◌≡◌ {A = ℕ} 0 1 = cc in absurd (omega arith)
 
   pub ate_none : r ≡ eaten_as.Nothing → starts (drop p.at s) (c ∷ []) ≡ false
-  unfolding if◌then◌else◌
+  unfolding if◌then◌otherwise◌
   ate_none f = go (starts (drop p.at s) (c ∷ [])) refl
     where
       go : (b : Bool) → starts (drop p.at s) (c ∷ []) ≡ b → starts (drop p.at s) (c ∷ []) ≡ false

@@ -5,7 +5,7 @@ use Rattle.std.proofs.Math.Option.{Option, none, some}
 use Rattle.std.proofs.Math.Path.{refl, subst⁻¹}
 use Prim.Native.Char.{code}
 use Prim.Native.String.{String}
-use Rattle.grammar.specs.Text.{Text, b, if◌then◌else◌, choose, starts, holds, run, past, between, digit, digit_value, number}
+use Rattle.grammar.specs.Text.{Text, b, if◌then◌otherwise◌, choose, starts, holds, run, past, between, digit, digit_value, number}
 use Rattle.grammar.specs.Tables.{Row, ◌⇒◌, Table, letters, d_letters, wrappers}
 use Rattle.grammar.specs.Reader.{State, Result, ok, refused, Reader, onto, go_to, set_depth, give, entered, find, word_for, by_code, at_code, eat, need, every}
 use Rattle.grammar.specs.Grammar.{⟨source-name⟩, ⟨template-param⟩, reading}
@@ -24,11 +24,11 @@ at_level n σ = record { rest = σ.rest; subs = σ.subs; args = σ.args; depth =
 
 module _ (m : Reader Text) (σ : State) where
   pub entered_in : σ.depth < most_open → entered m σ ≡ onto (λ t u. ok t (at_level σ.depth u)) (m (at_level (σ.depth + 1) σ))
-  unfolding entered onto set_depth if◌then◌else◌
+  unfolding entered onto set_depth if◌then◌otherwise◌
   entered_in h = rw (lt-ltb σ.depth most_open h)
 
   pub entered_8 : most_open ≤ σ.depth → entered m σ ≡ refused 8
-  unfolding entered onto if◌then◌else◌
+  unfolding entered onto if◌then◌otherwise◌
   entered_8 h = rw (le-ltb σ.depth most_open h)
 
 -- ---------------------------------------------------------------- words and codes
@@ -36,20 +36,20 @@ module _ (m : Reader Text) (σ : State) where
 module _ {B : Type 0} (w : String) (m k : Reader B) (σ : State) where
   -- one code, which is left for its reader
   pub at_code_yes : starts σ.rest (b w) ≡ true → at_code (w ⇒ m ∷ []) k σ ≡ m σ
-  unfolding at_code find onto choose if◌then◌else◌
+  unfolding at_code find onto choose if◌then◌otherwise◌
   at_code_yes h = rw h
 
   pub at_code_no : starts σ.rest (b w) ≡ false → at_code (w ⇒ m ∷ []) k σ ≡ k σ
-  unfolding at_code find onto choose if◌then◌else◌
+  unfolding at_code find onto choose if◌then◌otherwise◌
   at_code_no h = rw h
 
 module _ (w : String) (σ : State) where
   pub need_yes : starts σ.rest (b w) ≡ true → need w σ ≡ ok tt (moved (drop (length (b w)) σ.rest) σ)
-  unfolding need eat onto go_to if◌then◌else◌
+  unfolding need eat onto go_to if◌then◌otherwise◌
   need_yes h = rw h
 
   pub need_no : starts σ.rest (b w) ≡ false → need w σ ≡ refused 4
-  unfolding need eat onto if◌then◌else◌
+  unfolding need eat onto if◌then◌otherwise◌
   need_no h = rw h
 
 -- ---------------------------------------------------------------- by the bytes ahead
@@ -109,7 +109,7 @@ module _ (c : ℕ) where
 
   -- a byte that begins no code
   pub no_row : {A : Type 0} (r : Text) (rows : List (Row A)) → T (all_coded rows) → holds c (heads rows) ≡ false → find rows (c ∷ r) ≡ none
-  unfolding find all_coded coded heads holds if◌then◌else◌
+  unfolding find all_coded coded heads holds if◌then◌otherwise◌
   no_row r [] h e = refl
   no_row r ((w ⇒ x) ∷ rows) h e =
       let (p, q) = both (coded w) (all_coded rows) h in
@@ -130,7 +130,7 @@ at_code_none rows m σ h = rw h
 
 -- no digit stands ahead
 pub no_name : (t : Text) (σ : State) → g.digit_ahead t ≡ false → reading ⟨source-name⟩ (moved t σ) ≡ refused 4
-unfolding g.production g.source_name g.digit_ahead every onto go_to run past number if◌then◌else◌
+unfolding g.production g.source_name g.digit_ahead every onto go_to run past number if◌then◌otherwise◌
 no_name [] σ h = reading_is ⟨source-name⟩ (moved [] σ)
 no_name (c ∷ t) σ h = reading_is ⟨source-name⟩ (moved (c ∷ t) σ) ∙ rw h
 
@@ -188,39 +188,39 @@ module _ (c : ℕ) (r : Text) (σ : State) where
 
 module _ (r : Text) (σ : State) where
   pub inner_end : g.type_inner reading (moved [] σ) ≡ refused 4
-  unfolding g.type_inner by_code at_code find onto choose letters d_letters wrappers starts b if◌then◌else◌ g.digit_ahead
+  unfolding g.type_inner by_code at_code find onto choose letters d_letters wrappers starts b if◌then◌otherwise◌ g.digit_ahead
   inner_end = class_type_4 [] σ refl
 
   pub inner_A : g.type_inner reading (moved (code "A" ∷ r) σ) ≡ g.array_type reading (moved r σ)
-  unfolding g.type_inner by_code find onto choose go_to letters d_letters wrappers starts b if◌then◌else◌
+  unfolding g.type_inner by_code find onto choose go_to letters d_letters wrappers starts b if◌then◌otherwise◌
   inner_A = refl
 
   pub inner_F : g.type_inner reading (moved (code "F" ∷ r) σ) ≡ g.function_type reading (moved r σ)
-  unfolding g.type_inner by_code find onto choose go_to letters d_letters wrappers starts b if◌then◌else◌
+  unfolding g.type_inner by_code find onto choose go_to letters d_letters wrappers starts b if◌then◌otherwise◌
   inner_F = refl
 
   pub inner_M : g.type_inner reading (moved (code "M" ∷ r) σ) ≡ g.pointer_to_member_type reading (moved r σ)
-  unfolding g.type_inner by_code find onto choose go_to letters d_letters wrappers starts b if◌then◌else◌
+  unfolding g.type_inner by_code find onto choose go_to letters d_letters wrappers starts b if◌then◌otherwise◌
   inner_M = refl
 
   pub inner_u : g.type_inner reading (moved (code "u" ∷ r) σ) ≡ reading ⟨source-name⟩ (moved r σ)
-  unfolding g.type_inner by_code find onto choose go_to letters d_letters wrappers starts b if◌then◌else◌
+  unfolding g.type_inner by_code find onto choose go_to letters d_letters wrappers starts b if◌then◌otherwise◌
   inner_u = refl
 
   pub inner_N : g.type_inner reading (moved (code "N" ∷ r) σ) ≡ g.nested_type reading (moved (code "N" ∷ r) σ)
-  unfolding g.type_inner by_code at_code find onto choose go_to letters d_letters wrappers starts b if◌then◌else◌
+  unfolding g.type_inner by_code at_code find onto choose go_to letters d_letters wrappers starts b if◌then◌otherwise◌
   inner_N = refl
 
   pub inner_T : g.type_inner reading (moved (code "T" ∷ r) σ) ≡ reading ⟨template-param⟩ (moved (code "T" ∷ r) σ)
-  unfolding g.type_inner by_code at_code find onto choose go_to letters d_letters wrappers starts b if◌then◌else◌
+  unfolding g.type_inner by_code at_code find onto choose go_to letters d_letters wrappers starts b if◌then◌otherwise◌
   inner_T = refl
 
   pub inner_S : g.type_inner reading (moved (code "S" ∷ r) σ) ≡ g.s_type reading (moved (code "S" ∷ r) σ)
-  unfolding g.type_inner by_code at_code find onto choose go_to letters d_letters wrappers starts b if◌then◌else◌
+  unfolding g.type_inner by_code at_code find onto choose go_to letters d_letters wrappers starts b if◌then◌otherwise◌
   inner_S = refl
 
   pub inner_D : g.type_inner reading (moved (code "D" ∷ r) σ) ≡ by_code d_letters (λ w. give (b w)) (λ _. refused 4) (moved (code "D" ∷ r) σ)
-  unfolding g.type_inner by_code at_code find onto choose go_to letters wrappers starts b if◌then◌else◌ g.digit_ahead digit digit_value between
+  unfolding g.type_inner by_code at_code find onto choose go_to letters wrappers starts b if◌then◌otherwise◌ g.digit_ahead digit digit_value between
   inner_D = through (find d_letters (code "D" ∷ r)) _ (class_type_4 (code "D" ∷ r) σ refl)
     where
       told : Option (String × Text) → Reader Text → Reader Text

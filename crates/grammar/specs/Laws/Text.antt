@@ -2,7 +2,7 @@
 use Rattle.std.specs.Prelude.{◌≡◌, ℕ, zero, suc, ◌+◌, ◌-◌, ◌/◌, ◌%◌, ◌<◌, ◌≤◌, Bool, true, false, ◌&&◌, ◌||◌, T, [], ◌∷◌, ◌++◌, length, drop, ◌==◌, ◌≢◌, refl}
 use Rattle.std.proofs.Common.{true≢false, sym, ap, ap₂, ◌∙◌, subst, arith, lt-ltb, le-ltb, eqb→eq}
 use Rattle.std.proofs.Math.Bool.{and-false}
-use Rattle.grammar.specs.Text.{Text, if◌then◌else◌, same, starts, decimal}
+use Rattle.grammar.specs.Text.{Text, if◌then◌otherwise◌, same, starts, decimal}
 
 pub both : (p q : Bool) → T (p && q) → T p × T q
 both true q h = (tt, h)
@@ -50,11 +50,11 @@ starts_is t w e = starts_there t w (subst T (sym e) tt)
 
 -- one digit, and the last digit apart
 pub decimal_last : (k n : ℕ) → n < 10 → 1 ≤ k → decimal k n ≡ (48 + n) ∷ []
-unfolding decimal if◌then◌else◌
+unfolding decimal if◌then◌otherwise◌
 decimal_last zero n h l = absurd (omega arith)
 decimal_last (suc k) n h l = rw (lt-ltb n 10 h)
 
 pub decimal_more : (k n : ℕ) → 10 ≤ n → 1 ≤ k → decimal k n ≡ decimal (k - 1) (n / 10) ++ ((48 + n % 10) ∷ [])
-unfolding decimal if◌then◌else◌
+unfolding decimal if◌then◌otherwise◌
 decimal_more zero n h l = absurd (omega arith)
 decimal_more (suc k) n h l = rw (le-ltb n 10 h) (ap (λ (j : ℕ). decimal j (n / 10) ++ ((48 + n % 10) ∷ [])) {x = k} {y = suc k - 1} (omega arith))

@@ -5,7 +5,7 @@ use Rattle.std.proofs.Common.{inl, inr, sym, ap, ◌∙◌, arith}
 use Rattle.std.proofs.Math.Option.{Option, none, some}
 use Rattle.std.proofs.Math.Path.{refl, subst, fun_ext}
 use Prim.Native.String.{String}
-use Rattle.grammar.specs.Text.{Text, b, if◌then◌else◌, choose, starts, holds, digit, digit_value}
+use Rattle.grammar.specs.Text.{Text, b, if◌then◌otherwise◌, choose, starts, holds, digit, digit_value}
 use Rattle.grammar.specs.Limits.{most_open}
 use Rattle.grammar.specs.Tables.{Row, ◌⇒◌, labels, operators}
 use Rattle.grammar.specs.Reader.{State, Result, ok, refused, Reader, onto, ◌>>=◌, ◌>>◌, give, go_to, start, the, find, by_code, cases, any, entered, set_depth}
@@ -49,7 +49,7 @@ unfoldable pub demangle_without : ℕ → Text → Answer
 demangle_without limit t = front limit t mangled_without
 
 unfoldable pub answer_without : ℕ → Lent → Text → Answer
-answer_without limit l t = front limit t λ u. if work_fits l then within l.out (mangled_without u) else refusal 14
+answer_without limit l t = front limit t λ u. if work_fits l then within l.out (mangled_without u) otherwise refusal 14
 
 -- ---------------------------------------------------------------- what is promised
 
@@ -73,16 +73,16 @@ pub kept_by : {A B P Q : Type 0} {four x y : A} (f : A → B) → (P → Q) → 
 kept_by f h same = same
 kept_by f h (new p) = new (h p)
 
-pub if_kept : {A P : Type 0} {four x y : A} (z : A) (q : Bool) → Kept P four x y → Kept P four (if q then x else z) (if q then y else z)
-unfolding if◌then◌else◌
+pub if_kept : {A P : Type 0} {four x y : A} (z : A) (q : Bool) → Kept P four x y → Kept P four (if q then x otherwise z) (if q then y otherwise z)
+unfolding if◌then◌otherwise◌
 if_kept z true h = h
 if_kept z false h = same
 
 -- ---------------------------------------------------------------- no other production reads an encoding
 
 either : (x : Reader Text) (read : Production → Reader Text) (d : Bool) →
-    instead x read (if d then ⟨source-name⟩ else ⟨operator-name⟩) ≡ read (if d then ⟨source-name⟩ else ⟨operator-name⟩)
-unfolding instead if◌then◌else◌
+    instead x read (if d then ⟨source-name⟩ otherwise ⟨operator-name⟩) ≡ read (if d then ⟨source-name⟩ otherwise ⟨operator-name⟩)
+unfolding instead if◌then◌otherwise◌
 either x read true = refl
 either x read false = refl
 
@@ -132,11 +132,11 @@ without_is (suc n) = fun_ext λ k. ap (λ (read : Production → Reader Text). i
 
 module _ (c : ℕ) (t : Text) (σ : State) (no_operator : (τ : State) → reading ⟨operator-name⟩ (moved (84 ∷ c ∷ t) τ) ≡ refused 4) where
   no_name_inner : (τ : State) → g.name_inner reading (moved (84 ∷ c ∷ t) τ) ≡ refused 4
-  unfolding g.unscoped_name onto holds digit digit_value if◌then◌else◌ b
+  unfolding g.unscoped_name onto holds digit digit_value if◌then◌otherwise◌ b
   no_name_inner τ = name_other (c ∷ t) τ 84 refl ∙ rw (unqualified_operator 84 (c ∷ t) τ refl refl ∙ no_operator τ)
 
   no_name : ltb σ.depth most_open ≡ true → reading ⟨name⟩ (moved (84 ∷ c ∷ t) σ) ≡ refused 4
-  unfolding g.production g.name entered onto set_depth if◌then◌else◌
+  unfolding g.production g.name entered onto set_depth if◌then◌otherwise◌
   no_name e = reading_is ⟨name⟩ (moved (84 ∷ c ∷ t) σ) ∙ rw (e, no_name_inner (at_level (σ.depth + 1) σ))
 
 module _ (n : ℕ) (t : Text) where
@@ -148,11 +148,11 @@ module _ (n : ℕ) (t : Text) where
   no_function c h l = rw (name_fuelled n (start (84 ∷ c ∷ t)) (omega (arith, l)) ∙ no_name c t (start []) h refl)
 
   no_function_h : Refused 104
-  unfolding g.production g.operator_name by_code find onto choose operators starts b if◌then◌else◌
+  unfolding g.production g.operator_name by_code find onto choose operators starts b if◌then◌otherwise◌
   no_function_h = no_function 104 λ τ. reading_is ⟨operator-name⟩ (moved (84 ∷ 104 ∷ t) τ)
 
   no_function_v : Refused 118
-  unfolding g.production g.operator_name by_code find onto choose operators starts b if◌then◌else◌
+  unfolding g.production g.operator_name by_code find onto choose operators starts b if◌then◌otherwise◌
   no_function_v = no_function 118 λ τ. reading_is ⟨operator-name⟩ (moved (84 ∷ 118 ∷ t) τ)
 
 -- ---------------------------------------------------------------- rows
@@ -179,12 +179,12 @@ table_kept f (some r) m m' s h = same
 
 module _ {P : Type 0} {four : Result Text} {s : State} {m m' : Reader Text} where
   rows_kept : {l l' : Rows} → Beside P four s m m' l l' → Kept P four (cases l m s) (cases l' m' s)
-  unfolding by_code find onto choose go_to if◌then◌else◌
+  unfolding by_code find onto choose go_to if◌then◌otherwise◌
   rows_kept (end h) = h
   rows_kept (row {w} {f} {f'} {l} {l'} h k) = go (starts s.rest (b w)) refl (rows_kept k)
     where
       read : Bool → Reader Text → Rows → Reader Text → Result Text
-      read q f l m = choose (if q then some (f, drop (length (b w)) s.rest) else find l s.rest) (λ r. λ u. onto (λ _. r.0) (go_to r.1 u)) m s
+      read q f l m = choose (if q then some (f, drop (length (b w)) s.rest) otherwise find l s.rest) (λ r. λ u. onto (λ _. r.0) (go_to r.1 u)) m s
 
       go : (q : Bool) → starts s.rest (b w) ≡ q → Kept P four (cases l m s) (cases l' m' s) → Kept P four (read q f l m) (read q f' l' m')
       go true e i = h e
@@ -192,7 +192,7 @@ module _ {P : Type 0} {four : Result Text} {s : State} {m m' : Reader Text} wher
   rows_kept (new_row {w} {f} {l} h k) = go (starts s.rest (b w)) refl (rows_kept k)
     where
       read : Bool → Result Text
-      read q = choose (if q then some (f, drop (length (b w)) s.rest) else find l s.rest) (λ r. λ u. onto (λ _. r.0) (go_to r.1 u)) m' s
+      read q = choose (if q then some (f, drop (length (b w)) s.rest) otherwise find l s.rest) (λ r. λ u. onto (λ _. r.0) (go_to r.1 u)) m' s
 
       go : (q : Bool) → starts s.rest (b w) ≡ q → Kept P four (m s) (cases l m' s) → Kept P four (m s) (read q)
       go true e i = h e
@@ -249,13 +249,13 @@ unfolding mangled_without mangled_name reading finished start
 mangled_kept t = kept_by finished (λ p. p) (keeps (4 * suc (length t)) t (omega arith))
 
 pub front_kept : (limit : ℕ) (t : Text) (f f' : Text → Answer) → ((u : Text) → Kept (Thunk u) (refusal 4) (f u) (f' u)) → Kept (ThunkSymbol t) (refusal 4) (front limit t f) (front limit t f')
-unfolding front find choose if◌then◌else◌ b
+unfolding front find choose if◌then◌otherwise◌ b
 front_kept limit t f f' h = long (nat_lt limit (length t)) (high t) (starts t (b "_Z")) refl (starts t (b "__Z")) refl
   where
     told : (Text → Answer) → Bool → Bool → Bool → Bool → Answer
     told f i j q r =
-        if i then refusal 1 else if j then refusal 2 else
-        choose {A = Unit {0} × Text} (if q then some (tt, drop 2 t) else if r then some (tt, drop 3 t) else none) (λ x. f x.1) (refusal 3)
+        if i then refusal 1 otherwise if j then refusal 2 otherwise
+        choose {A = Unit {0} × Text} (if q then some (tt, drop 2 t) otherwise if r then some (tt, drop 3 t) otherwise none) (λ x. f x.1) (refusal 3)
 
     long : (i j q : Bool) → starts t (b "_Z") ≡ q → (r : Bool) → starts t (b "__Z") ≡ r → Kept (ThunkSymbol t) (refusal 4) (told f i j q r) (told f' i j q r)
     long true j q e r k = same

@@ -3,7 +3,7 @@ use Rattle.std.specs.Prelude.{Bool, true, false, not, List, [], ◌∷◌, ◌++
 use Rattle.std.proofs.Common.{sym, ◌∙◌, arith, ltb-true, ltb-false, leb-true, leb-false, take_all, length-take-le}
 use Rattle.std.proofs.Math.Path.{ap, ap₂}
 use Rattle.std.proofs.Math.Seq.{take-nil}
-use Rattle.grammar.specs.Text.{Text, if◌then◌else◌, run}
+use Rattle.grammar.specs.Text.{Text, if◌then◌otherwise◌, run}
 use Rattle.listing.specs.Listing.{line_for, listing_line, in_front, lines, listing}
 use Rattle.listing.specs.Laws.Kinds.{too_long}
 use Rattle.listing.specs.Lines.{before_feed}
@@ -14,27 +14,27 @@ use Rattle.listing.specs.Cut.{most_kept, cut_lines, column}
 
 module _ (n x : ℕ) (t : Text) where
   abbrev cut_by : Bool → Bool → Text
-  cut_by q r = if q then x ∷ cut_lines 0 t else if r then x ∷ cut_lines (n + 1) t else cut_lines n t
+  cut_by q r = if q then x ∷ cut_lines 0 t otherwise if r then x ∷ cut_lines (n + 1) t otherwise cut_lines n t
 
   abbrev column_by : Bool → Bool → ℕ
-  column_by q r = if q then column 0 t else if r then column (n + 1) t else column n t
+  column_by q r = if q then column 0 t otherwise if r then column (n + 1) t otherwise column n t
 
   pub cut_feed : eqb x 10 ≡ true → (cut_lines n (x ∷ t) ≡ x ∷ cut_lines 0 t) × (column n (x ∷ t) ≡ column 0 t)
-  unfolding cut_lines column if◌then◌else◌
+  unfolding cut_lines column if◌then◌otherwise◌
   cut_feed e = (ap (λ (q : Bool). cut_by q (ltb n most_kept)) e, ap (λ (q : Bool). column_by q (ltb n most_kept)) e)
 
   pub cut_kept : eqb x 10 ≡ false → ltb n most_kept ≡ true → (cut_lines n (x ∷ t) ≡ x ∷ cut_lines (n + 1) t) × (column n (x ∷ t) ≡ column (n + 1) t)
-  unfolding cut_lines column if◌then◌else◌
+  unfolding cut_lines column if◌then◌otherwise◌
   cut_kept e f = (ap₂ cut_by e f, ap₂ column_by e f)
 
   pub cut_dropped : eqb x 10 ≡ false → ltb n most_kept ≡ false → (cut_lines n (x ∷ t) ≡ cut_lines n t) × (column n (x ∷ t) ≡ column n t)
-  unfolding cut_lines column if◌then◌else◌
+  unfolding cut_lines column if◌then◌otherwise◌
   cut_dropped e f = (ap₂ cut_by e f, ap₂ column_by e f)
 
 -- ---------------------------------------------------------------- a text in parts
 
 pub cut_append : (n : ℕ) (s t : Text) → cut_lines n (s ++ t) ≡ cut_lines n s ++ cut_lines (column n s) t
-unfolding cut_lines column if◌then◌else◌
+unfolding cut_lines column if◌then◌otherwise◌
 cut_append n [] t = refl
 cut_append n (x ∷ s) t = go (eqb x 10) (ltb n most_kept) (cut_append 0 s t) (cut_append (n + 1) s t) (cut_append n s t) where
   go : (q r : Bool) → cut_lines 0 (s ++ t) ≡ cut_lines 0 s ++ cut_lines (column 0 s) t → cut_lines (n + 1) (s ++ t) ≡ cut_lines (n + 1) s ++ cut_lines (column (n + 1) s) t
@@ -66,10 +66,10 @@ no_front n t =
 
 -- the bytes up to a line feed are such a front: none of them ends the line
 pub line_front : (n : ℕ) (t : Text) → Fronted n t (before_feed t)
-unfolding run if◌then◌else◌
+unfolding run if◌then◌otherwise◌
 line_front n [] = no_front n []
 line_front n (x ∷ t) = go (before_feed t) (eqb x 10) refl (ltb n most_kept) refl (line_front (n + 1) t) (line_front n t) where
-  go : (s : Text) (q : Bool) → eqb x 10 ≡ q → (r : Bool) → ltb n most_kept ≡ r → Fronted (n + 1) t s → Fronted n t s → Fronted n (x ∷ t) (if not q then x ∷ s else [])
+  go : (s : Text) (q : Bool) → eqb x 10 ≡ q → (r : Bool) → ltb n most_kept ≡ r → Fronted (n + 1) t s → Fronted n t s → Fronted n (x ∷ t) (if not q then x ∷ s otherwise [])
   go s true e r f a d = no_front n (x ∷ t)
   go s false e true f a d =
       let (p, q) = cut_kept n x t e f in
@@ -109,12 +109,12 @@ short_none x [] = refl
 short_none x (s ∷ ss) = refl
 
 cut_shortened : (n : ℕ) (t : Text) → n ≤ most_kept → lines (cut_lines n t) ≡ shortened (most_kept - n) (lines t)
-unfolding lines cut_lines shortened if◌then◌else◌
+unfolding lines cut_lines shortened if◌then◌otherwise◌
 cut_shortened n [] h = refl
 cut_shortened n (x ∷ t) h =
     go (eqb x 10) refl (ltb n most_kept) refl (cut_shortened 0 t (omega arith)) (λ k. cut_shortened (n + 1) t k) (cut_shortened n t h) where
       by_feed : Bool → List Text → List Text
-      by_feed q ss = if q then [] ∷ ss else in_front x ss
+      by_feed q ss = if q then [] ∷ ss otherwise in_front x ss
 
       go : (q : Bool) → eqb x 10 ≡ q → (r : Bool) → ltb n most_kept ≡ r → lines (cut_lines 0 t) ≡ shortened (most_kept - 0) (lines t)
           → (n + 1 ≤ most_kept → lines (cut_lines (n + 1) t) ≡ shortened (most_kept - (n + 1)) (lines t)) → lines (cut_lines n t) ≡ shortened (most_kept - n) (lines t)

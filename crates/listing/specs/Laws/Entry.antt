@@ -3,7 +3,7 @@ use Rattle.std.specs.Prelude.{Bool, true, false, ◌&&◌, ◌≡◌, ◌≤◌,
 use Rattle.std.proofs.Math.Path.{refl, sym}
 use Rattle.std.proofs.Common.{◌∙◌}
 use borrow.Author.Tests.{le-leb, lt-leb, leb-true}
-use Rattle.grammar.specs.Text.{Text, if◌then◌else◌}
+use Rattle.grammar.specs.Text.{Text, if◌then◌otherwise◌}
 use Rattle.grammar.specs.Limits.{least_text, least_store}
 use Rattle.grammar.specs.Names.{Lent}
 use Rattle.store.specs.Stack.{zeros}
@@ -50,12 +50,12 @@ module _ (kind : Kind) (work : Slices) {q : Bool} (e : q ≡ sized kind (lent wo
       }
 
   pub goes_none : (input out : Text) → q ≡ false → Tried kind input out out work (record { number = 14; taken = 0; written = 0 })
-  unfolding work_sized number_for bytes_taken listing if◌then◌else◌
+  unfolding work_sized number_for bytes_taken listing if◌then◌otherwise◌
   goes_none input out f = rw (sym e ∙ f) (record { told = refl; taken = refl; written = refl; is = refl })
 
   pub goes_some : (input : Text) {out out' : Text} {r : Listed} → q ≡ true → GoesOn kind input out out' r
       → Tried kind input out out' work r
-  unfolding work_sized if◌then◌else◌
+  unfolding work_sized if◌then◌otherwise◌
   goes_some input f g = rw (sym e ∙ f) g
 
 -- ---------------------------------------------------------------- the outcome

@@ -7,7 +7,7 @@ use Rattle.std.proofs.Common.{◌∙◌}
 use native.Mathlib.Omega.{arith}
 use borrow.Author.Tests.{leb-true, le-leb}
 use Rattle.std.proofs.Math.ListN.{length, length-append}
-use Rattle.grammar.specs.Text.{Text, if◌then◌else◌, decimal}
+use Rattle.grammar.specs.Text.{Text, if◌then◌otherwise◌, decimal}
 use Rattle.grammar.specs.Limits.{most_text_bytes}
 use Rattle.grammar.specs.Names.{Answer, number_of, length_of}
 use Rattle.answer.specs.Told.{Slices}
@@ -20,25 +20,25 @@ use Rattle.listing.specs.declared.listing.Kind.{Kind}
 use Rattle.listing.specs.declared.listing.Listed.{Listed}
 
 lines_inside : (t : Text) → bytes_taken (lines t) ≤ length t
-unfolding lines in_front bytes_taken if◌then◌else◌
+unfolding lines in_front bytes_taken if◌then◌otherwise◌
 lines_inside [] = omega arith
 lines_inside (x ∷ t) = go (eqb x 10) (lines t) (lines_inside t) where
   front : (ss : List Text) → bytes_taken ss ≤ length t → bytes_taken (in_front x ss) ≤ suc (length t)
   front [] h = omega arith
   front (s ∷ ss) h = omega arith
 
-  go : (q : Bool) (ss : List Text) → bytes_taken ss ≤ length t → bytes_taken (if q then [] ∷ ss else in_front x ss) ≤ suc (length t)
+  go : (q : Bool) (ss : List Text) → bytes_taken ss ≤ length t → bytes_taken (if q then [] ∷ ss otherwise in_front x ss) ≤ suc (length t)
   go true ss h = omega arith
   go false ss h = front ss h
 
 module _ (kind : Kind) (s : Text) (ss ts : List Text) (room : ℕ) where
-  more_inside : (q : Bool) → bytes_taken ts ≤ bytes_taken ss → bytes_taken (if q then s ∷ ts else []) ≤ bytes_taken (s ∷ ss)
-  unfolding bytes_taken if◌then◌else◌
+  more_inside : (q : Bool) → bytes_taken ts ≤ bytes_taken ss → bytes_taken (if q then s ∷ ts otherwise []) ≤ bytes_taken (s ∷ ss)
+  unfolding bytes_taken if◌then◌otherwise◌
   more_inside true h = omega arith
   more_inside false h = omega arith
 
-  more_room : (q : Bool) → leb (length (listing_line kind s)) room ≡ q → length (listing kind ts) ≤ room - length (listing_line kind s) → length (listing kind (if q then s ∷ ts else [])) ≤ room
-  unfolding listing if◌then◌else◌
+  more_room : (q : Bool) → leb (length (listing_line kind s)) room ≡ q → length (listing kind ts) ≤ room - length (listing_line kind s) → length (listing kind (if q then s ∷ ts otherwise [])) ≤ room
+  unfolding listing if◌then◌otherwise◌
   more_room true e h = omega (arith, leb-true (length (listing_line kind s)) room e, length-append (listing_line kind s) (listing kind ts))
   more_room false e h = omega arith
 
@@ -56,22 +56,22 @@ fitting_room kind room (s ∷ ss) =
 
 -- no more is taken than there is, and no more written than fits
 pub lists_inside : (kind : Kind) (input out out' : Text) (work work' : Slices) (r : Listed) → Lists kind input out out' work work' r → (r.taken ≤ length input) × (r.written ≤ length out)
-unfolding listed lists if◌then◌else◌ bytes_taken listing
+unfolding listed lists if◌then◌otherwise◌ bytes_taken listing
 lists_inside kind input out out' work work' r e =
     let (a, c) = go (work_sized kind work) in
     (omega (arith, a, ap (λ (x : Outcome). x.taken) e), omega (arith, c, ap (λ (x : Outcome). x.written) e)) where
-      go : (q : Bool) → (bytes_taken (if q then fitting kind (length out) (lines input) else []) ≤ length input)
-          × (length (listing kind (if q then fitting kind (length out) (lines input) else [])) ≤ length out)
+      go : (q : Bool) → (bytes_taken (if q then fitting kind (length out) (lines input) otherwise []) ≤ length input)
+          × (length (listing kind (if q then fitting kind (length out) (lines input) otherwise [])) ≤ length out)
       go true = (omega (arith, fitting_inside kind (length out) (lines input), lines_inside input), fitting_room kind (length out) (lines input))
       go false = (omega arith, omega arith)
 
 -- ---------------------------------------------------------------- a line fits
 
 decimal_size : (k n : ℕ) → length (decimal k n) ≤ k
-unfolding decimal if◌then◌else◌
+unfolding decimal if◌then◌otherwise◌
 decimal_size zero n = omega arith
 decimal_size (suc k) n = go (ltb n 10) (decimal_size k (n / 10)) where
-  go : (q : Bool) → length (decimal k (n / 10)) ≤ k → length (if◌then◌else◌ {A = Text} q ((48 + n) ∷ []) (decimal k (n / 10) ++ ((48 + n % 10) ∷ []))) ≤ suc k
+  go : (q : Bool) → length (decimal k (n / 10)) ≤ k → length (if◌then◌otherwise◌ {A = Text} q ((48 + n) ∷ []) (decimal k (n / 10) ++ ((48 + n % 10) ∷ []))) ≤ suc k
   go true h = omega arith
   go false h = omega (arith, length-append (decimal k (n / 10)) ((48 + n % 10) ∷ []))
 
@@ -90,7 +90,7 @@ unfolding listing_line
 line_fits kind s = answer_fits (answer_of kind s) (short_answer_of kind s)
 
 some_taken : (kind : Kind) (room : ℕ) (s : Text) (ss : List Text) → length (listing_line kind s) ≤ room → 1 ≤ bytes_taken (fitting kind room (s ∷ ss))
-unfolding fitting bytes_taken if◌then◌else◌
+unfolding fitting bytes_taken if◌then◌otherwise◌
 some_taken kind room s ss h = rw (le-leb (length (listing_line kind s)) room h) (omega arith)
 
 -- ---------------------------------------------------------------- the number
@@ -100,25 +100,25 @@ module _ (kind : Kind) (input out out' : Text) (work work' : Slices) (r : Listed
   fit = fitting kind (length out) (lines input)
 
   by_work : (q : Bool) → work_sized kind work ≡ q
-      → (r.number ≡ number_for q (lines input) fit) × ((r.taken ≡ bytes_taken (if q then fit else [])) × (r.written ≡ length (listing kind (if q then fit else []))))
+      → (r.number ≡ number_for q (lines input) fit) × ((r.taken ≡ bytes_taken (if q then fit otherwise [])) × (r.written ≡ length (listing kind (if q then fit otherwise []))))
   unfolding listed lists
   by_work q f = (
     ap (λ (x : Outcome). x.number) e ∙ ap (λ (p : Bool). number_for p (lines input) fit) f,
     (
-      ap (λ (x : Outcome). x.taken) e ∙ ap (λ (p : Bool). bytes_taken (if p then fit else [])) f,
-      ap (λ (x : Outcome). x.written) e ∙ ap (λ (p : Bool). length (listing kind (if p then fit else []))) f,
+      ap (λ (x : Outcome). x.taken) e ∙ ap (λ (p : Bool). bytes_taken (if p then fit otherwise [])) f,
+      ap (λ (x : Outcome). x.written) e ∙ ap (λ (p : Bool). length (listing kind (if p then fit otherwise []))) f,
     ),
   )
 
   -- 14: a work slice is too short, and nothing is taken or written
   pub lists_14 : work_sized kind work ≡ false → (r.number ≡ 14) × ((r.taken ≡ 0) × (r.written ≡ 0))
-  unfolding number_for bytes_taken listing if◌then◌else◌
+  unfolding number_for bytes_taken listing if◌then◌otherwise◌
   lists_14 f = by_work false f
 
   -- 12: there is a complete line, but the output is too short for the listing of the first; nothing is taken or written
   pub lists_12 : work_sized kind work ≡ true → {s : Text} {ss : List Text} → lines input ≡ s ∷ ss → length out < length (listing_line kind s)
       → (r.number ≡ 12) × ((r.taken ≡ 0) × (r.written ≡ 0))
-  unfolding number_for none_fits bytes_taken listing if◌then◌else◌
+  unfolding number_for none_fits bytes_taken listing if◌then◌otherwise◌
   lists_12 f {s} {ss} g h =
       let k : fit ≡ [] = ap (fitting kind (length out)) g ∙ fits_none kind (length out) s ss h in
       let (a, (c, d)) = by_work true f in
@@ -140,7 +140,7 @@ module _ (kind : Kind) (input out out' : Text) (work work' : Slices) (r : Listed
     go false f = omega (arith, (lists_14 f).0, z)
 
   pub lists_some_line : work_sized kind work ≡ true → most_line_bytes ≤ length out → (r.number ≡ 0) × (1 ≤ length (lines input) → 1 ≤ r.taken)
-  unfolding if◌then◌else◌
+  unfolding if◌then◌otherwise◌
   lists_some_line f h = (lists_0 f (λ s ss g. omega (arith, line_fits kind s)), λ k. omega (arith, go (lines input) k, (by_work true f).1.0)) where
     go : (ss : List Text) → 1 ≤ length ss → 1 ≤ bytes_taken (fitting kind (length out) ss)
     go [] l = absurd (omega arith)

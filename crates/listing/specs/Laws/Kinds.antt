@@ -3,7 +3,7 @@ use Rattle.std.specs.Prelude.{Bool, true, false, ◌≡◌, refl, ◌≤◌, ◌
 use Rattle.std.proofs.Math.Option.{Option, none, some}
 use Rattle.std.proofs.Common.{sym, ◌∙◌, arith, lt-ltb, leb-true}
 use Rattle.std.proofs.Math.Path.{ap, subst}
-use Rattle.grammar.specs.Text.{Text, if◌then◌else◌}
+use Rattle.grammar.specs.Text.{Text, if◌then◌otherwise◌}
 use Rattle.grammar.specs.Limits.{most_symbol_bytes, most_text_bytes}
 use Rattle.grammar.specs.Names.{Answer, named, refusal, mangled_name, front, demangle, work_fits, within, answer, length_of}
 use Rattle.catalogue.specs.Recogniser.{classify}
@@ -21,10 +21,10 @@ use Rattle.listing.specs.Kinds.{LongFor}
 -- ---------------------------------------------------------------- a normal symbol
 
 told_short : (w : Option Text) → length_of (normal_told most_symbol_bytes w) ≤ most_symbol_bytes
-unfolding normal_told length_of if◌then◌else◌
+unfolding normal_told length_of if◌then◌otherwise◌
 told_short none = omega arith
 told_short (some t) = go (leb (length t) most_symbol_bytes) refl where
-  go : (q : Bool) → leb (length t) most_symbol_bytes ≡ q → length_of (if q then named t else refusal 13) ≤ most_symbol_bytes
+  go : (q : Bool) → leb (length t) most_symbol_bytes ≡ q → length_of (if q then named t otherwise refusal 13) ≤ most_symbol_bytes
   go true e = leb-true (length t) most_symbol_bytes e
   go false e = omega arith
 
@@ -35,13 +35,13 @@ after_short s (refusal r) = omega arith
 
 normal_is : (l : Slices) (s : Text) → most_text_bytes ≤ length l.out → normal_work_fits most_symbol_bytes (lent l) ≡ true
     → normal_answer most_symbol_bytes (lent l) s ≡ normal_symbol most_symbol_bytes s
-unfolding normal_answer normal_symbol demangle if◌then◌else◌
+unfolding normal_answer normal_symbol demangle if◌then◌otherwise◌
 normal_is l s h k = ap (front most_symbol_bytes s) (λ i u. step u i) ∙ normal_behind s where
-  step : (u : Text) → (if normal_work_fits most_symbol_bytes (lent l) then within (length l.out) (normal_after most_symbol_bytes s (mangled_name u)) else refusal 14)
+  step : (u : Text) → (if normal_work_fits most_symbol_bytes (lent l) then within (length l.out) (normal_after most_symbol_bytes s (mangled_name u)) otherwise refusal 14)
       ≡ normal_after most_symbol_bytes s (mangled_name u)
   step u =
       let a = normal_after most_symbol_bytes s (mangled_name u) in
-      ap (λ (q : Bool). if q then within (length l.out) a else refusal 14) k
+      ap (λ (q : Bool). if q then within (length l.out) a otherwise refusal 14) k
       ∙ within_is (length l.out) a (omega (arith, after_short s (mangled_name u)))
 
 -- ---------------------------------------------------------------- by what is listed
@@ -55,7 +55,7 @@ pub short_told : (kind : Kind) (s : Text) {out out' : Text} {r : Code} → Tells
 short_told kind s h = omega (arith, tells_bytes h, short_answer_of kind s)
 
 too_long_for_name : (s : Text) → most_symbol_bytes < length s → demangle most_symbol_bytes s ≡ refusal 1
-unfolding demangle front if◌then◌else◌
+unfolding demangle front if◌then◌otherwise◌
 too_long_for_name s h = rw (lt-ltb most_symbol_bytes (length s) h)
 
 pub too_long : (kind : Kind) (s : Text) → most_symbol_bytes < length s → answer_of kind s ≡ refusal 1

@@ -4,7 +4,7 @@ use Rattle.std.proofs.Common.{append_assoc, append-nil, sym, ap, ap₂, ◌∙�
 use Rattle.std.proofs.lemmas.Bool.{not-false, lt-leb}
 use Rattle.std.proofs.Math.Seq.{paste, paste-zero, drop-append-add, take-length}
 use Rattle.std.proofs.lemmas.List.Edits.{length-paste}
-use Rattle.grammar.specs.Text.{Text, if◌then◌else◌, run}
+use Rattle.grammar.specs.Text.{Text, if◌then◌otherwise◌, run}
 use Rattle.grammar.specs.Laws.Runs.{run_more, run_stops}
 use Rattle.listing.specs.Listing.{line, line_for, listing_line, in_front, lines, bytes_taken, listing, fitting, none_fits, number_for}
 use Rattle.listing.specs.Printed.{Printed}
@@ -26,45 +26,45 @@ module _ (s : Text) where
   feed_there at h = eqb-true _ _ (not-false _ (run_stops (λ x. not (eqb x 10)) s at h))
 
 abbrev unless : Bool → ℕ → Text → Text
-unless q x t = if not q then x ∷ t else []
+unless q x t = if not q then x ∷ t otherwise []
 
 first_line : (t : Text) → length (before_feed t) < length t → lines t ≡ before_feed t ∷ lines (drop (length (before_feed t) + 1) t)
-unfolding lines in_front run if◌then◌else◌
+unfolding lines in_front run if◌then◌otherwise◌
 first_line [] h = absurd (omega arith)
 first_line (x ∷ t) h = go (eqb x 10) h (first_line t) where
   go : (q : Bool) → length (unless q x (before_feed t)) < suc (length t) → (length (before_feed t) < length t → lines t ≡ before_feed t ∷ lines (drop (length (before_feed t) + 1) t))
-      → (if q then [] ∷ lines t else in_front x (lines t)) ≡ unless q x (before_feed t) ∷ lines (drop (length (unless q x (before_feed t)) + 1) (x ∷ t))
+      → (if q then [] ∷ lines t otherwise in_front x (lines t)) ≡ unless q x (before_feed t) ∷ lines (drop (length (unless q x (before_feed t)) + 1) (x ∷ t))
   go true h f = refl
   go false h f =
       ap (in_front x) (f (omega arith))
       ∙ ap (λ (j : ℕ). (x ∷ before_feed t) ∷ lines (drop j (x ∷ t))) {x = suc (length (before_feed t) + 1)} {y = suc (length (before_feed t)) + 1} (omega arith)
 
 no_line : (t : Text) → length t ≤ length (before_feed t) → lines t ≡ []
-unfolding lines in_front run if◌then◌else◌
+unfolding lines in_front run if◌then◌otherwise◌
 no_line [] h = refl
 no_line (x ∷ t) h = go (eqb x 10) h (no_line t) where
   go : (q : Bool) → suc (length t) ≤ length (unless q x (before_feed t)) → (length t ≤ length (before_feed t) → lines t ≡ [])
-      → (if q then [] ∷ lines t else in_front x (lines t)) ≡ []
+      → (if q then [] ∷ lines t otherwise in_front x (lines t)) ≡ []
   go true h f = absurd (omega arith)
   go false h f = ap (in_front x) (f (omega arith))
 
 pub feed_front : (t : Text) → take (length (before_feed t)) t ≡ before_feed t
-unfolding run if◌then◌else◌
+unfolding run if◌then◌otherwise◌
 feed_front [] = refl
 feed_front (x ∷ t) = go (not (eqb x 10)) (feed_front t) where
   go : (q : Bool) → take (length (before_feed t)) t ≡ before_feed t
-      → take (length (if◌then◌else◌ {A = Text} q (x ∷ before_feed t) [])) (x ∷ t) ≡ (if q then x ∷ before_feed t else [])
+      → take (length (if◌then◌otherwise◌ {A = Text} q (x ∷ before_feed t) [])) (x ∷ t) ≡ (if q then x ∷ before_feed t otherwise [])
   go true e = ap (λ (u : Text). x ∷ u) e
   go false e = refl
 
 -- ---------------------------------------------------------------- lines that fit
 
 pub fits_first : (kind : Kind) (room : ℕ) (s : Text) (ss : List Text) → length (listing_line kind s) ≤ room → fitting kind room (s ∷ ss) ≡ s ∷ fitting kind (room - length (listing_line kind s)) ss
-unfolding fitting if◌then◌else◌
+unfolding fitting if◌then◌otherwise◌
 fits_first kind room s ss h = rw (le-leb (length (listing_line kind s)) room h)
 
 pub fits_none : (kind : Kind) (room : ℕ) (s : Text) (ss : List Text) → room < length (listing_line kind s) → fitting kind room (s ∷ ss) ≡ []
-unfolding fitting if◌then◌else◌
+unfolding fitting if◌then◌otherwise◌
 fits_none kind room s ss h = rw (lt-leb (length (listing_line kind s)) room h)
 
 pub fits_no_line : (kind : Kind) (room : ℕ) → fitting kind room [] ≡ []
@@ -95,7 +95,7 @@ number_last (d ∷ ds) ls ss e f = sym (ap (number_for true ls) e)
 
 -- the next line does not fit
 number_full : (s : Text) (rest done ls ss : List Text) → ss ≡ done → (bytes_taken done ≡ 0 → ls ≡ s ∷ rest) → full_number (bytes_taken done) ≡ number_for true ls ss
-unfolding number_for none_fits bytes_taken if◌then◌else◌
+unfolding number_for none_fits bytes_taken if◌then◌otherwise◌
 number_full s rest [] ls ss e f = sym (ap₂ (number_for true) (f refl) e)
 number_full s rest (d ∷ ds) ls ss e f = rw (ne_eqb (length d + 1 + bytes_taken ds) 0 (λ z. omega arith)) (sym (ap (number_for true ls) e))
 

@@ -9,7 +9,7 @@ use Rattle.std.proofs.Math.ListN.{length, take, set, length-append}
 use Rattle.std.proofs.Math.Seq.{paste, paste-zero, length-paste, take-length, take_all, append_snoc}
 use Rattle.std.proofs.lemmas.List.Edits.{take-paste, drop-paste}
 use Rattle.std.proofs.lemmas.List.{set_split}
-use Rattle.grammar.specs.Text.{Text, if◌then◌else◌, decimal}
+use Rattle.grammar.specs.Text.{Text, if◌then◌otherwise◌, decimal}
 use Rattle.grammar.specs.Laws.Places.{set_front}
 use Rattle.grammar.specs.Numbers.{decimal_size, Decimal}
 use Rattle.grammar.specs.Laws.Decimals.{decimal_some, decimal_most, decimal_enough, decimal_from}
@@ -50,26 +50,26 @@ heads {number} {bytes} {second} {r} l l₁ l₂ z z₁ z₂ d e =
 
 module _ (t : Text) (at : ℕ) (l : Text) where
   pub not_printed : length l - at < length t → Printed t at l l 0
-  unfolding if_fits if◌then◌else◌
+  unfolding if_fits if◌then◌otherwise◌
   not_printed h = record { size = rw (lt-leb (length t) (length l - at) h); is = paste-zero l at t }
 
   pub printed : {l' : Text} {r : ℕ} → at + length t ≤ length l → r ≡ length t → l' ≡ paste l at t (length t) → Printed t at l l' r
-  unfolding if_fits if◌then◌else◌
+  unfolding if_fits if◌then◌otherwise◌
   printed h e f = record { size = e ∙ rw (le-leb (length t) (length l - at) (omega arith)); is = f ∙ ap (paste l at t) (sym e) }
 
   -- a text fits, or nothing was printed
   pub prints : {l' : Text} {r : ℕ} → Printed t at l l' r → at ≤ length l → (r ≡ 0 → ⊥) → (r ≡ length t) × (at + length t ≤ length l)
-  unfolding if_fits if◌then◌else◌
+  unfolding if_fits if◌then◌otherwise◌
   prints {l'} {r} p a z = go (leb (length t) (length l - at)) refl where
     go : (q : Bool) → leb (length t) (length l - at) ≡ q → (r ≡ length t) × (at + length t ≤ length l)
-    go true e = (p.size ∙ ap (λ (q : Bool). if q then length t else 0) e, omega (arith, leb-true (length t) (length l - at) e))
-    go false e = absurd (z (p.size ∙ ap (λ (q : Bool). if q then length t else 0) e))
+    go true e = (p.size ∙ ap (λ (q : Bool). if q then length t otherwise 0) e, omega (arith, leb-true (length t) (length l - at) e))
+    go false e = absurd (z (p.size ∙ ap (λ (q : Bool). if q then length t otherwise 0) e))
 
   pub prints_not : {l' : Text} {r : ℕ} → Printed t at l l' r → 1 ≤ length t → r ≡ 0 → length l - at < length t
-  unfolding if_fits if◌then◌else◌
+  unfolding if_fits if◌then◌otherwise◌
   prints_not {l'} {r} p a z = go (leb (length t) (length l - at)) refl where
     go : (q : Bool) → leb (length t) (length l - at) ≡ q → length l - at < length t
-    go true e = absurd (omega (arith, p.size ∙ ap (λ (q : Bool). if q then length t else 0) e))
+    go true e = absurd (omega (arith, p.size ∙ ap (λ (q : Bool). if q then length t otherwise 0) e))
     go false e = omega (arith, leb-false (length t) (length l - at) e)
 
 -- one text behind another

@@ -5,7 +5,7 @@ use Rattle.std.proofs.Math.Option.{none}
 use Rattle.std.proofs.Common.{ap}
 use Prim.Native.Char.{code}
 use Rattle.std.proofs.Math.ListN.{length}
-use Rattle.grammar.specs.Text.{Text, if◌then◌else◌}
+use Rattle.grammar.specs.Text.{Text, if◌then◌otherwise◌}
 use Rattle.catalogue.specs.Tree.{Ty, Args, letter, wrap, root, sub, app, lit, also, is_lit, is_bare}
 use Rattle.catalogue.specs.Spelling.{name_bytes, const_byte}
 use Rattle.catalogue.specs.Recogniser.{lead}
@@ -142,7 +142,7 @@ encoding_same f s =
     (params_same _ _ (types_same f) start w c d r σ.rest g.keeps g.keeps.left g.is))
 
 result_is : {p : Walk Bool} {q : Got (Unit {0})} → Agree [] start Any Never p q → symbol_of q ≡ result p
-unfolding if◌then◌else◌
+unfolding if◌then◌otherwise◌
 result_is (both h) = rw (h.keeps.counts, h.keeps.written) refl
 result_is (alone h) = absurd h
 result_is neither = refl

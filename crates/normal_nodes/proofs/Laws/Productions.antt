@@ -6,7 +6,7 @@ use Rattle.std.proofs.Math.Option.{Option, none, some}
 use Rattle.std.proofs.Math.Path.{refl}
 use Prim.Native.Char.{code}
 use Rattle.std.proofs.Math.ListN.{get_elem?}
-use Rattle.grammar.specs.Text.{Text, if◌then◌else◌, choose}
+use Rattle.grammar.specs.Text.{Text, if◌then◌otherwise◌, choose}
 use Rattle.catalogue.specs.Bytes.{and_right}
 use Rattle.catalogue.specs.Tree.{Ty, Args, letter, wrap, root, sub, app, lit, one, also, is_class, is_bare, single}
 use Rattle.catalogue.specs.Spelling.{name_bytes}
@@ -233,14 +233,14 @@ module _ (o : Text) (more : Ty → Text → Walker Ty) (more' : ℕ → Bool →
 module _ {ts : List Ty} {vs : List Ty} {k : ℕ} {r : Text} {σ : Notes} (o w : Text) (s : Keeps ts (o ++ w) vs k r σ) where
   nested_keeps : (d : ℕ) (u : Ty) → Den ts d u → Longer u false
       → Keeps ts (o ++ wrote u vs w) (enter_nested u vs) k r (entered_nested d (length o) σ)
-  unfolding entered_nested push_new if◌then◌else◌
+  unfolding entered_nested push_new if◌then◌otherwise◌
   nested_keeps d (letter l) h b = absurd b
   nested_keeps d (wrap c t) h b = absurd b
   nested_keeps d (root n) h b = absurd b
   nested_keeps d (sub t n) h b =
       rw (tag_sub s.forest d (sub t n) h, newest_is s.forest σ.table vs s.entries d (sub t n) h) (go (last_is (sub t n) vs))
     where
-      go : (p : Bool) → Keeps ts (o ++ wrote (sub t n) vs w) (if p then vs else push (sub t n) vs) k r (if p then settled d (length o) σ else entered d (length o) σ)
+      go : (p : Bool) → Keeps ts (o ++ wrote (sub t n) vs w) (if p then vs otherwise push (sub t n) vs) k r (if p then settled d (length o) σ otherwise entered d (length o) σ)
       go true = keeps_settled o w s d (sub t n) h
       go false = keeps_entered o w s d (sub t n) h
   nested_keeps d (app t xs) h b = rw (tag_sub s.forest d (app t xs) h) (keeps_entered o w s d (app t xs) h)

@@ -3,7 +3,7 @@ use Rattle.std.specs.Prelude.{Bool, true, false, not, ◌&&◌, ◌||◌, List, 
 use Rattle.std.proofs.Common.{inl, inr, sym, ap, arith, ne_eqb, leb-false}
 use Rattle.std.proofs.Math.Option.{Option, none, some, none-ne-some}
 use Rattle.std.proofs.Math.ListN.{get_elem?}
-use Rattle.grammar.specs.Text.{if◌then◌else◌, same}
+use Rattle.grammar.specs.Text.{if◌then◌otherwise◌, same}
 use Rattle.catalogue.specs.Bytes.{and_left, and_right, eqb_yes, eqb_eq, same_eq, same_yes}
 use Rattle.catalogue.specs.Laws.Bytes.{or-false}
 use Rattle.catalogue.specs.Tree.{Letter, Wrap, Kind, Ty, wP, wR, wO, wK, wV, is_lit, is_ref, is_qual, same_ty, letter_code, wrap_code, kind_code}
@@ -55,7 +55,7 @@ seek_law p u [] (v ∷ vs) e h = absurd (omega arith)
 seek_law p u (x ∷ xs) [] e h = absurd (omega arith)
 seek_law p u (x ∷ xs) (v ∷ vs) e h =
     rw (h 0 x v refl refl, seek_law p u xs vs (omega arith) (λ i. h (suc i)))
-    (ap (λ o. if same_ty u v then some 0 else o) (places_agree (seek u vs)))
+    (ap (λ o. if same_ty u v then some 0 otherwise o) (places_agree (seek u vs)))
 
 -- ---------------------------------------------------------------- equal nodes
 

@@ -3,7 +3,7 @@ use Rattle.std.specs.Prelude.{Bool, true, false, not, List, [], ◌∷◌, ◌�
 use Rattle.std.proofs.Math.Option.{Option, none, some, none-ne-some}
 use Rattle.std.proofs.Common.{arith, length-append}
 use Prim.Native.Char.{code}
-use Rattle.grammar.specs.Text.{Text, if◌then◌else◌}
+use Rattle.grammar.specs.Text.{Text, if◌then◌otherwise◌}
 use Rattle.catalogue.specs.Recogniser.{Rd, rd, stop, if_next, Lead, lead_letter, lead_wrap, lead_digit, lead_S, lead_N, lead_L, lead_none, lead}
 use Rattle.catalogue.specs.Spelling.{name_bytes}
 use Rattle.normal_walk.specs.Walk.{name}
@@ -22,11 +22,11 @@ TellsNode bad = Unit {0}
 -- ---------------------------------------------------------------- a node
 
 pub seek_below : {A : Type 0} (p : A → Bool) (xs : List A) (i : ℕ) → seek_by p xs ≡ some i → i < length xs
-unfolding seek_by if◌then◌else◌
+unfolding seek_by if◌then◌otherwise◌
 seek_below p [] i e = absurd (none-ne-some i e)
 seek_below p (x ∷ xs) i e = go (p x) (seek_by p xs) (λ j f. seek_below p xs j f) e
   where
-    go : (q : Bool) (o : Option ℕ) → ((j : ℕ) → o ≡ some j → j < length xs) → (if q then some 0 else later o) ≡ some i → i < suc (length xs)
+    go : (q : Bool) (o : Option ℕ) → ((j : ℕ) → o ≡ some j → j < length xs) → (if q then some 0 otherwise later o) ≡ some i → i < suc (length xs)
     go true o f g = let k : 0 ≡ i = cc in omega arith
     go false none f g = absurd (none-ne-some i g)
     go false (some j) f g = let k : suc j ≡ i = cc in omega (arith, f j refl)
@@ -58,11 +58,11 @@ with_tells (rd n r) f k = k n r
 with_tells stop f k = tt
 
 if_next_tells : (c : ℕ) (s : Text) (f : Text → Got ℕ) (g : Got ℕ) → ((r : Text) → TellsNode (f r)) → TellsNode g → TellsNode (if_next c s f g)
-unfolding if◌then◌else◌
+unfolding if◌then◌otherwise◌
 if_next_tells c [] f g k h = h
 if_next_tells c (d ∷ s) f g k h = go (eqb d c)
   where
-    go : (q : Bool) → TellsNode (if q then f s else g)
+    go : (q : Bool) → TellsNode (if q then f s otherwise g)
     go true = k s
     go false = h
 

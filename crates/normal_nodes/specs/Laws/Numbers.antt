@@ -10,7 +10,7 @@ use Prim.Native.Char.{code}
 use Rattle.std.proofs.Math.Dec.{eqb}
 use Rattle.std.proofs.Math.ListN.{length, get_elem?}
 use borrow.Author.Tests.{lt-ltb, le-ltb, le-leb}
-use Rattle.grammar.specs.Text.{Text, if◌then◌else◌, choose, digit, digit_value}
+use Rattle.grammar.specs.Text.{Text, if◌then◌otherwise◌, choose, digit, digit_value}
 use Rattle.catalogue.specs.Bytes.{eqb_yes, eqb_eq}
 use Rattle.catalogue.specs.Tree.{Letter, Wrap, Kind, Ty, Args, letter, wrap, root, sub, app, lit, one, also, is_lit, is_class, is_bare, is_ref, is_qual}
 use Rattle.catalogue.specs.Tree.{single, same_ty, same_ty_eq, same_ty_yes, letter_code, wrap_code, kind_code}
@@ -145,10 +145,10 @@ letter_of lead_L = none
 letter_of lead_none = none
 
 tree_at : List Ty → ℕ → Option Ty
-tree_at ts d = if ltb d least_number then letter_of (lead d) else get_elem? ts (d - least_number)
+tree_at ts d = if ltb d least_number then letter_of (lead d) otherwise get_elem? ts (d - least_number)
 
 den_tree : (ts : List Ty) (d : ℕ) (t : Ty) → Den ts d t → tree_at ts d ≡ some t
-unfolding tree_at if◌then◌else◌
+unfolding tree_at if◌then◌otherwise◌
 den_tree ts d t =
     every_tree (λ u. Den ts d u → tree_at ts d ≡ some u)
     (λ l h. rw (h, lt-ltb (letter_code l) least_number (letter_below l), lead_letter_is l) refl) (λ u q h. entry u (rw (q ts d) at h)) t
@@ -189,11 +189,11 @@ front_final t (also x xs) b = ap (app t) (snoc_init x xs)
 
 lit_of : ℕ → Text → Option Ty
 lit_of n w =
-    if ltb n least_number then choose (with_code kind_code n all_kinds) (λ k. some (lit k false w)) none else
+    if ltb n least_number then choose (with_code kind_code n all_kinds) (λ k. some (lit k false w)) none otherwise
     choose (with_code kind_code (n - least_number) all_kinds) (λ k. some (lit k true w)) none
 
 lit_is : (k : Kind) (g : Bool) (v : Text) → lit_of (signed_kind (kind_code k) g) v ≡ some (lit k g v)
-unfolding lit_of if◌then◌else◌ choose
+unfolding lit_of if◌then◌otherwise◌ choose
 lit_is k true v =
     let e : kind_code k + least_number - least_number ≡ kind_code k = omega arith in
     rw (le-ltb (kind_code k + least_number) least_number (omega arith), e, kind_at k) refl
@@ -211,11 +211,11 @@ by_lead lead_none o n w = none
 
 node_tree : List Ty → Node → Option Ty
 node_tree ts x =
-    if ltb x.tag least_number then by_lead (lead x.tag) (tree_at ts x.of) x.of x.word else
+    if ltb x.tag least_number then by_lead (lead x.tag) (tree_at ts x.of) x.of x.word otherwise
     choose (tree_at ts x.of) (λ t. choose (tree_at ts (x.tag - least_number)) (λ y. some (behind t y)) none) none
 
 node_is : (ts : List Ty) (x : Node) (u : Ty) → NodeIs ts x u → node_tree ts x ≡ some u
-unfolding node_tree if◌then◌else◌ choose lead digit digit_value
+unfolding node_tree if◌then◌otherwise◌ choose lead digit digit_value
 node_is ts x (letter l) h = absurd h
 node_is ts x (wrap c t) h =
     rw (h.0, lt-ltb (wrap_code c) least_number (wrap_below c), lead_wrap_is c, den_tree ts x.of t h.1.0) refl
@@ -376,7 +376,7 @@ module _ {ts : List Ty} {ns : List Node} (f : Forest ts ns) (d : ℕ) (t : Ty) (
       → ((n : Text) → p (code "0") ≡ q (root n)) → ((u : Ty) (n : Text) → p (code "N") ≡ q (sub u n))
       → ((u : Ty) (xs : Args) (e : ℕ) → p (least_number + e) ≡ q (app u xs)) → ((k : Kind) (g : Bool) (v : Text) → p (code "L") ≡ q (lit k g v))
       → p (tag_of ns d) ≡ q t
-  unfolding tag_of if◌then◌else◌ choose
+  unfolding tag_of if◌then◌otherwise◌ choose
   by_tag p q for_letter for_wrap for_root for_sub for_app for_lit =
       every_tree (λ u. Den ts d u → p (tag_of ns d) ≡ q u)
       (λ l g. rw (g, lt-ltb (letter_code l) least_number (letter_below l)) (for_letter l)) (λ u r g. entry u (rw (r ts d) at g)) t h

@@ -7,7 +7,7 @@ use Rattle.std.proofs.Math.Option.{Option, none, some}
 use Rattle.std.proofs.Math.Path.{ap}
 use Rattle.std.proofs.Common.{◌∙◌}
 use Rattle.std.proofs.Math.Seq.{take-append_seam}
-use Rattle.grammar.specs.Text.{Text, if◌then◌else◌, choose}
+use Rattle.grammar.specs.Text.{Text, if◌then◌otherwise◌, choose}
 use Rattle.catalogue.specs.Tree.{Ty}
 use Rattle.catalogue.specs.Spelling.{ref_bytes}
 use Rattle.catalogue.specs.Class.{push}
@@ -135,11 +135,11 @@ module _ {A B : Type 0} {ts : List Ty} {o : Text} {D : List Ty → B → A → T
 
   pub agree_if : (c : ℕ) (s s' : Text) (f : Text → Walk A) (g : Text → Got B) (p : Walk A) (q : Got B) → s' ≡ s
       → ((r : Text) → Agree ts o D M (f r) (g r)) → Agree ts o D M p q → Agree ts o D M (if_next c s f p) (if_next c s' g q)
-  unfolding if◌then◌else◌
+  unfolding if◌then◌otherwise◌
   agree_if c [] s' f g p q e h k = rw e k
   agree_if c (d ∷ s) s' f g p q e h k = rw e (go (eqb d c))
     where
-      go : (b : Bool) → Agree ts o D M (if b then f s else p) (if b then g s else q)
+      go : (b : Bool) → Agree ts o D M (if b then f s otherwise p) (if b then g s otherwise q)
       go true = h s
       go false = k
 

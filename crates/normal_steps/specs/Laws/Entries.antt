@@ -6,7 +6,7 @@ use Rattle.std.proofs.Math.Path.{refl, ap}
 use Rattle.std.proofs.Common.{◌∙◌, arith, ne_eqb, length-append}
 use Prim.Native.Nat.{ℕ, zero, suc, ◌+◌, ◌-◌, ◌≤◌, ◌<◌}
 use Rattle.std.proofs.Math.ListN.{get_elem?}
-use Rattle.grammar.specs.Text.{if◌then◌else◌}
+use Rattle.grammar.specs.Text.{if◌then◌otherwise◌}
 use Rattle.normal_nodes.specs.Nodes.{least_number, later, seek_by, with_new, table_place, add, note_add_all, firsts, note_last_is}
 use Rattle.normal_steps.specs.Carries.{AllNumbered}
 
@@ -81,7 +81,7 @@ module _ (n : ℕ) where
 
   -- the next node's number is none of them
   absent : (ds : List ℕ) → AllNumbered n ds → seek_by (eqb (least_number + n)) ds ≡ none
-  unfolding AllNumbered seek_by if◌then◌else◌
+  unfolding AllNumbered seek_by if◌then◌otherwise◌
   absent [] h = refl
   absent (d ∷ ds) h = rw (ne_eqb (least_number + n) d (λ q. omega (arith, h.0.1))) (ap later (absent ds h.1))
 

@@ -7,7 +7,7 @@ use Rattle.std.proofs.Math.Option.{Option, none, some}
 use Rattle.std.proofs.Math.Path.{refl, ap}
 use Rattle.std.proofs.Common.{sym, subst, arith, eqb-true, ne_eqb}
 use Rattle.std.proofs.Math.Dec.{eqb}
-use Rattle.grammar.specs.Text.{if◌then◌else◌, choose, digit}
+use Rattle.grammar.specs.Text.{if◌then◌otherwise◌, choose, digit}
 use Rattle.catalogue.specs.Tree.{Letter as Letters, Wrap as Wraps, letter_code, wrap_code}
 use Rattle.catalogue.specs.Recogniser.{with_code, all_letters, all_wraps, Lead as First, lead_letter, lead_wrap, lead_digit, lead_S, lead_N, lead_L, lead_none, lead}
 use Rattle.normal_steps.specs.declared.lead.Lead.{Lead}
@@ -23,7 +23,7 @@ module _ {A : Type 0} (f : A → ℕ) (c : ℕ) where
   none_of B (x ∷ xs) = none_of (B × (c ≡ f x → ⊥)) xs
 
   missed : (B : Type 0) (xs : List A) → none_of B xs → B × (with_code f c xs ≡ none)
-  unfolding with_code if◌then◌else◌
+  unfolding with_code if◌then◌otherwise◌
   missed B [] h = (h, refl)
   missed B (x ∷ xs) h = let (g, e) = missed (B × (c ≡ f x → ⊥)) xs h in (g.0, rw (ne_eqb c (f x) g.1) e)
 
@@ -31,11 +31,11 @@ module _ {A : Type 0} (f : A → ℕ) (c : ℕ) where
   uncoded xs h = (missed (Unit {0}) xs h).1
 
   pub coded : (xs : List A) (y : A) → with_code f c xs ≡ some y → f y ≡ c
-  unfolding with_code if◌then◌else◌
+  unfolding with_code if◌then◌otherwise◌
   coded [] y e = let z : true ≡ false = ap there (sym e) in absurd (false≢true (sym z))
   coded (x ∷ xs) y e = go (eqb c (f x)) refl (coded xs y) e
     where
-      go : (q : Bool) → eqb c (f x) ≡ q → (with_code f c xs ≡ some y → f y ≡ c) → (if q then some x else with_code f c xs) ≡ some y → f y ≡ c
+      go : (q : Bool) → eqb c (f x) ≡ q → (with_code f c xs ≡ some y → f y ≡ c) → (if q then some x otherwise with_code f c xs) ≡ some y → f y ≡ c
       go true g h e' = let z : x ≡ y = cc in rw (← z) (sym (eqb-true c (f x) g))
       go false g h e' = h e'
 
@@ -64,14 +64,14 @@ no_letter (some l) x h = absurd (false≢true (sym h))
 -- ---------------------------------------------------------------- what a class says of the byte
 
 letter_byte : (c : ℕ) (l : Letters) → lead c ≡ lead_letter l → letter_code l ≡ c
-unfolding lead if◌then◌else◌ choose
+unfolding lead if◌then◌otherwise◌ choose
 letter_byte c l = go (digit 10 c) (eqb c 83) (eqb c 78) (eqb c 76) (with_code wrap_code c all_wraps) (with_code letter_code c all_letters) refl
   where
     go : (p q r t : Bool) (v : Option Wraps) (o : Option Letters) → with_code letter_code c all_letters ≡ o
-        → (if p then lead_digit else
-        if q then lead_S else
-        if r then lead_N else
-        if t then lead_L else choose v lead_wrap (choose o lead_letter lead_none)) ≡ lead_letter l
+        → (if p then lead_digit otherwise
+        if q then lead_S otherwise
+        if r then lead_N otherwise
+        if t then lead_L otherwise choose v lead_wrap (choose o lead_letter lead_none)) ≡ lead_letter l
         → letter_code l ≡ c
     go true q r t v o e h = let z : ◌≡◌ {A = ℕ} 0 1 = cc in absurd (omega arith)
     go false true r t v o e h = let z : ◌≡◌ {A = ℕ} 0 1 = cc in absurd (omega arith)
@@ -82,14 +82,14 @@ letter_byte c l = go (digit 10 c) (eqb c 83) (eqb c 78) (eqb c 76) (with_code wr
     go false false false false none none e h = let z : ◌≡◌ {A = ℕ} 0 1 = cc in absurd (omega arith)
 
 wrap_byte : (c : ℕ) (w : Wraps) → lead c ≡ lead_wrap w → wrap_code w ≡ c
-unfolding lead if◌then◌else◌ choose
+unfolding lead if◌then◌otherwise◌ choose
 wrap_byte c w = go (digit 10 c) (eqb c 83) (eqb c 78) (eqb c 76) (with_code wrap_code c all_wraps) (with_code letter_code c all_letters) refl
   where
     go : (p q r t : Bool) (v : Option Wraps) (o : Option Letters) → with_code wrap_code c all_wraps ≡ v
-        → (if p then lead_digit else
-        if q then lead_S else
-        if r then lead_N else
-        if t then lead_L else choose v lead_wrap (choose o lead_letter lead_none)) ≡ lead_wrap w
+        → (if p then lead_digit otherwise
+        if q then lead_S otherwise
+        if r then lead_N otherwise
+        if t then lead_L otherwise choose v lead_wrap (choose o lead_letter lead_none)) ≡ lead_wrap w
         → wrap_code w ≡ c
     go true q r t v o e h = let z : ◌≡◌ {A = ℕ} 0 1 = cc in absurd (omega arith)
     go false true r t v o e h = let z : ◌≡◌ {A = ℕ} 0 1 = cc in absurd (omega arith)

@@ -7,7 +7,7 @@ use Rattle.std.proofs.Math.Path.{refl, ap}
 use native.Mathlib.Omega.{arith}
 use Rattle.std.proofs.Math.ListN.{get_elem?, length-drop}
 use Rattle.std.proofs.Math.Seq.{drop-drop}
-use Rattle.grammar.specs.Text.{Text, if◌then◌else◌, choose, starts, run, digit, number}
+use Rattle.grammar.specs.Text.{Text, if◌then◌otherwise◌, choose, starts, run, digit, number}
 use Rattle.grammar.specs.Grammar.{index}
 use Rattle.catalogue.specs.Bytes.{all}
 use Rattle.catalogue.specs.Tree.{Kind, Ty, lit, kind_code}
@@ -41,7 +41,7 @@ named (rd n r) = keep (name_ok n) (rd n r)
 named stop = stop
 
 named_none : (n : ℕ) → named (cut n []) ≡ stop
-unfolding cut if◌then◌else◌ name_ok
+unfolding cut if◌then◌otherwise◌ name_ok
 named_none zero = refl
 named_none (suc n) = rw (lt-leb (suc n) 0 (omega arith)) refl
 
@@ -71,11 +71,11 @@ module _ (s : Text) (at from : ℕ) (e : from ≡ at + length (run (digit 10) (d
     name_end l = name_is ∙ ap (λ (t : Text). named (cut size t)) (rest_none s from l) ∙ named_none size
 
     pub name_long : from ≤ length s → length s < from + size → name (drop at s) ≡ stop
-    unfolding cut if◌then◌else◌
+    unfolding cut if◌then◌otherwise◌
     name_long w l = name_is ∙ rw (lt-leb size (length (drop from s)) (omega (arith, length-drop from s))) refl
 
     pub name_by : (to : ℕ) → to ≡ from + size → to ≤ length s → name (drop at s) ≡ keep (name_ok (part s from to)) (rd (part s from to) (drop to s))
-    unfolding cut if◌then◌else◌
+    unfolding cut if◌then◌otherwise◌
     name_by to t l =
         let n : size ≡ to - from = omega arith in
         name_is

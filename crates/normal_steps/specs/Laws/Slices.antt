@@ -6,7 +6,7 @@ use Rattle.std.proofs.Math.Path.{refl, sym}
 use Rattle.std.proofs.Common.{ap, subst, ◌∙◌, arith, lt-ltb, le-ltb, length-append}
 use Rattle.std.proofs.Math.ListN.{get_elem?}
 use Rattle.std.proofs.Math.Seq.{paste, take-length}
-use Rattle.grammar.specs.Text.{Text, if◌then◌else◌, choose}
+use Rattle.grammar.specs.Text.{Text, if◌then◌otherwise◌, choose}
 use Rattle.store.specs.Table.{Front}
 use Rattle.normal_nodes.specs.Nodes.{Node, Notes, notes, put, noted, pushed, firsts, number_of, tag_of, note_last_is}
 use Rattle.normal_nodes.specs.Laws.Numbered.{NumberIn, number_in}
@@ -41,11 +41,11 @@ module _ {s : Text} {ws : Work} {p : Writer} {σ : Notes} (h : Carries s ws p σ
   -- ---------------------------------------------------------------- what is read
 
   pub tag_low : (d : ℕ) → d < 256 → 0 ≡ tag_of σ.nodes d
-  unfolding tag_of if◌then◌else◌
+  unfolding tag_of if◌then◌otherwise◌
   tag_low d l = rw (lt-ltb d 256 l) refl
 
   tag_by : (d : ℕ) → 256 ≤ d → tag_of σ.nodes d ≡ choose (get_elem? (nodes_of s ws.ends ws.words p.nodes) (d - 256)) (λ x. x.tag) 0
-  unfolding tag_of if◌then◌else◌
+  unfolding tag_of if◌then◌otherwise◌
   tag_by d l = rw (le-ltb d 256 l) (ap (λ (ns : List Node). choose (get_elem? ns (d - 256)) (λ x. x.tag) 0) h.nodes_are)
 
   pub tag_none : (d : ℕ) → 256 ≤ d → p.nodes ≤ d - 256 → 0 ≡ tag_of σ.nodes d

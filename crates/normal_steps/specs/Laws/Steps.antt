@@ -4,7 +4,7 @@ use Rattle.std.proofs.Math.Bool.{true, false}
 use Rattle.std.proofs.Math.Path.{refl}
 use Rattle.std.proofs.Common.{sym, ap, ◌∙◌, arith, eq-eqb, ne_eqb}
 use Prim.Native.Char.{code}
-use Rattle.grammar.specs.Text.{Text, if◌then◌else◌}
+use Rattle.grammar.specs.Text.{Text, if◌then◌otherwise◌}
 use Rattle.catalogue.specs.Recogniser.{Rd, rd, stop}
 use Rattle.normal_nodes.specs.Nodes.{Node, node, Notes, Noter, noted, number_of, enter, Got, got, bad, next, with, when, counted, tag_of, note_last_is}
 use Rattle.normal_nodes.specs.Nodes.{settled, entered, entered_nested}
@@ -49,17 +49,17 @@ counted_is t x σ e =
 
 module _ (d from : ℕ) (σ : Notes) where
   pub nested_newest : tag_of σ.nodes d ≡ code "N" → note_last_is d σ.table ≡ true → entered_nested d from σ ≡ settled d from σ
-  unfolding entered_nested if◌then◌else◌
+  unfolding entered_nested if◌then◌otherwise◌
   nested_newest e f = rw (eq-eqb _ _ e, f) refl
 
   pub nested_old : note_last_is d σ.table ≡ false → entered_nested d from σ ≡ entered d from σ
-  unfolding entered_nested if◌then◌else◌
+  unfolding entered_nested if◌then◌otherwise◌
   nested_old f = go (eqb (tag_of σ.nodes d) (code "N"))
     where
-      go : (q : Bool) → (if q && note_last_is d σ.table then settled d from σ else entered d from σ) ≡ entered d from σ
+      go : (q : Bool) → (if q && note_last_is d σ.table then settled d from σ otherwise entered d from σ) ≡ entered d from σ
       go true = rw f refl
       go false = refl
 
   pub nested_other : (tag_of σ.nodes d ≡ code "N" → ⊥) → entered_nested d from σ ≡ entered d from σ
-  unfolding entered_nested if◌then◌else◌
+  unfolding entered_nested if◌then◌otherwise◌
   nested_other f = rw (ne_eqb _ _ f) refl

@@ -5,7 +5,7 @@ use mathlib.Core.List.{List, [], ◌∷◌}
 use Rattle.std.proofs.Common.{inl, inr, ap, ◌∙◌, arith, ltb-true, ltb-false, leb-true, drop-drop}
 use Rattle.std.proofs.Math.Path.{refl, sym}
 use Prim.Native.String.{String}
-use Rattle.grammar.specs.Text.{Text, if◌then◌else◌, b, same, starts, digit}
+use Rattle.grammar.specs.Text.{Text, if◌then◌otherwise◌, b, same, starts, digit}
 use Rattle.grammar.specs.Laws.Text.{starts_nothing, same_not}
 use Rattle.grammar.specs.Laws.Places.{starts_byte}
 use Rattle.grammar.specs.Laws.NameSteps.{starts_one}
@@ -17,7 +17,7 @@ use Rattle.catalogue.proofs.Laws.ReadsBack.{next_no}
 -- ---------------------------------------------------------------- a byte at a place
 
 pub byte_next : {A : Type 0} {c : ℕ} {t r : Text} (f : Text → A) (x : A) → t ≡ c ∷ r → if_next c t f x ≡ f r
-unfolding if◌then◌else◌
+unfolding if◌then◌otherwise◌
 byte_next {A} {c} {t} {r} f x e = rw (e, eqb_yes c) refl
 
 module _ (c : ℕ) where

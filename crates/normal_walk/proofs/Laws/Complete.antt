@@ -5,7 +5,7 @@ use Rattle.std.proofs.Math.Option.{some}
 use Rattle.std.proofs.Math.Path.{refl, ap}
 use Prim.Native.Char.{code}
 use Rattle.std.proofs.Math.ListN.{get_elem?}
-use Rattle.grammar.specs.Text.{Text, if◌then◌else◌, digit}
+use Rattle.grammar.specs.Text.{Text, if◌then◌otherwise◌, digit}
 use Rattle.catalogue.specs.Bytes.{first, and_left, and_right}
 use Rattle.catalogue.specs.Laws.Bytes.{or_right, not-true}
 use Rattle.catalogue.specs.Tree.{Letter, Wrap, Kind, Ty, Args, letter, wrap, root, sub, app, lit, one, also, is_class, is_bare, single, letter_code, wrap_code, kind_code}
@@ -90,7 +90,7 @@ module _ {vs : List Ty} (a : Kept vs) where
 
   templ_walks : (n : Text) (ss : SpArgs) (xs : Args) (ws : List Ty) → name_ok n ≡ true → TableArgs (push (root n) vs) xs ws
       → WalksArgs (push (root n) vs) ss xs ws → Walks vs (templ n ss) (app (root n) xs) (push (app (root n) xs) ws)
-  unfolding spell count if◌then◌else◌
+  unfolding spell count if◌then◌otherwise◌
   templ_walks n ss xs ws p h g r k z =
       ap (walked vs k) (front (name_bytes n) (spell_args ss) r)
       ∙ walked_name vs k n (73 ∷ (spell_args ss ++ (69 ∷ r))) p
@@ -100,7 +100,7 @@ module _ {vs : List Ty} (a : Kept vs) where
 
   retempl_walks : (i : ℕ) (ss : SpArgs) (t : Ty) (xs : Args) (ws : List Ty) → get_elem? vs i ≡ some t → TablePre vs t vs → single t && is_bare t ≡ true
       → TableArgs vs xs ws → WalksArgs vs ss xs ws → Walks vs (retempl i ss) (app t xs) (push (app t xs) ws)
-  unfolding spell count if◌then◌else◌
+  unfolding spell count if◌then◌otherwise◌
   retempl_walks i ss t xs ws e q p h g r k z =
       let s = and_left (single t) (is_bare t) p in
       let b = and_right (single t) (is_bare t) p in
@@ -114,7 +114,7 @@ module _ {vs : List Ty} (a : Kept vs) where
 
   nest_sub_walks : (q : Pre) (n : Text) (t : Ty) (ws : List Ty) → TablePre vs t ws → name_ok n ≡ true → WalksPre vs q t ws
       → Walks vs (nest_sub q n) (sub t n) (push_new (sub t n) ws)
-  unfolding spell count if◌then◌else◌
+  unfolding spell count if◌then◌otherwise◌
   nest_sub_walks q n t ws h p g r k z =
       ap (λ s. walked vs k (78 ∷ s)) (inner (spell_pre q) (name_bytes n) r)
       ∙ walked_N vs k 78 (spell_pre q ++ (name_bytes n ++ (69 ∷ r))) lead_N_is
@@ -125,7 +125,7 @@ module _ {vs : List Ty} (a : Kept vs) where
 
   nest_app_walks : (q : Pre) (ss : SpArgs) (t : Ty) (xs : Args) (us ws : List Ty) → TablePre vs t us → TableArgs us xs ws
       → not (single t) && is_bare t ≡ true → WalksPre vs q t us → WalksArgs us ss xs ws → Walks vs (nest_app q ss) (app t xs) (push (app t xs) ws)
-  unfolding spell count if◌then◌else◌
+  unfolding spell count if◌then◌otherwise◌
   nest_app_walks q ss t xs us ws h m p g f r k z =
       let s = and_left (not (single t)) (is_bare t) p in
       let b = and_right (not (single t)) (is_bare t) p in
@@ -171,7 +171,7 @@ module _ {vs : List Ty} (a : Kept vs) where
 -- ---------------------------------------------------------------- arguments
 
 one_walks : (vs : List Ty) (s : Sp) (t : Ty) (ws : List Ty) → Walks vs s t ws → WalksArgs vs (s_one s) (one t) ws
-unfolding spell normal count if◌then◌else◌
+unfolding spell normal count if◌then◌otherwise◌
 one_walks vs s t ws h r k = args_is vs k (spell s ++ (69 ∷ r)) ∙ rw (h (69 ∷ r) k refl) (got_is _ _ _ _ _ _ r refl (omega arith))
 
 also_walks : (vs : List Ty) (s : Sp) (ss : SpArgs) (t : Ty) (xs : Args) (us ws : List Ty) → Table vs t us → Walks vs s t us → WalksArgs us ss xs ws

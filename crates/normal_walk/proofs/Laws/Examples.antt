@@ -2,7 +2,7 @@
 use Rattle.std.specs.Prelude.{Bool, true, false, ◌&&◌, List, [], ◌∷◌, ◌≡◌, refl}
 use Rattle.std.proofs.Math.Option.{Option, none, some}
 use Prim.Native.String.{String}
-use Rattle.grammar.specs.Text.{Text, b, if◌then◌else◌, choose, same, run, past, digit, digit_value, number, decimal}
+use Rattle.grammar.specs.Text.{Text, b, if◌then◌otherwise◌, choose, same, run, past, digit, digit_value, number, decimal}
 use Rattle.grammar.specs.Tables.{◌⇒◌}
 use Rattle.grammar.specs.Grammar.{index}
 use Rattle.catalogue.specs.Bytes.{text_discrete}
@@ -33,21 +33,21 @@ refuses (w ∷ ws) = refused (walk_sym (b w)) && refuses ws
 
 pub normals_written : writes normals ≡ true
 unfolding
-    writes normals b if◌then◌else◌ choose same run past digit digit_value number decimal index text_discrete ty_discrete same_ty digit_of base36 ref_digits
+    writes normals b if◌then◌otherwise◌ choose same run past digit digit_value number decimal index text_discrete ty_discrete same_ty digit_of base36 ref_digits
     word_byte reserved listed name_ok numeral lit_ok stands last_is push_new seek cut read_name with_code lead
     name reference literal add add_all wrote walk_type walk_types walk_enc walk_sym
 normals_written = refl
 
 pub inside_written : writes inside ≡ true
 unfolding
-    writes inside b if◌then◌else◌ choose same run past digit digit_value number decimal index text_discrete ty_discrete same_ty digit_of base36 ref_digits
+    writes inside b if◌then◌otherwise◌ choose same run past digit digit_value number decimal index text_discrete ty_discrete same_ty digit_of base36 ref_digits
     word_byte reserved listed name_ok numeral lit_ok stands last_is push_new seek cut read_name with_code lead
     name reference literal add add_all wrote walk_type walk_types walk_enc walk_sym
 inside_written = refl
 
 pub outside_refused : refuses outside ≡ true
 unfolding
-    refuses outside b if◌then◌else◌ choose same run past digit digit_value number decimal index text_discrete ty_discrete same_ty digit_of base36 ref_digits
+    refuses outside b if◌then◌otherwise◌ choose same run past digit digit_value number decimal index text_discrete ty_discrete same_ty digit_of base36 ref_digits
     word_byte reserved listed name_ok numeral lit_ok stands last_is push_new seek cut read_name with_code lead
     name reference literal add add_all wrote walk_type walk_types walk_enc walk_sym
 outside_refused = refl

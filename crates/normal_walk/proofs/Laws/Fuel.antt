@@ -5,7 +5,7 @@ use Rattle.std.proofs.Math.Path.{refl, ap}
 use Rattle.std.proofs.Common.{◌∙◌, arith}
 use Prim.Native.Char.{code}
 use Rattle.std.proofs.Math.ListN.{get_elem?}
-use Rattle.grammar.specs.Text.{Text, if◌then◌else◌, choose}
+use Rattle.grammar.specs.Text.{Text, if◌then◌otherwise◌, choose}
 use Rattle.catalogue.specs.Bytes.{eqb_eq}
 use Rattle.catalogue.specs.Tree.{Ty, Args, root, sub, app, also, is_lit, is_class, is_bare, single}
 use Rattle.catalogue.specs.Spelling.{name_bytes}
@@ -32,11 +32,11 @@ with_agree Q stop f g h e = refl
 
 pub if_agree : {A : Type 0} (c : ℕ) (s : Text) (f g : Text → A) (x y : A) → ((r : Text) → s ≡ c ∷ r → f r ≡ g r) → x ≡ y
     → if_next c s f x ≡ if_next c s g y
-unfolding if◌then◌else◌
+unfolding if◌then◌otherwise◌
 if_agree c [] f g x y h e = e
 if_agree c (d ∷ s) f g x y h e = go (eqb d c) refl
   where
-    go : (p : Bool) → eqb d c ≡ p → (if p then f s else x) ≡ (if p then g s else y)
+    go : (p : Bool) → eqb d c ≡ p → (if p then f s otherwise x) ≡ (if p then g s otherwise y)
     go true i = h s (ap (λ z. z ∷ s) (eqb_eq d c i))
     go false i = e
 

@@ -3,7 +3,7 @@ use Rattle.std.specs.Prelude.{Bool, true, false, not, List, [], ◌∷◌, ◌++
 use Rattle.std.proofs.Common.{append_assoc, ◌∙◌, ap, arith, length-take, take-append-drop, leb-true}
 use Rattle.std.proofs.Math.Option.{Option, none, some}
 use Prim.Native.Char.{code}
-use Rattle.grammar.specs.Text.{Text, if◌then◌else◌, choose, run, past, digit_value, digit, number}
+use Rattle.grammar.specs.Text.{Text, if◌then◌otherwise◌, choose, run, past, digit_value, digit, number}
 use Rattle.grammar.specs.Grammar.{index}
 use Rattle.catalogue.specs.Bytes.{first, eqb_eq}
 use Rattle.catalogue.specs.Laws.Bytes.{not-true, run_of, past_of}
@@ -30,19 +30,19 @@ name_spelled n r h =
     rw (e, d) (rw h refl)
 
 cut_sound : (k : ℕ) (s : Text) → OfRd (cut k s) (λ n r. (n ++ r ≡ s) × (length n ≡ k))
-unfolding cut if◌then◌else◌
+unfolding cut if◌then◌otherwise◌
 cut_sound k s = go (leb k (length s)) refl
   where
-    go : (p : Bool) → leb k (length s) ≡ p → OfRd (if p then rd (take k s) (drop k s) else stop) (λ n r. (n ++ r ≡ s) × (length n ≡ k))
+    go : (p : Bool) → leb k (length s) ≡ p → OfRd (if p then rd (take k s) (drop k s) otherwise stop) (λ n r. (n ++ r ≡ s) × (length n ≡ k))
     go true e = let l = leb-true k (length s) e in rd_rd _ (take k s) (drop k s) (take-append-drop k s, simp length-take (omega arith))
     go false e = rd_stop _
 
 first_run : (p q : ℕ → Bool) (s : Text) → first p s ≡ false → first p (run q s) ≡ false
-unfolding run if◌then◌else◌
+unfolding run if◌then◌otherwise◌
 first_run p q [] h = refl
 first_run p q (x ∷ s) h = go (q x)
   where
-    go : (b : Bool) → first p (if b then x ∷ run q s else []) ≡ false
+    go : (b : Bool) → first p (if b then x ∷ run q s otherwise []) ≡ false
     go true = h
     go false = refl
 
@@ -66,7 +66,7 @@ name_sound s =
 -- ---------------------------------------------------------------- references
 
 pub ref_spelled : (i : ℕ) (r : Text) → reference (ref_digits i ++ (code "_" ∷ r)) ≡ rd i r
-unfolding reference digit digit_value if◌then◌else◌
+unfolding reference digit digit_value if◌then◌otherwise◌
 ref_spelled i r =
     rw (past_of (digit 36) (ref_digits i) (code "_" ∷ r) (ref_all i) refl, run_of (digit 36) (ref_digits i) (code "_" ∷ r) (ref_all i) refl, ref_canonical i, ref_index i) refl
 
@@ -81,14 +81,14 @@ ref_sound s =
 -- ---------------------------------------------------------------- literals
 
 value_spelled : (k : Kind) (g : Bool) (v r : Text) → lit_ok k g v ≡ true → value (some k) g (v ++ (69 ∷ r)) ≡ rd (lit k g v) r
-unfolding digit digit_value if◌then◌else◌
+unfolding digit digit_value if◌then◌otherwise◌
 value_spelled k g v r h =
     let d = lit_digits k g v h in
     rw (past_of (digit 10) v (69 ∷ r) d refl, run_of (digit 10) v (69 ∷ r) d refl, h) refl
 
 pub lit_spelled : (k : Kind) (g : Bool) (v r : Text) → lit_ok k g v ≡ true
     → literal (kind_code k ∷ (minus g ++ (v ++ (code "E" ∷ r)))) ≡ rd (lit k g v) r
-unfolding literal if◌then◌else◌
+unfolding literal if◌then◌otherwise◌
 lit_spelled k true v r h = rw (kind_at k) (value_spelled k true v r h)
 lit_spelled k false v r h =
     rw (kind_at k)
@@ -105,11 +105,11 @@ pub record Literal (s : Text) (t : Ty) (r : Text) : Type 0 where
   pub spells : kind_code kind ∷ (minus neg ++ (digits ++ (code "E" ∷ r))) ≡ s
 
 code_sound : {A : Type 0} (f : A → ℕ) (c : ℕ) (xs : List A) (x : A) → with_code f c xs ≡ some x → c ≡ f x
-unfolding with_code if◌then◌else◌
+unfolding with_code if◌then◌otherwise◌
 code_sound f c [] x h = cc
 code_sound f c (y ∷ ys) x h = go (λ k. code_sound f c ys x k) (eqb c (f y)) refl h
   where
-    go : (with_code f c ys ≡ some x → c ≡ f x) → (p : Bool) → eqb c (f y) ≡ p → (if p then some y else with_code f c ys) ≡ some x → c ≡ f x
+    go : (with_code f c ys ≡ some x → c ≡ f x) → (p : Bool) → eqb c (f y) ≡ p → (if p then some y otherwise with_code f c ys) ≡ some x → c ≡ f x
     go ih true e q = let z : y ≡ x = cc in eqb_eq c (f y) e ∙ ap f z
     go ih false e q = ih q
 
@@ -151,7 +151,7 @@ Begins lead_L c = c ≡ code "L"
 Begins lead_none c = Unit {0}
 
 pub begins : (c : ℕ) → Begins (lead c) c
-unfolding lead if◌then◌else◌ choose
+unfolding lead if◌then◌otherwise◌ choose
 begins c = by_digit (digit 10 c) refl
   where
     by_letter : (o : Option Letter) → with_code letter_code c all_letters ≡ o → Begins (choose o lead_letter lead_none) c
@@ -166,20 +166,20 @@ begins c = by_digit (digit 10 c) refl
     rest : Lead
     rest = choose (with_code wrap_code c all_wraps) lead_wrap (choose (with_code letter_code c all_letters) lead_letter lead_none)
 
-    by_L : (p : Bool) → eqb c (code "L") ≡ p → Begins (if p then lead_L else rest) c
+    by_L : (p : Bool) → eqb c (code "L") ≡ p → Begins (if p then lead_L otherwise rest) c
     by_L true e = eqb_eq c 76 e
     by_L false e = by_wrap (with_code wrap_code c all_wraps) refl
 
-    by_N : (p : Bool) → eqb c (code "N") ≡ p → Begins (if p then lead_N else if eqb c (code "L") then lead_L else rest) c
+    by_N : (p : Bool) → eqb c (code "N") ≡ p → Begins (if p then lead_N otherwise if eqb c (code "L") then lead_L otherwise rest) c
     by_N true e = eqb_eq c 78 e
     by_N false e = by_L (eqb c (code "L")) refl
 
     by_S : (p : Bool) → eqb c (code "S") ≡ p
-        → Begins (if p then lead_S else if eqb c (code "N") then lead_N else if eqb c (code "L") then lead_L else rest) c
+        → Begins (if p then lead_S otherwise if eqb c (code "N") then lead_N otherwise if eqb c (code "L") then lead_L otherwise rest) c
     by_S true e = eqb_eq c 83 e
     by_S false e = by_N (eqb c (code "N")) refl
 
     by_digit : (p : Bool) → digit 10 c ≡ p
-        → Begins (if p then lead_digit else if eqb c (code "S") then lead_S else if eqb c (code "N") then lead_N else if eqb c (code "L") then lead_L else rest) c
+        → Begins (if p then lead_digit otherwise if eqb c (code "S") then lead_S otherwise if eqb c (code "N") then lead_N otherwise if eqb c (code "L") then lead_L otherwise rest) c
     by_digit true e = e
     by_digit false e = by_S (eqb c (code "S")) refl

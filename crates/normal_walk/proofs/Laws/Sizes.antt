@@ -1,7 +1,7 @@
 -- Lengths: of a reference, and of a source name that was read.
 use Rattle.std.specs.Prelude.{Bool, true, false, [], ◌∷◌, ◌++◌, ◌≡◌, refl, ℕ, zero, suc, ◌+◌, ◌/◌, ◌%◌, ◌≤◌, ◌<◌, ltb, length}
 use Rattle.std.proofs.Common.{sym, ap, arith, length-append}
-use Rattle.grammar.specs.Text.{Text, if◌then◌else◌}
+use Rattle.grammar.specs.Text.{Text, if◌then◌otherwise◌}
 use Rattle.grammar.specs.Limits.{most_symbol_bytes}
 use Rattle.catalogue.specs.Spelling.{digit_of, base36, ref_digits, ref_bytes, name_bytes}
 use Rattle.catalogue.proofs.Laws.ReadsBack.{name_two}
@@ -11,20 +11,20 @@ use Rattle.normal_walk.specs.Laws.Joins.{OfRd, rd_map}
 use Rattle.normal_walk.proofs.Laws.Leaves.{name_sound}
 
 base36_two : (k n : ℕ) → n < 1296 → length (base36 k n) ≤ 2
-unfolding base36 if◌then◌else◌
+unfolding base36 if◌then◌otherwise◌
 base36_two zero n h = omega arith
 base36_two (suc k) n h = go (ltb n 36) refl
   where
-    go : (p : Bool) → ltb n 36 ≡ p → length (if p then digit_of n ∷ [] else base36 k (n / 36) ++ (digit_of (n % 36) ∷ [])) ≤ 2
+    go : (p : Bool) → ltb n 36 ≡ p → length (if p then digit_of n ∷ [] otherwise base36 k (n / 36) ++ (digit_of (n % 36) ∷ [])) ≤ 2
     go true e = omega arith
     go false e = let d = ap length (base36_one k (n / 36) (omega arith)) in simp length-append (omega arith)
 
 base36_three : (k n : ℕ) → n < 46656 → length (base36 k n) ≤ 3
-unfolding base36 if◌then◌else◌
+unfolding base36 if◌then◌otherwise◌
 base36_three zero n h = omega arith
 base36_three (suc k) n h = go (ltb n 36)
   where
-    go : (p : Bool) → length (if p then digit_of n ∷ [] else base36 k (n / 36) ++ (digit_of (n % 36) ∷ [])) ≤ 3
+    go : (p : Bool) → length (if p then digit_of n ∷ [] otherwise base36 k (n / 36) ++ (digit_of (n % 36) ∷ [])) ≤ 3
     go true = omega arith
     go false = let d = base36_two k (n / 36) (omega arith) in simp length-append (omega arith)
 

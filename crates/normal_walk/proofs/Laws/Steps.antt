@@ -5,7 +5,7 @@ use Rattle.std.proofs.Common.{append_assoc, ◌∙◌, ap, arith}
 use Rattle.std.proofs.Math.Option.{none, some}
 use Prim.Native.Char.{code}
 use Rattle.std.proofs.Math.ListN.{get_elem?}
-use Rattle.grammar.specs.Text.{Text, if◌then◌else◌, choose, digit, digit_value}
+use Rattle.grammar.specs.Text.{Text, if◌then◌otherwise◌, choose, digit, digit_value}
 use Rattle.catalogue.specs.Bytes.{all, first, and_left}
 use Rattle.catalogue.specs.Laws.Bytes.{or_left}
 use Rattle.catalogue.specs.Tree.{Letter, Wrap, Kind, Ty, Args, letter, wrap, root, sub, lit, is_class, is_bare, single, kind_code}
@@ -109,15 +109,15 @@ module _ (vs : List Ty) (k : ℕ) (n r : Text) (p : name_ok n ≡ true) where
       go (c ∷ s) h e = more_digit vs k c s t w (or_left (eqb c 73) (eqb c 69) (digit_IE c h)) ∙ rw e refl
 
 pub lead_S_is : lead (code "S") ≡ lead_S
-unfolding lead digit digit_value if◌then◌else◌
+unfolding lead digit digit_value if◌then◌otherwise◌
 lead_S_is = refl
 
 pub lead_N_is : lead (code "N") ≡ lead_N
-unfolding lead digit digit_value if◌then◌else◌
+unfolding lead digit digit_value if◌then◌otherwise◌
 lead_N_is = refl
 
 pub lead_L_is : lead (code "L") ≡ lead_L
-unfolding lead digit digit_value if◌then◌else◌
+unfolding lead digit digit_value if◌then◌otherwise◌
 lead_L_is = refl
 
 module _ (vs : List Ty) (k i : ℕ) (r : Text) (t : Ty) (e : get_elem? vs i ≡ some t) where

@@ -3,7 +3,7 @@ use Rattle.std.specs.Prelude.{Bool, true, false, not, ◌||◌, List, [], ◌∷
 use Rattle.std.proofs.Common.{append_assoc, append-nil, sym, ◌∙◌, ap, arith, length-append, le-leb}
 use Rattle.std.proofs.Math.Option.{Option, none, some}
 use Prim.Native.Char.{code}
-use Rattle.grammar.specs.Text.{Text, if◌then◌else◌}
+use Rattle.grammar.specs.Text.{Text, if◌then◌otherwise◌}
 use Rattle.catalogue.specs.Bytes.{and_left, and_right}
 use Rattle.catalogue.specs.Laws.Bytes.{or-false}
 use Rattle.catalogue.specs.Tree.{Ty, Args, Enc, root, sub, one, also, enc, is_lit}
@@ -101,7 +101,7 @@ flat_walks n p = record {
 scoped_walks : (c : Bool) (q : Pre) (n : Text) (t : Ty) (us : List Ty) → name_ok n ≡ true → WalksPre [] q t us → (r : Text)
     → at_scoped c (walked_parts [] 0 ((spell_pre q ++ (name_bytes n ++ (69 ∷ []))) ++ r))
     ≡ got c (78 ∷ (const_byte c ++ (spell_pre (normal_pre t []) ++ (name_bytes n ++ (69 ∷ []))))) us (count_pre q) r
-unfolding if◌then◌else◌ add_all
+unfolding if◌then◌otherwise◌ add_all
 scoped_walks c q n t us p h r =
     ap (λ s. at_scoped c (walked_parts [] 0 s)) (inner (spell_pre q) (name_bytes n) r)
     ∙ rw (
@@ -110,7 +110,7 @@ scoped_walks c q n t us p h r =
     ) (got_is _ _ _ _ _ _ r (ap (λ s. 78 ∷ (const_byte c ++ s)) (append_assoc (spell_pre (normal_pre t [])) (name_bytes n) (69 ∷ []))) (omega arith))
 
 scoped_name : (c : Bool) (q : Pre) (n : Text) (t : Ty) (us : List Ty) → name_ok n ≡ true → BothPre [] q t us → WalksName (scoped c q n) (sub t n) us
-unfolding if◌then◌else◌ add_all
+unfolding if◌then◌otherwise◌ add_all
 scoped_name true q n t us p h = record {
   kept = h.0.kept;
   is = h.0.is;
@@ -193,7 +193,7 @@ spells_behind (symbol m ps) = refl
 
 -- a catalogue symbol is walked, and its normal symbol is written
 pub walk_complete : {s : Text} (c : Catalogue s) → walk_sym s ≡ some (normal_of c)
-unfolding if◌then◌else◌
+unfolding if◌then◌otherwise◌
 walk_complete {s} c =
     let h = catalogue_walks c in
     let e : s ≡ 95 ∷ 90 ∷ behind c.written = sym c.spells ∙ spells_behind c.written in

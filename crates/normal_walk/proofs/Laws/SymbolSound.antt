@@ -4,7 +4,7 @@ use Rattle.std.proofs.lemmas.Bool.{false≢true}
 use Rattle.std.proofs.Common.{append_assoc, append-nil, sym, ◌∙◌, ap, arith, leb-true}
 use Rattle.std.proofs.Math.Option.{Option, none, some}
 use Prim.Native.Char.{code}
-use Rattle.grammar.specs.Text.{Text, if◌then◌else◌}
+use Rattle.grammar.specs.Text.{Text, if◌then◌otherwise◌}
 use Rattle.catalogue.specs.Bytes.{eqb_eq, and_both}
 use Rattle.catalogue.specs.Laws.Bytes.{or_true}
 use Rattle.catalogue.specs.Tree.{Ty, Args, Enc, root, sub, app, enc, is_lit, is_bare}
@@ -152,20 +152,20 @@ none_some v p = let z : ◌≡◌ {A = ℕ} 0 1 = cc in omega arith
 -- where a byte must come next, it does
 next_some : (P : Text → Type 0) (c : ℕ) (s : Text) (f : Text → Option Text) {v : Text} → ((r : Text) → f r ≡ some v → P (c ∷ r))
     → if_next c s f none ≡ some v → P s
-unfolding if◌then◌else◌
+unfolding if◌then◌otherwise◌
 next_some P c [] f {v} h e = absurd (none_some v e)
 next_some P c (d ∷ s) f {v} h e = go (eqb d c) refl e
   where
-    go : (p : Bool) → eqb d c ≡ p → (if p then f s else none) ≡ some v → P (d ∷ s)
+    go : (p : Bool) → eqb d c ≡ p → (if p then f s otherwise none) ≡ some v → P (d ∷ s)
     go true i q = rw (eqb_eq d c i) (h s q)
     go false i q = absurd (none_some v q)
 
 result_sound : (s : Text) (o : Walk Bool) (v : Text) → Of o (SpeltSym s) → result o ≡ some v → Catalogue (code "_" ∷ code "Z" ∷ s)
-unfolding Of if◌then◌else◌
+unfolding Of if◌then◌otherwise◌
 result_sound s bad v h e = absurd (none_some v e)
 result_sound s (got c w vs k r) v h e = go (leb k most_arguments) refl e
   where
-    go : (p : Bool) → leb k most_arguments ≡ p → (if p then some (95 ∷ 90 ∷ w) else none) ≡ some v → Catalogue (95 ∷ 90 ∷ s)
+    go : (p : Bool) → leb k most_arguments ≡ p → (if p then some (95 ∷ 90 ∷ w) otherwise none) ≡ some v → Catalogue (95 ∷ 90 ∷ s)
     go true d q = record {
       written = h.written;
       tree = h.tree;

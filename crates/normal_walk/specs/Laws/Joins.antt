@@ -6,7 +6,7 @@ use Rattle.std.proofs.Math.Option.{Option, none, some}
 use Rattle.std.proofs.Math.Path.{refl}
 use Rattle.std.proofs.Common.{ap}
 use Rattle.std.proofs.Math.Dec.{eqb}
-use Rattle.grammar.specs.Text.{Text, if◌then◌else◌, choose}
+use Rattle.grammar.specs.Text.{Text, if◌then◌otherwise◌, choose}
 use Rattle.catalogue.specs.Bytes.{eqb_eq}
 use Rattle.catalogue.specs.Tree.{Ty}
 use Rattle.catalogue.specs.Recogniser.{Rd, rd, stop, bind, if_next}
@@ -39,11 +39,11 @@ rd_then P Q stop f h k = tt
 
 pub rd_next : {A : Type 0} (P : A → Text → Type 0) (c : ℕ) (s : Text) (f : Text → Rd A) (o : Rd A) → ((r : Text) → s ≡ c ∷ r → OfRd (f r) P)
     → OfRd o P → OfRd (if_next c s f o) P
-unfolding OfRd if◌then◌else◌
+unfolding OfRd if◌then◌otherwise◌
 rd_next P c [] f o h k = k
 rd_next P c (d ∷ s) f o h k = go (eqb d c) refl
   where
-    go : (p : Bool) → eqb d c ≡ p → OfRd (if p then f s else o) P
+    go : (p : Bool) → eqb d c ≡ p → OfRd (if p then f s otherwise o) P
     go true e = h s (ap (λ x. x ∷ s) (eqb_eq d c e))
     go false e = k
 
@@ -88,11 +88,11 @@ module _ {A : Type 0} (P : Claim A) where
   of_then Q bad f h g = tt
 
   pub of_next : (c : ℕ) (s : Text) (f : Text → Walk A) (o : Walk A) → ((r : Text) → s ≡ c ∷ r → Of (f r) P) → Of o P → Of (if_next c s f o) P
-  unfolding if◌then◌else◌
+  unfolding if◌then◌otherwise◌
   of_next c [] f o h k = k
   of_next c (d ∷ s) f o h k = go (eqb d c) refl
     where
-      go : (p : Bool) → eqb d c ≡ p → Of (if p then f s else o) P
+      go : (p : Bool) → eqb d c ≡ p → Of (if p then f s otherwise o) P
       go true e = h s (ap (λ x. x ∷ s) (eqb_eq d c e))
       go false e = k
 

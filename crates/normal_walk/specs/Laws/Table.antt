@@ -5,7 +5,7 @@ use Rattle.std.proofs.Math.Option.{Option, none, some}
 use Rattle.std.proofs.Math.Path.{refl, sym}
 use Rattle.std.proofs.Common.{◌∙◌, ap, arith}
 use Rattle.std.proofs.Math.ListN.{get_elem?}
-use Rattle.grammar.specs.Text.{Text, if◌then◌else◌}
+use Rattle.grammar.specs.Text.{Text, if◌then◌otherwise◌}
 use Rattle.catalogue.specs.Bytes.{and_right}
 use Rattle.catalogue.specs.Laws.Bytes.{or-false}
 use Rattle.catalogue.specs.Tree.{Letter, Wrap, Kind, Ty, Args, letter, wrap, root, sub, app, lit, same_ty, is_class, is_bare, single, one, also}
@@ -58,10 +58,10 @@ seek_fresh u us h = go (seek u us) refl
     go (some i) e = absurd (false≢true (sym h ∙ seek_has u us i e))
 
 pub distinct_push_new : (u : Ty) (vs : List Ty) → distinct (push_new u vs) ≡ add u (distinct vs)
-unfolding push_new if◌then◌else◌
+unfolding push_new if◌then◌otherwise◌
 distinct_push_new u vs = go (last_is u vs) refl
   where
-    go : (p : Bool) → last_is u vs ≡ p → distinct (if p then vs else push u vs) ≡ add u (distinct vs)
+    go : (p : Bool) → last_is u vs ≡ p → distinct (if p then vs otherwise push u vs) ≡ add u (distinct vs)
     go true e = sym (add_same u (distinct vs) (distinct_has u vs ∙ last_has u vs e))
     go false e = distinct_push u vs
 
@@ -103,7 +103,7 @@ not_last u us h = go (last_is u us) refl
     go true e = sym (last_has u us e) ∙ h
 
 pub push_new_grown : {u : Ty} {us ws : List Ty} → Grows u us ws → known (seek u us) us (push_new u ws) ≡ add u ws
-unfolding add push_new if◌then◌else◌
+unfolding add push_new if◌then◌otherwise◌
 push_new_grown {u} {us} {ws} g =
     by_known u us (λ h. let r = has_seek u us h in rw (g.if_known h) (rw r.1 refl))
     (λ h. rw (seek_fresh u us h, seek_fresh u ws (g.if_new h), not_last u ws (g.if_new h)) refl)

@@ -3,7 +3,7 @@ use Rattle.std.specs.Prelude.{Bool, true, false, not, ◌≡◌, ℕ, zero, suc,
 use mathlib.Core.List.{[], ◌∷◌}
 use Rattle.std.proofs.Math.Path.{refl, ap}
 use Rattle.std.proofs.Common.{sym, subst, ◌∙◌, arith}
-use Rattle.grammar.specs.Text.{Text, if◌then◌else◌, starts, run, past, number}
+use Rattle.grammar.specs.Text.{Text, if◌then◌otherwise◌, starts, run, past, number}
 use Rattle.catalogue.specs.Class.{name_ok}
 use Rattle.catalogue.specs.Recogniser.{Rd, rd, stop, cut, read_name, Lead, lead_letter, lead_wrap, lead_digit, lead_S, lead_N, lead_L, lead_none, lead}
 use Rattle.normal_walk.specs.Walk.{name}
@@ -139,7 +139,7 @@ with_next (rd n r) g f = refl
 with_next stop g f = refl
 
 name_none : name [] ≡ stop
-unfolding name read_name cut run past number name_ok if◌then◌else◌
+unfolding name read_name cut run past number name_ok if◌then◌otherwise◌
 name_none = refl
 
 -- the end of a nested name, or more of its parts

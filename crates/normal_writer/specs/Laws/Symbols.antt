@@ -5,7 +5,7 @@ use Rattle.std.proofs.Math.Option.{Option, none, some}
 use Rattle.std.proofs.Math.Path.{refl, ap, subst}
 use Rattle.std.proofs.Common.{sym, ◌∙◌, arith, eq-eqb, ne_eqb, le-leb, length-drop}
 use Prim.Native.Nat.{ℕ, suc, ◌+◌, ◌-◌, ◌*◌, ◌≤◌, ◌<◌}
-use Rattle.grammar.specs.Text.{Text, if◌then◌else◌, starts}
+use Rattle.grammar.specs.Text.{Text, if◌then◌otherwise◌, starts}
 use Rattle.grammar.specs.Laws.Text.{starts_nothing}
 use Rattle.grammar.specs.Limits.{most_symbol_bytes}
 use Rattle.store.specs.Table.{Front}
@@ -262,27 +262,27 @@ turned_from {s} a y = a.goes y.0 y.1 (length s + 1) (omega arith)
 abbrev behind : Text → Option Text
 behind t = symbol_of (note_encoding (suc (length t)) t)
 
-symbol_by : (s : Text) → note_symbol s ≡ (if starts s (95 ∷ 90 ∷ []) then behind (drop 2 s) else none)
-unfolding starts note_symbol if◌then◌else◌
+symbol_by : (s : Text) → note_symbol s ≡ (if starts s (95 ∷ 90 ∷ []) then behind (drop 2 s) otherwise none)
+unfolding starts note_symbol if◌then◌otherwise◌
 symbol_by [] = refl
 symbol_by (c ∷ []) = go (eqb c 95)
   where
-    go : (x : Bool) → (if x then none else none) ≡ (if x && false then behind [] else none)
+    go : (x : Bool) → (if x then none otherwise none) ≡ (if x && false then behind [] otherwise none)
     go true = refl
     go false = refl
 symbol_by (c ∷ d ∷ t) = rw (starts_nothing t) (go (eqb c 95) (eqb d 90))
   where
-    go : (x y : Bool) → (if x then (if y then behind t else none) else none) ≡ (if x && (y && true) then behind t else none)
+    go : (x y : Bool) → (if x then (if y then behind t otherwise none) otherwise none) ≡ (if x && (y && true) then behind t otherwise none)
     go true true = refl
     go true false = refl
     go false y = refl
 
 pub symbol_not : (s : Text) → starts s (95 ∷ 90 ∷ []) ≡ false → note_symbol s ≡ none
-unfolding if◌then◌else◌
+unfolding if◌then◌otherwise◌
 symbol_not s h = symbol_by s ∙ rw h refl
 
 symbol_is : (s : Text) → starts s (95 ∷ 90 ∷ []) ≡ true → note_symbol s ≡ behind (drop 2 s)
-unfolding if◌then◌else◌
+unfolding if◌then◌otherwise◌
 symbol_is s h = symbol_by s ∙ rw h refl
 
 long : (s : Text) → starts s (95 ∷ 90 ∷ []) ≡ true → 2 ≤ length s
@@ -388,11 +388,11 @@ module _ {s : Text} (y : starts s (95 ∷ 90 ∷ []) ≡ true) {ws : Work} {r : 
         args_are = symbol_ended.holds.args_count
 
         pub symbol_many : most_arguments < q.args → note_symbol s ≡ none
-        unfolding if◌then◌else◌
+        unfolding if◌then◌otherwise◌
         symbol_many l = by_end (got tt symbol_ended.state) symbol_ended.is ∙ rw (lt-leb symbol_ended.state.args most_arguments (omega (arith, args_are))) refl
 
         pub symbol_writes : q.args ≤ most_arguments → Writes s ws' (Symbol q) (note_symbol s)
-        unfolding if◌then◌else◌
+        unfolding if◌then◌otherwise◌
         symbol_writes l =
             let x : note_symbol s ≡ some symbol_ended.state.out = by_end (got tt symbol_ended.state) symbol_ended.is ∙ rw (le-leb symbol_ended.state.args most_arguments (omega (arith, args_are))) refl in
             subst (λ (v : Option Text). Writes s ws' (Symbol q) v) (sym x) (writes symbol_ended.holds)

@@ -7,7 +7,7 @@ use native.Mathlib.Omega.{arith}
 use borrow.Author.Tests.{le-leb, lt-leb}
 use Rattle.std.proofs.Math.ListN.{length, drop}
 use Rattle.std.proofs.Math.Seq.{paste, take-length}
-use Rattle.grammar.specs.Text.{Text, if◌then◌else◌}
+use Rattle.grammar.specs.Text.{Text, if◌then◌otherwise◌}
 use Rattle.grammar.specs.Limits.{most_symbol_bytes, most_text_bytes}
 use Rattle.grammar.specs.Names.{refusal, named, demangle, mangled_name, answer, within, number_of, work_fits}
 use Rattle.grammar.specs.Names as n
@@ -33,16 +33,16 @@ use Rattle.normalize.specs.Parts.{accepted_answer}
 
 module _ (w out : Text) where
   pub told_13 : most_symbol_bytes < length w → Tells (within (length out) (normal_told most_symbol_bytes (some w))) out out (Refused 13)
-  unfolding normal_told within if◌then◌else◌
+  unfolding normal_told within if◌then◌otherwise◌
   told_13 h = tells_refusal (rw (lt-leb (length w) most_symbol_bytes h))
 
   pub told_12 : length w ≤ most_symbol_bytes → length out < length w → Tells (within (length out) (normal_told most_symbol_bytes (some w))) out out (Refused 12)
-  unfolding normal_told within if◌then◌else◌
+  unfolding normal_told within if◌then◌otherwise◌
   told_12 h l = tells_refusal (rw (le-leb (length w) most_symbol_bytes h, lt-leb (length w) (length out) l))
 
   pub told_name : length w ≤ most_symbol_bytes → length w ≤ length out → {out' : Text} {n : ℕ} → n ≡ length w → out' ≡ paste out 0 w (length w)
       → Tells (within (length out) (normal_told most_symbol_bytes (some w))) out out' (Name n)
-  unfolding normal_told within if◌then◌else◌
+  unfolding normal_told within if◌then◌otherwise◌
   told_name h l e f =
       tells_name {t = w} (rw (le-leb (length w) most_symbol_bytes h, le-leb (length w) (length out) l)) e
       (f ∙ ap₂ (λ (x : Text) (k : ℕ). x ++ drop k out) (take-length w) (let e : 0 + length w ≡ length w = omega arith in e))
@@ -92,17 +92,17 @@ module _ {s : Text} {f : Front} (h : Fronts s f) where
     here = subst (Fronts s) e h
 
     pub front_short : fit least_numbers l ≡ false → Tells (normal_answer most_symbol_bytes (lent l) s) l.out l.out (Refused 14)
-    unfolding normal_answer normal_work_fits if◌then◌else◌
+    unfolding normal_answer normal_work_fits if◌then◌otherwise◌
     front_short g = tells_refusal (here.is _ ∙ rw g)
 
     module _ (g : fit least_numbers l ≡ true) where
       pub numbers_short : numbers_fit least_numbers l ≡ false → Tells (normal_answer most_symbol_bytes (lent l) s) l.out l.out (Refused 14)
-      unfolding normal_answer normal_work_fits if◌then◌else◌
+      unfolding normal_answer normal_work_fits if◌then◌otherwise◌
       numbers_short d = tells_refusal (here.is _ ∙ rw (g, d))
 
     module _ (g : fit least_numbers l ≡ true) (d : numbers_fit least_numbers l ≡ true) where
       after_is : normal_answer most_symbol_bytes (lent l) s ≡ within (length l.out) (normal_after most_symbol_bytes s (demangle most_symbol_bytes s))
-      unfolding normal_answer normal_work_fits if◌then◌else◌ demangle
+      unfolding normal_answer normal_work_fits if◌then◌otherwise◌ demangle
       after_is = here.is _ ∙ rw (g, d) (ap (λ (a : n.Answer). within (length l.out) (normal_after most_symbol_bytes s a)) (sym (here.is mangled_name)))
 
       module _ {j : ℕ} (a : j ≡ number_of (demangle most_symbol_bytes s)) where

@@ -3,7 +3,7 @@
 use Rattle.std.specs.Prelude.{Bool, true, false, ◌≡◌, refl, ℕ, suc, ltb, length}
 use Rattle.std.proofs.Math.Option.{Option, none, some}
 use Rattle.std.proofs.Common.{sym, ap, ◌∙◌}
-use Rattle.grammar.specs.Text.{Text, if◌then◌else◌, choose}
+use Rattle.grammar.specs.Text.{Text, if◌then◌otherwise◌, choose}
 use Rattle.grammar.specs.Limits.{most_symbol_bytes}
 use Rattle.grammar.specs.Names.{Answer, refusal, high, front, mangled_name, demangle}
 use Rattle.catalogue.specs.Answer.{normal_after, normal_symbol}
@@ -14,8 +14,8 @@ pub data Alike (F : (Text → Answer) → Answer) : Type 0 where
   behind : (u : Text) → ((f : Text → Answer) → F f ≡ f u) → Alike F
 
 by_tests : (q p : Bool) (o : Option (Unit {0} × Text))
-    → Alike (λ f. if q then refusal 1 else if p then refusal 2 else choose o (λ r. f r.1) (refusal 3))
-unfolding if◌then◌else◌ choose
+    → Alike (λ f. if q then refusal 1 otherwise if p then refusal 2 otherwise choose o (λ r. f r.1) (refusal 3))
+unfolding if◌then◌otherwise◌ choose
 by_tests true p o = refuses 0 (λ f. refl)
 by_tests false true o = refuses 1 (λ f. refl)
 by_tests false false none = refuses 2 (λ f. refl)

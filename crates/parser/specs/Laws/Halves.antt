@@ -7,7 +7,7 @@ use Rattle.std.proofs.Math.Option.{Option, some}
 use borrow.Author.Tests.{le-leb, lt-leb, leb-true}
 use Rattle.std.proofs.Math.Dec.{leb}
 use Rattle.std.proofs.Math.ListN.{length, get_elem?}
-use Rattle.grammar.specs.Text.{Text, if◌then◌else◌, choose, same}
+use Rattle.grammar.specs.Text.{Text, if◌then◌otherwise◌, choose, same}
 use Rattle.grammar.specs.Limits.{most_entries, most_text_bytes, most_entry_bytes, kept_bytes, least_store, least_ends}
 use Rattle.grammar.specs.Reader.{State, Result, ok, refused, Reader, onto, refuse, set_subs, set_args, bytes_of, fits, push_sub, push_arg, give, recorded}
 use Rattle.grammar.specs.Grammar.{last}
@@ -116,10 +116,10 @@ module _ {l : List Text} {store ends : List ℕ} {c b : ℕ} (e : Entries l stor
 
 -- what a push answers, by whether the text fits
 abbrev Pushed : List Text → State → ℕ → Result (Unit {0})
-Pushed l σ j = if fits l then ok tt σ else refused j
+Pushed l σ j = if fits l then ok tt σ otherwise refused j
 
-if_at : {A B : Type 0} (q : Bool) (f g : A → B) (x : A) → (if q then f else g) x ≡ (if q then f x else g x)
-unfolding if◌then◌else◌
+if_at : {A B : Type 0} (q : Bool) (f g : A → B) (x : A) → (if q then f otherwise g) x ≡ (if q then f x otherwise g x)
+unfolding if◌then◌otherwise◌
 if_at true f g x = refl
 if_at false f g x = refl
 
@@ -150,15 +150,15 @@ newest_part {base = base} {t = t} h l = newest_lent base t h.holds.text h.tail (
 module _ {k d : ℕ} {s base : Text} {from : ℕ} {m : Memory} {p : Parser} {n : ℕ} {t : Text} {σ : State} (h : Stands k d s base from m p n t σ)
     {l : List Text} {ys zs ys' zs' : List ℕ} {c b : ℕ} {q : Bool} (e : Entries l ys zs c b) (g : Grows c b n (lent m.text p.top n) ys zs ys' zs' q)
     (σ' : State) (j : ℕ) {f : Result (Unit {0})} (i : f ≡ Pushed (l ++ (t ∷ [])) σ' j) where
-  by_fit : (v : Bool) → fits (l ++ (t ∷ [])) ≡ v → f ≡ (if v then ok tt σ' else refused j)
-  by_fit v u = i ∙ ap (λ (x : Bool). if◌then◌else◌ {A = Result (Unit {0})} x (ok tt σ') (refused j)) u
+  by_fit : (v : Bool) → fits (l ++ (t ∷ [])) ≡ v → f ≡ (if v then ok tt σ' otherwise refused j)
+  by_fit v u = i ∙ ap (λ (x : Bool). if◌then◌otherwise◌ {A = Result (Unit {0})} x (ok tt σ') (refused j)) u
 
   pub pushes_not : {m' : Memory} {r : Parser} → q ≡ false → Pushes s m' n r (Refused j) f
-  unfolding if◌then◌else◌
+  unfolding if◌then◌otherwise◌
   pushes_not u = pushes_by (by_fit false (fits_not e t (λ x y. g.room.no u x (omega (arith, h.size))))) full
 
   pub pushes_entry : {m' : Memory} {r r' : Parser} → q ≡ true → r' ≡ r → (Entries (l ++ (t ∷ [])) ys' zs' (c + 1) (b + n) → Holds s m' r σ') → Pushes s m' n r (read r' n) f
-  unfolding if◌then◌else◌
+  unfolding if◌then◌otherwise◌
   pushes_entry u v w =
       let (x, y) = g.room.yes u in
       let a : Entries (l ++ (t ∷ [])) ys' zs' (c + 1) (b + n) = rw (newest_part h (omega (arith, h.size))).1 at (g.more u l e) in
@@ -186,11 +186,11 @@ recorded_full {k} {d} {s} {s'} {base} {from} {m} {m'} {p} {n} t σ {r} {j} e u =
 
 module _ (t : Text) (σ : State) where
   pub recorded_no : fits (σ.subs ++ (t ∷ [])) ≡ false → recorded t σ ≡ refused 9
-  unfolding recorded onto if◌then◌else◌
+  unfolding recorded onto if◌then◌otherwise◌
   recorded_no e = rw (push_sub_is t σ, e)
 
   pub recorded_long : fits (σ.subs ++ (t ∷ [])) ≡ true → most_text_bytes < length t → recorded t σ ≡ refused 11
-  unfolding recorded onto give if◌then◌else◌
+  unfolding recorded onto give if◌then◌otherwise◌
   recorded_long e l = rw (push_sub_is t σ, e, lt-leb (length t) most_text_bytes l)
 
 -- ---------------------------------------------------------------- entries recalled
@@ -228,12 +228,12 @@ pub part_size : (s : Text) {from to : ℕ} → from ≤ to → to ≤ length s �
 part_size s {from} {to} i j = length-take-le (to - from) (drop from s) (simp length-drop (omega arith))
 
 pub give_short : (t : Text) (σ : State) → length t ≤ most_text_bytes → give t σ ≡ ok t σ
-unfolding give if◌then◌else◌
-give_short t σ l = ap (λ (q : Bool). (if q then (λ u. ok t u) else refuse 11) σ) (le-leb (length t) most_text_bytes l)
+unfolding give if◌then◌otherwise◌
+give_short t σ l = ap (λ (q : Bool). (if q then (λ u. ok t u) otherwise refuse 11) σ) (le-leb (length t) most_text_bytes l)
 
 pub give_long : (t : Text) (σ : State) → most_text_bytes < length t → give t σ ≡ refused 11
-unfolding give if◌then◌else◌
-give_long t σ l = ap (λ (q : Bool). (if q then (λ u. ok t u) else refuse 11) σ) (lt-leb (length t) most_text_bytes l)
+unfolding give if◌then◌otherwise◌
+give_long t σ l = ap (λ (q : Bool). (if q then (λ u. ok t u) otherwise refuse 11) σ) (lt-leb (length t) most_text_bytes l)
 
 pub wrote_one : {s text text' store ends : Text} {from : ℕ} {p p' : Parser} {n : ℕ} {t : Text} {σ : State}
     → Holds s (mem text store ends) p σ → Puts text text' p p' t → length t ≡ n → length t ≤ most_text_bytes → from ≤ p.at

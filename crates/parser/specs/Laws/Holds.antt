@@ -4,7 +4,7 @@ use Rattle.std.specs.Prelude.{true, false, ◌++◌, ◌≡◌, ℕ, ◌+◌, �
 use Rattle.std.proofs.Common.{append_assoc, sym, ap, subst, arith, le-leb, leb-true, leb-false}
 use Rattle.std.proofs.Math.Path.{refl}
 use Rattle.std.proofs.lemmas.Bool.{lt-leb}
-use Rattle.grammar.specs.Text.{Text, if◌then◌else◌, each}
+use Rattle.grammar.specs.Text.{Text, if◌then◌otherwise◌, each}
 use Rattle.grammar.specs.Limits.{most_open, most_text_bytes, most_entry_bytes, kept_bytes}
 use Rattle.grammar.specs.Reader.{State, Result, ok, refused, Reader, onto, give}
 use Rattle.grammar.specs.Grammar.{qualifier}
@@ -196,14 +196,14 @@ module _ {k d : ℕ} {s base : Text} {from : ℕ} {m : Memory} {p : Parser} {n :
   }
 
   pub given_refines : Stands k d s base from m p n t σ → Refines k d s base from m (given_of p n) (give t σ)
-  unfolding given_of give if◌then◌else◌
+  unfolding given_of give if◌then◌otherwise◌
   given_refines h = go (leb n most_text_bytes) refl
     where
       given : Bool → Read
-      given q = if q then read p n else Refused 11
+      given q = if q then read p n otherwise Refused 11
 
       told : Bool → State → Result Text
-      told q = if q then (λ u. ok t u) else (λ u. refused 11)
+      told q = if q then (λ u. ok t u) otherwise (λ u. refused 11)
 
       go : (q : Bool) → leb n most_text_bytes ≡ q → Refines k d s base from m (given q) (told (leb (length t) most_text_bytes) σ)
       go true e =

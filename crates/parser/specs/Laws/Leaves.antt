@@ -10,7 +10,7 @@ use borrow.Author.Tests.{ne_eqb}
 use Rattle.std.proofs.Math.Dec.{eqb}
 use Rattle.std.proofs.Math.ListN.{take, drop, get_or}
 use Rattle.std.proofs.Math.Seq.{append_snoc}
-use Rattle.grammar.specs.Text.{Text, b, if◌then◌else◌, choose, starts, holds, after_last, digit}
+use Rattle.grammar.specs.Text.{Text, b, if◌then◌otherwise◌, choose, starts, holds, after_last, digit}
 use Rattle.grammar.specs.Grammar.{last, class_of, skipped, open_after, structor_ahead, std_ahead}
 use Rattle.grammar.specs.Laws.Text.{starts_nothing}
 use Rattle.grammar.specs.Laws.Places.{rest_some, rest_none}
@@ -62,10 +62,10 @@ module _ (s : Text) (i : ℕ) where
   skipped_more (suc d) h l = rw (rest_some s i l)
 
 pub open_most : (c d : ℕ) → open_after c d ≤ d + 1
-unfolding open_after if◌then◌else◌
+unfolding open_after if◌then◌otherwise◌
 open_most c d = go (eqb c 88) (eqb c 69)
   where
-    go : (q r : Bool) → (if q then d + 1 else if r then d - 1 else d) ≤ d + 1
+    go : (q r : Bool) → (if q then d + 1 otherwise if r then d - 1 otherwise d) ≤ d + 1
     go true r = omega arith
     go false true = omega arith
     go false false = omega arith
@@ -111,14 +111,14 @@ module _ (s : Text) (i : ℕ) (l : i + 1 + 1 < length s) where
   std_third e f = rw (rest_three s i l, e, f)
 
 behind_last : (found : Text) (x : ℕ) (t : Text) → after_last (b "::") found (x ∷ t) ≡ behind_colons x found t
-unfolding after_last behind_colons starts b if◌then◌else◌
+unfolding after_last behind_colons starts b if◌then◌otherwise◌
 behind_last found x [] = rw (and-false (eqb x 58))
 behind_last found x (y ∷ t) =
-    behind_last (if eqb x 58 && (eqb y 58 && starts t []) then t else found) y t
+    behind_last (if eqb x 58 && (eqb y 58 && starts t []) then t otherwise found) y t
     ∙ rw (starts_nothing t, and-true (eqb y 58))
 
 behind_any : (found t : Text) → after_last (b "::") found t ≡ behind_colons 0 found t
-unfolding after_last behind_colons if◌then◌else◌
+unfolding after_last behind_colons if◌then◌otherwise◌
 behind_any found [] = refl
 behind_any found (x ∷ t) = behind_last found x t
 
@@ -131,8 +131,8 @@ sought_first w start h = record {
 }
 
 module _ {w : Text} {start from end last : ℕ} (h : Sought w start from end last) where
-  pub sought_more : end < length w → (get_or w end 0 ≡ 60 → ⊥) → Sought w start (if eqb last 58 && eqb (get_or w end 0) 58 then end + 1 else from) (end + 1) (get_or w end 0)
-  unfolding behind_colons if◌then◌else◌
+  pub sought_more : end < length w → (get_or w end 0 ≡ 60 → ⊥) → Sought w start (if eqb last 58 && eqb (get_or w end 0) 58 then end + 1 otherwise from) (end + 1) (get_or w end 0)
+  unfolding behind_colons if◌then◌otherwise◌
   sought_more l d = go (eqb last 58 && eqb c 58) (h.is ∙ ap (behind_colons last (unargued (drop from w))) one)
     where
       c : ℕ
@@ -147,7 +147,7 @@ module _ {w : Text} {start from end last : ℕ} (h : Sought w start from end las
           ∙ take-suc (drop from w) (end - from) 0 (simp length-drop (omega (arith, h.order)))
           ∙ ap (λ (x : ℕ). take (end - from) (drop from w) ++ (x ∷ [])) (get_or-drop from w (end - from) 0 ∙ ap (λ (n : ℕ). get_or w n 0) (omega (arith, h.order)))
 
-      go : (q : Bool) → class_in (drop start w) ≡ behind_colons c (if q then unargued (drop (end + 1) w) else unargued (drop from w)) (unargued (drop (end + 1) w)) → Sought w start (if q then end + 1 else from) (end + 1) c
+      go : (q : Bool) → class_in (drop start w) ≡ behind_colons c (if q then unargued (drop (end + 1) w) otherwise unargued (drop from w)) (unargued (drop (end + 1) w)) → Sought w start (if q then end + 1 otherwise from) (end + 1) c
       go true e = record {
         order = (omega (arith, h.order), omega arith, omega arith);
         is = e;

@@ -5,7 +5,7 @@ use Rattle.std.proofs.Common.{append-nil, sym, ap, ◌∙◌, subst, arith, leng
 use Rattle.std.proofs.Math.Option.{Option, none, some}
 use Rattle.std.proofs.Math.Path.{refl}
 use borrow.Author.Tests.{eqb-true, ne_eqb}
-use Rattle.grammar.specs.Text.{Text, b, if◌then◌else◌, choose, same, starts}
+use Rattle.grammar.specs.Text.{Text, b, if◌then◌otherwise◌, choose, same, starts}
 use Rattle.grammar.specs.Tables.{suffixes}
 use Rattle.grammar.specs.Reader.{State, word_for}
 use Rattle.grammar.specs.Grammar.{literal}
@@ -100,7 +100,7 @@ same_size : (t w : Text) → same t w ≡ true → length t ≡ length w
 same_size t w e = let h : T (same t w) = rw e tt in ap length (same→eq t w h)
 
 pub signed_none : (s : Text) (from to : ℕ) → to ≤ from → signed (part s from to) ≡ []
-unfolding signed starts b if◌then◌else◌
+unfolding signed starts b if◌then◌otherwise◌
 signed_none s from to h = ap (λ (n : ℕ). signed (take n (drop from s))) {x = to - from} {y = 0} (omega arith)
 
 module _ (s : Text) (from to : ℕ) (h : from < to) (l : to ≤ length s) where
@@ -108,19 +108,19 @@ module _ (s : Text) (from to : ℕ) (h : from < to) (l : to ≤ length s) where
   part_cons = ap (take (to - from)) (rest_some s from (omega arith)) ∙ ap (λ (n : ℕ). take n (get_or s from 0 ∷ drop (from + 1) s)) {x = to - from} {y = suc (to - (from + 1))} (omega arith)
 
   pub signed_minus : get_or s from 0 ≡ 110 → signed (part s from to) ≡ b "-" ++ part s (from + 1) to
-  unfolding signed starts b if◌then◌else◌
+  unfolding signed starts b if◌then◌otherwise◌
   signed_minus e = rw (part_cons, e)
 
   pub signed_plain : (get_or s from 0 ≡ 110 → ⊥) → signed (part s from to) ≡ part s from to
-  unfolding signed starts b if◌then◌else◌
+  unfolding signed starts b if◌then◌otherwise◌
   signed_plain d = rw (part_cons, ne_eqb (get_or s from 0) 110 d)
 
 pub length_signed : (v : Text) → length (signed v) ≡ length v
-unfolding signed starts b if◌then◌else◌
+unfolding signed starts b if◌then◌otherwise◌
 length_signed [] = refl
 length_signed (x ∷ t) = go (eqb x 110 && starts t [])
   where
-    go : (q : Bool) → length (if q then 45 ∷ t else x ∷ t) ≡ suc (length t)
+    go : (q : Bool) → length (if q then 45 ∷ t otherwise x ∷ t) ≡ suc (length t)
     go true = refl
     go false = refl
 
@@ -137,7 +137,7 @@ one_other v d = go (same (signed v) (b "1")) refl
     go false e = refl
 
 pub one_single : (s : Text) (from to : ℕ) → to ≤ length s → to - from ≡ 1 → same (signed (part s from to)) (b "1") ≡ eqb (get_or s from 0) 49
-unfolding signed starts same b if◌then◌else◌
+unfolding signed starts same b if◌then◌otherwise◌
 one_single s from to l e = rw (part_cons s from to (omega arith) l, z) (go (eqb c 110) refl)
   where
     c : ℕ
@@ -146,7 +146,7 @@ one_single s from to l e = rw (part_cons s from to (omega arith) l, z) (go (eqb 
     z : part s (from + 1) to ≡ []
     z = ap (λ (n : ℕ). take n (drop (from + 1) s)) {x = to - (from + 1)} {y = 0} (omega arith)
 
-    go : (q : Bool) → eqb c 110 ≡ q → same (if q && true then 45 ∷ [] else c ∷ []) (49 ∷ []) ≡ eqb c 49
+    go : (q : Bool) → eqb c 110 ≡ q → same (if q && true then 45 ∷ [] otherwise c ∷ []) (49 ∷ []) ≡ eqb c 49
     go true f = sym (rw (eqb-true c 110 f))
     go false f = and-true (eqb c 49)
 
@@ -162,27 +162,27 @@ module _ (t v : Text) where
   told o = choose o (λ x. signed v ++ x) (b "(" ++ t ++ b ")" ++ signed v)
 
   row : (w : Text) (a e : ℕ) (k : Kind) (o : Option Text) → length w ≤ 18 → a ≤ e → e ≤ 3 → Said t v k (told o) →
-      Said t v (if same t w then Suffix a e else k) (told (if same t w then some (part (b "ull") a e) else o))
-  unfolding if◌then◌else◌ choose
+      Said t v (if same t w then Suffix a e otherwise k) (told (if same t w then some (part (b "ull") a e) otherwise o))
+  unfolding if◌then◌otherwise◌ choose
   row w a e k o l m n h = go (same t w) refl
     where
-      go : (q : Bool) → same t w ≡ q → Said t v (if q then Suffix a e else k) (told (if q then some (part (b "ull") a e) else o))
+      go : (q : Bool) → same t w ≡ q → Said t v (if q then Suffix a e otherwise k) (told (if q then some (part (b "ull") a e) otherwise o))
       go true i = (refl, omega (arith, same_size t w i), m, n)
       go false i = h
 
   pub said : Said t v (kind_of t) (literal t v)
-  unfolding kind_of literal truth_of signed suffixes word_for if◌then◌else◌ choose b
+  unfolding kind_of literal truth_of signed suffixes word_for if◌then◌otherwise◌ choose b
   said = go (same t (b "bool")) refl
     where
       k : Kind
-      k = if same t (b "int") then Suffix 0 0 else
-          if same t (b "long") then Suffix 1 2 else
-          if same t (b "unsigned int") then Suffix 0 1 else
-          if same t (b "unsigned long") then Suffix 0 2 else
-          if same t (b "long long") then Suffix 1 3 else
-          if same t (b "unsigned long long") then Suffix 0 3 else Cast
+      k = if same t (b "int") then Suffix 0 0 otherwise
+          if same t (b "long") then Suffix 1 2 otherwise
+          if same t (b "unsigned int") then Suffix 0 1 otherwise
+          if same t (b "unsigned long") then Suffix 0 2 otherwise
+          if same t (b "long long") then Suffix 1 3 otherwise
+          if same t (b "unsigned long long") then Suffix 0 3 otherwise Cast
 
-      go : (q : Bool) → same t (b "bool") ≡ q → Said t v (if q then Truth else k) (if q then truth_of v else told (word_for suffixes t))
+      go : (q : Bool) → same t (b "bool") ≡ q → Said t v (if q then Truth otherwise k) (if q then truth_of v otherwise told (word_for suffixes t))
       go true e = (refl, omega (arith, same_size t (b "bool") e))
       go false e =
           row (b "int") 0 0 _ _ (omega arith) (omega arith) (omega arith)

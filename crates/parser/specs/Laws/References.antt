@@ -4,7 +4,7 @@ use Rattle.std.proofs.Math.Option.{Option, none, some}
 use Rattle.std.proofs.Math.Path.{refl, ap}
 use Rattle.std.proofs.Common.{sym, ◌∙◌, arith, lt-ltb, le-ltb}
 use Rattle.std.proofs.Math.ListN.{get_elem?}
-use Rattle.grammar.specs.Text.{Text, b, if◌then◌else◌, choose, starts, run, past, digit, number, decimal}
+use Rattle.grammar.specs.Text.{Text, b, if◌then◌otherwise◌, choose, starts, run, past, digit, number, decimal}
 use Rattle.grammar.specs.Tables.{abbreviations}
 use Rattle.grammar.specs.Reader.{State, Result, ok, refused, Reader, onto, refuse, unfit, give, go_to, find, word_for, by_code, every, need, eat}
 use Rattle.grammar.specs.Grammar.{⟨template-param⟩, ⟨substitution⟩, index, template_param, substitution, production, reading}
@@ -69,7 +69,7 @@ module _ (s : Text) (at : ℕ) (σ : State) (e : σ.rest ≡ drop at s) where
     behind_S = reading_is ⟨substitution⟩ σ ∙ ap (onto (λ _. abbreviated)) (need_here "S" s at σ e h)
 
     pub sub_end : length s ≤ at + 1 → reading ⟨substitution⟩ σ ≡ refused 4
-    unfolding by_code onto find abbreviations choose if◌then◌else◌ starts b entry_at every need eat run past go_to
+    unfolding by_code onto find abbreviations choose if◌then◌otherwise◌ starts b entry_at every need eat run past go_to
     sub_end l = behind_S ∙ ap (λ (t : Text). abbreviated (moved t σ)) (rest_none s (at + 1) l)
 
     by_letter : at + 1 < length s
@@ -93,7 +93,7 @@ module _ (s : Text) (at : ℕ) (σ : State) (e : σ.rest ≡ drop at s) where
 -- ---------------------------------------------------------------- template arguments
 
 abbrev argument_of : Text → Reader Text
-argument_of d σ = onto (λ l. if ltb (index 10 d) (2 ^ 64) then choose (get_elem? l (index 10 d)) give (give (b "T" ++ decimal 20 (index 10 d))) else unfit) (ok σ.args σ)
+argument_of d σ = onto (λ l. if ltb (index 10 d) (2 ^ 64) then choose (get_elem? l (index 10 d)) give (give (b "T" ++ decimal 20 (index 10 d))) otherwise unfit) (ok σ.args σ)
 
 module _ (s : Text) (at : ℕ) (σ : State) (e : σ.rest ≡ drop at s) where
   pub param_none : starts (drop at s) (84 ∷ []) ≡ false → reading ⟨template-param⟩ σ ≡ refused 4
@@ -110,19 +110,19 @@ module _ (s : Text) (at : ℕ) (σ : State) (e : σ.rest ≡ drop at s) where
 
     module _ (g : starts (drop next s) (95 ∷ []) ≡ true) (i : ℕ) (f : index 10 (run (digit 10) (drop (at + 1) s)) ≡ i) where
       abbrev told : Bool → Result Text
-      told q = if◌then◌else◌ {A = Reader Text} q (choose (get_elem? σ.args i) give (give (84 ∷ decimal 20 i))) unfit (moved (drop (next + 1) s) σ)
+      told q = if◌then◌otherwise◌ {A = Reader Text} q (choose (get_elem? σ.args i) give (give (84 ∷ decimal 20 i))) unfit (moved (drop (next + 1) s) σ)
 
       by_index : reading ⟨template-param⟩ σ ≡ told (ltb i (2 ^ 64))
       unfolding onto b
       by_index =
           behind_T
           ∙ referred_is 10 argument_of s (at + 1) (moved (drop (at + 1) s) σ) refl next n g
-          ∙ ap (λ (j : ℕ). if◌then◌else◌ {A = Reader Text} (ltb j (2 ^ 64)) (choose (get_elem? σ.args j) give (give (84 ∷ decimal 20 j))) unfit (moved (drop (next + 1) s) σ)) f
+          ∙ ap (λ (j : ℕ). if◌then◌otherwise◌ {A = Reader Text} (ltb j (2 ^ 64)) (choose (get_elem? σ.args j) give (give (84 ∷ decimal 20 j))) unfit (moved (drop (next + 1) s) σ)) f
 
       pub param_past : 18446744073709551616 ≤ i → reading ⟨template-param⟩ σ ≡ refused 4
-      unfolding if◌then◌else◌
+      unfolding if◌then◌otherwise◌
       param_past l = by_index ∙ ap told (le-ltb i (2 ^ 64) l)
 
       pub param_given : i < 18446744073709551616 → reading ⟨template-param⟩ σ ≡ choose (get_elem? σ.args i) give (give (84 ∷ decimal 20 i)) (moved (drop (next + 1) s) σ)
-      unfolding if◌then◌else◌
+      unfolding if◌then◌otherwise◌
       param_given l = by_index ∙ ap told (lt-ltb i (2 ^ 64) l)

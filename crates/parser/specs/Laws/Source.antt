@@ -4,7 +4,7 @@ use Rattle.std.proofs.Common.{append_assoc, append-nil, sym, ap₂, ◌∙◌, a
 use Rattle.std.proofs.Math.Path.{refl, ap}
 use Rattle.std.proofs.lemmas.Bool.{lt-leb}
 use Rattle.std.proofs.Math.Dec.{leb}
-use Rattle.grammar.specs.Text.{Text, b, if◌then◌else◌, starts, run, digit, number}
+use Rattle.grammar.specs.Text.{Text, b, if◌then◌otherwise◌, starts, run, digit, number}
 use Rattle.grammar.specs.Limits.{most_text_bytes}
 use Rattle.grammar.specs.Tables.{◌⇒◌}
 use Rattle.grammar.specs.Reader.{State, Result, ok, refused, Reader, onto, unfit, go_to, give, cases}
@@ -18,13 +18,13 @@ use Rattle.grammar.specs.Laws.Runs.{every_at, case_here, case_not, run_within}
 use Rattle.parser.specs.Source.{behind_number, identified, closers}
 
 pub number_more : (s : Text) (at : ℕ) → at ≤ behind_number s at
-unfolding behind_number if◌then◌else◌
+unfolding behind_number if◌then◌otherwise◌
 number_more s at = go (starts (drop end s) (95 ∷ []))
   where
     end : ℕ
     end = at + length (run (digit 10) (drop at s))
 
-    go : (q : Bool) → at ≤ (if q then end + 1 else end)
+    go : (q : Bool) → at ≤ (if q then end + 1 otherwise end)
     go true = omega arith
     go false = omega arith
 
@@ -34,11 +34,11 @@ tagged pre k w = give (pre ++ (w ++ closers k))
 
 -- a text that is given as a part of a text that is given
 give_give : (pre y : Text) (k : ℕ) (σ : State) → onto (tagged pre k) (give y σ) ≡ give (pre ++ (y ++ closers k)) σ
-unfolding onto give tagged if◌then◌else◌
+unfolding onto give tagged if◌then◌otherwise◌
 give_give pre y k σ = go (leb (length y) most_text_bytes) refl
   where
     told : Bool → Text → State → Result Text
-    told q t = if q then (λ u. ok t u) else (λ _. refused 11)
+    told q t = if q then (λ u. ok t u) otherwise (λ _. refused 11)
 
     go : (q : Bool) → leb (length y) most_text_bytes ≡ q → onto (tagged pre k) (told q y σ) ≡ told (leb (length (pre ++ (y ++ closers k))) most_text_bytes) (pre ++ (y ++ closers k)) σ
     go true e = refl
@@ -78,14 +78,14 @@ named_by s σ Nothing = refused 4
 
 module _ (s : Text) (at : ℕ) (σ : State) (e : σ.rest ≡ drop at s) where
   abbrev sized : Text → Text → Reader Text
-  sized d t = if leb 1 (number 10 0 d) && leb (number 10 0 d) (length t) then (λ u. onto (λ _. behind_name (take (number 10 0 d) t)) (go_to (drop (number 10 0 d) t) u)) else unfit
+  sized d t = if leb 1 (number 10 0 d) && leb (number 10 0 d) (length t) then (λ u. onto (λ _. behind_name (take (number 10 0 d) t)) (go_to (drop (number 10 0 d) t) u)) otherwise unfit
 
   by_sizes : reading ⟨source-name⟩ σ ≡ sized (run (digit 10) (drop at s)) (drop (at + length (run (digit 10) (drop at s))) s) (moved (drop (at + length (run (digit 10) (drop at s))) s) σ)
   unfolding production source_name onto
   by_sizes = reading_is ⟨source-name⟩ σ ∙ ap (onto (λ (d : Text) (u : State). sized d u.rest u)) (every_at (digit 10) s at σ e)
 
   source_is : reading ⟨source-name⟩ σ ≡ named_by s σ (identified s at)
-  unfolding identified named_by if◌then◌else◌ onto go_to
+  unfolding identified named_by if◌then◌otherwise◌ onto go_to
   source_is = by_sizes ∙ go (leb 1 n && leb n (length (drop from s)))
     where
       d : Text
@@ -97,7 +97,7 @@ module _ (s : Text) (at : ℕ) (σ : State) (e : σ.rest ≡ drop at s) where
       n : ℕ
       n = number 10 0 d
 
-      go : (q : Bool) → (if q then (λ (u : State). onto (λ _. behind_name (take n (drop from s))) (go_to (drop n (drop from s)) u)) else unfit) (moved (drop from s) σ) ≡ named_by s σ (if q then Part from (from + n) else Nothing)
+      go : (q : Bool) → (if q then (λ (u : State). onto (λ _. behind_name (take n (drop from s))) (go_to (drop n (drop from s)) u)) otherwise unfit) (moved (drop from s) σ) ≡ named_by s σ (if q then Part from (from + n) otherwise Nothing)
       go true = ap₂ (λ (x t : Text). behind_name x (moved t σ)) (ap (λ (k : ℕ). take k (drop from s)) {x = n} {y = from + n - from} (omega arith)) (drop-drop n from s)
       go false = refl
 
@@ -108,7 +108,7 @@ pub record Located (s : Text) (at from to : ℕ) : Type 0 where
   pub inside : to ≤ length s
 
 pub identified_in : (s : Text) (at from to : ℕ) → at ≤ length s → identified s at ≡ Part from to → Located s at from to
-unfolding identified if◌then◌else◌
+unfolding identified if◌then◌otherwise◌
 identified_in s at from to l = go (leb 1 n) (leb n (length (drop start s))) refl refl
   where
     start : ℕ
@@ -117,7 +117,7 @@ identified_in s at from to l = go (leb 1 n) (leb n (length (drop start s))) refl
     n : ℕ
     n = number 10 0 (run (digit 10) (drop at s))
 
-    go : (q r : Bool) → leb 1 n ≡ q → leb n (length (drop start s)) ≡ r → (if q && r then Part start (start + n) else Nothing) ≡ Part from to → Located s at from to
+    go : (q r : Bool) → leb 1 n ≡ q → leb n (length (drop start s)) ≡ r → (if q && r then Part start (start + n) otherwise Nothing) ≡ Part from to → Located s at from to
     go true true e f h =
         let i : start ≡ from = cc in
         let j : start + n ≡ to = cc in

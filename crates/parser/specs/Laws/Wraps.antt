@@ -5,7 +5,7 @@ use Rattle.std.proofs.Common.{sym, ap₂, ◌∙◌, append_assoc, append-nil, a
 use Rattle.std.proofs.Math.Option.{Option, none, some}
 use Rattle.std.proofs.lemmas.Bool.{eqb-false}
 use Rattle.std.proofs.lemmas.List.{drop-append-le}
-use Rattle.grammar.specs.Text.{Text, if◌then◌else◌, choose, holds}
+use Rattle.grammar.specs.Text.{Text, if◌then◌otherwise◌, choose, holds}
 use Rattle.grammar.specs.Tables.{Table}
 use Rattle.grammar.specs.Reader.{State, Reader, word_for}
 use Rattle.grammar.specs.Grammar.{at_slots}
@@ -164,10 +164,10 @@ module _ {k d : ℕ} {s base : Text} {from : ℕ} {text text₁ store ends : Tex
 -- ---------------------------------------------------------------- slots
 
 abbrev tally : Bool → ℕ → ℕ
-tally q n = (if q then 1 else 0) + n
+tally q n = (if q then 1 otherwise 0) + n
 
 tally_no : (q : Bool) (n : ℕ) → tally q n ≡ 0 → (q ≡ false) × (n ≡ 0)
-unfolding if◌then◌else◌
+unfolding if◌then◌otherwise◌
 tally_no true n e = absurd (omega arith)
 tally_no false n e = (refl, omega arith)
 
@@ -179,7 +179,7 @@ no_slot (x ∷ t) e =
     ap₂ (λ (q r : Bool). q || r) (ne_eqb 1 x (λ z. eqb-false x 1 f (sym z))) (no_slot t g)
 
 some_slot : (t : Text) → (slots_in t ≡ 0 → ⊥) → holds 1 t ≡ true
-unfolding slots_in holds if◌then◌else◌
+unfolding slots_in holds if◌then◌otherwise◌
 some_slot [] n = absurd (n refl)
 some_slot (x ∷ t) n = go (eqb x 1) refl (some_slot t)
   where
@@ -189,13 +189,13 @@ some_slot (x ∷ t) n = go (eqb x 1) refl (some_slot t)
         ap₂ (λ (r v : Bool). r || v) (ne_eqb 1 x (λ z. eqb-false x 1 e (sym z))) (f (λ z. n (ap (λ (q : Bool). tally q (slots_in t)) e ∙ omega (arith, z))))
 
 module _ (t x y : Text) where
-  pub behind : slots_in t ≡ 0 → (if holds 1 t then x else y) ≡ y
-  unfolding if◌then◌else◌
-  behind e = ap (λ (q : Bool). if q then x else y) (no_slot t e)
+  pub behind : slots_in t ≡ 0 → (if holds 1 t then x otherwise y) ≡ y
+  unfolding if◌then◌otherwise◌
+  behind e = ap (λ (q : Bool). if q then x otherwise y) (no_slot t e)
 
-  pub inside : (slots_in t ≡ 0 → ⊥) → (if holds 1 t then x else y) ≡ x
-  unfolding if◌then◌else◌
-  inside e = ap (λ (q : Bool). if q then x else y) (some_slot t e)
+  pub inside : (slots_in t ≡ 0 → ⊥) → (if holds 1 t then x otherwise y) ≡ x
+  unfolding if◌then◌otherwise◌
+  inside e = ap (λ (q : Bool). if q then x otherwise y) (some_slot t e)
 
 pub woven_size : (w t : Text) {n slots each : ℕ} → length t ≡ n → slots_in t ≡ slots → length w ≡ each → length (at_slots w t) ≡ n + slots * each
 woven_size w t {n} e f g = length_at_slots w t ∙ ap (λ (i : ℕ). i + slots_in t * length w) e ∙ ap₂ (λ (i j : ℕ). n + i * j) f g

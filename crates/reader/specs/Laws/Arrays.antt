@@ -2,7 +2,7 @@
 use Rattle.std.specs.Prelude.{◌≡◌, ℕ, ◌+◌, ◌-◌, ◌<◌, ◌≤◌, Bool, true, false, not, [], ◌∷◌, ◌++◌, length, take, drop, ◌==◌, ◌≢◌}
 use Rattle.std.proofs.Math.Path.{refl, ap}
 use Rattle.std.proofs.Common.{sym, ◌∙◌, subst, arith, ne_eqb, length-append}
-use Rattle.grammar.specs.Text.{Text, b, holds, starts, run, if◌then◌else◌}
+use Rattle.grammar.specs.Text.{Text, b, holds, starts, run, if◌then◌otherwise◌}
 use Rattle.grammar.specs.Limits.{most_text_bytes}
 use Rattle.grammar.specs.Reader.{State, refused, Reader, onto, every, need, give}
 use Rattle.grammar.specs.Grammar.{reading, ⟨type⟩}
@@ -22,8 +22,8 @@ use Rattle.reader.specs.Laws.Items.{peek_end, byte_there, byte_within}
 
 -- ---------------------------------------------------------------- array types
 
-front_if : (q : Bool) (x : ℕ) (t u : Text) → take (length u) t ≡ u → take (length (if q then x ∷ u else [])) (x ∷ t) ≡ (if q then x ∷ u else [])
-unfolding if◌then◌else◌
+front_if : (q : Bool) (x : ℕ) (t u : Text) → take (length u) t ≡ u → take (length (if q then x ∷ u otherwise [])) (x ∷ t) ≡ (if q then x ∷ u otherwise [])
+unfolding if◌then◌otherwise◌
 front_if true x t u h = ap (λ (v : Text). x ∷ v) h
 front_if false x t u h = refl
 

@@ -3,7 +3,7 @@ use Rattle.std.specs.Prelude.{◌≡◌, ℕ, ◌+◌, ◌-◌, ◌<◌, ◌≤�
 use Rattle.std.proofs.Common.{sym, ◌∙◌, subst, arith, length-append, get_or-take, get_or-drop, get_or-append-add}
 use Rattle.std.proofs.Math.Path.{ap}
 use borrow.Author.Tests.{eq-eqb, ne_eqb}
-use Rattle.grammar.specs.Text.{Text, b, if◌then◌else◌, starts, ends, join}
+use Rattle.grammar.specs.Text.{Text, b, if◌then◌otherwise◌, starts, ends, join}
 use Rattle.grammar.specs.Limits.{most_open, most_text_bytes, most_length, kept_bytes}
 use Rattle.grammar.specs.Reader.{State, Result, ok, Reader, onto, return, refuse, give}
 use Rattle.grammar.specs.Grammar as g
@@ -68,22 +68,22 @@ stands_last {base = base} {m = m} {p = p} {x = x} {t = t} h =
     ∙ get_or-append-add base (x ∷ t) (length t) 0
 
 abbrev closing : Text → Bool → Text
-closing t q = t ++ (if q then b " >" else b ">")
+closing t q = t ++ (if q then b " >" otherwise b ">")
 
 module _ (ts : List Text) where
   pub angled_more : slice_index_or (60 ∷ join (b ", ") ts) (length (join (b ", ") ts)) 0 ≡ 62 → g.angled ts ≡ (60 ∷ join (b ", ") ts) ++ (32 ∷ 62 ∷ [])
-  unfolding g.angled b if◌then◌else◌
+  unfolding g.angled b if◌then◌otherwise◌
   angled_more e = ap (closing (60 ∷ join (b ", ") ts)) (ends_last 62 60 (join (b ", ") ts) ∙ eq-eqb _ 62 e)
 
   pub angled_plain : (slice_index (60 ∷ join (b ", ") ts) (length (join (b ", ") ts)) ≢ 62) → g.angled ts ≡ (60 ∷ join (b ", ") ts) ++ (62 ∷ [])
-  unfolding g.angled b if◌then◌else◌
+  unfolding g.angled b if◌then◌otherwise◌
   angled_plain e = ap (closing (60 ∷ join (b ", ") ts)) (ends_last 62 60 (join (b ", ") ts) ∙ ne_eqb _ 62 e)
 
 give_level : (t : Text) (d : ℕ) (σ : State) → onto (λ t u. ok t (at_level d u)) (give t σ) ≡ give t (at_level d σ)
-unfolding give onto if◌then◌else◌
+unfolding give onto if◌then◌otherwise◌
 give_level t d σ = go (nat_le (length t) most_text_bytes)
   where
-    go : (q : Bool) → onto (λ t u. ok t (at_level d u)) (if◌then◌else◌ {A = Reader Text} q (return t) (refuse 11) σ) ≡ if◌then◌else◌ {A = Reader Text} q (return t) (refuse 11) (at_level d σ)
+    go : (q : Bool) → onto (λ t u. ok t (at_level d u)) (if◌then◌otherwise◌ {A = Reader Text} q (return t) (refuse 11) σ) ≡ if◌then◌otherwise◌ {A = Reader Text} q (return t) (refuse 11) (at_level d σ)
     go true = refl
     go false = refl
 

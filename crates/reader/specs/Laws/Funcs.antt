@@ -2,7 +2,7 @@
 use Rattle.std.specs.Prelude.{◌≡◌, ℕ, ◌+◌, ◌≤◌, min, Bool, true, false, T, List, [], ◌∷◌, ◌++◌, length, take}
 use Rattle.std.proofs.Common.{append_assoc, append-nil, sym, ◌∙◌, subst, arith, length-append}
 use Rattle.std.proofs.Math.Path.{refl, ap}
-use Rattle.grammar.specs.Text.{Text, b, if◌then◌else◌, same, join}
+use Rattle.grammar.specs.Text.{Text, b, if◌then◌otherwise◌, same, join}
 use Rattle.grammar.specs.Reader.{State, ok, Reader, onto, recorded, up_to_E, one_more}
 use Rattle.grammar.specs.Grammar.{reading, ⟨type⟩, slot, only_void}
 use Rattle.grammar.specs.Grammar as g
@@ -57,21 +57,21 @@ func_ended {d} {s} {base} {from} {m} {m'} {p} {r} {n} {count} {x} {σ} t ts h w 
 -- ---------------------------------------------------------------- the text, as it is put together
 
 abbrev written : Text → List Text → Bool → Text
-written r ts q = r ++ b " (" ++ (slot ∷ []) ++ b ")(" ++ (if q then [] else join (b ", ") ts) ++ b ")"
+written r ts q = r ++ b " (" ++ (slot ∷ []) ++ b ")(" ++ (if q then [] otherwise join (b ", ") ts) ++ b ")"
 
 module _ (t : Text) (ts : List Text) where
   opened : t ++ (32 ∷ 40 ∷ []) ++ (1 ∷ []) ++ (41 ∷ 40 ∷ []) ≡ t ++ opening
   opened = append_assoc (t ++ (32 ∷ 40 ∷ [])) (1 ∷ []) (41 ∷ 40 ∷ []) ∙ append_assoc t (32 ∷ 40 ∷ []) (1 ∷ 41 ∷ 40 ∷ [])
 
   pub function_listed : only_void ts ≡ false → function_text t ts ≡ (t ++ (opening ++ join (b ", ") ts)) ++ (41 ∷ [])
-  unfolding b if◌then◌else◌
+  unfolding b if◌then◌otherwise◌
   function_listed e =
       ap (written t ts) e
       ∙ ap (λ (y : Text). (y ++ join (b ", ") ts) ++ (41 ∷ [])) opened
       ∙ ap (λ (y : Text). y ++ (41 ∷ [])) (append_assoc t opening (join (b ", ") ts))
 
   pub function_bare : only_void ts ≡ true → function_text t ts ≡ (t ++ opening) ++ (41 ∷ [])
-  unfolding b if◌then◌else◌
+  unfolding b if◌then◌otherwise◌
   function_bare e =
       ap (written t ts) e
       ∙ ap (λ (y : Text). (y ++ []) ++ (41 ∷ [])) opened

@@ -3,7 +3,7 @@ use Rattle.std.specs.Prelude.{◌≡◌, ℕ, ◌+◌, ◌-◌, ◌<◌, ◌≤�
 use Rattle.std.proofs.Common.{inl, inr, sym, subst, arith, ne_eqb, leb-true, leb-false, le-leb, le-ltb, lt-ltb}
 use Rattle.std.proofs.Math.Option.{none}
 use Prim.Native.String.{String}
-use Rattle.grammar.specs.Text.{Text, b, holds, starts, digit, digit_value, if◌then◌else◌}
+use Rattle.grammar.specs.Text.{Text, b, holds, starts, digit, digit_value, if◌then◌otherwise◌}
 use Rattle.grammar.specs.Tables.{letters, wrappers}
 use Rattle.grammar.specs.Reader.{find}
 use Rattle.grammar.specs.Laws.Finds.{all_of}
@@ -35,7 +35,7 @@ abbrev pub Lettered : ℕ → Type 0
 Lettered c = (c ≡ 67) ⊎ ((c ≡ 75) ⊎ ((c ≡ 82) ⊎ ((c ≡ 86) ⊎ (c ≡ 114))))
 
 pub lettered_row : (c : ℕ) → Lettered c → Row_of c
-unfolding find wrappers starts b if◌then◌else◌
+unfolding find wrappers starts b if◌then◌otherwise◌
 lettered_row c (inl e) = row_by e ((" complex", ""), ((λ t. refl), refl))
 lettered_row c (inr (inl e)) = row_by e ((" const", " const"), ((λ t. refl), refl))
 lettered_row c (inr (inr (inl e))) = row_by e (("&", "&"), ((λ t. refl), refl))
@@ -44,7 +44,7 @@ lettered_row c (inr (inr (inr (inr e)))) = row_by e ((" restrict", ""), ((λ t. 
 
 -- O and P, which the code finds by their neighbours
 pub between_row : (c : ℕ) → (c ≢ 77) → (c ≢ 78) → 77 ≤ c → c < 81 → Row_of c
-unfolding find wrappers starts b if◌then◌else◌
+unfolding find wrappers starts b if◌then◌otherwise◌
 between_row c i j l k = first (nat_le c 77) refl
   where
     third : (q : Bool) → nat_le c 79 ≡ q → 79 ≤ c → Row_of c
@@ -88,18 +88,18 @@ no_head c h o p =
     )
 
 -- no digit
-ten_more : (q r : Bool) (c : ℕ) → 10 ≤ (if q then c - 65 + 10 else if r then c - 97 + 10 else 36)
-unfolding if◌then◌else◌
+ten_more : (q r : Bool) (c : ℕ) → 10 ≤ (if q then c - 65 + 10 otherwise if r then c - 97 + 10 otherwise 36)
+unfolding if◌then◌otherwise◌
 ten_more true r c = omega arith
 ten_more false true c = omega arith
 ten_more false false c = omega arith
 
 pub digit_not : (c : ℕ) → (48 ≤ c → 58 ≤ c) → digit 10 c ≡ false
-unfolding digit digit_value if◌then◌else◌
+unfolding digit digit_value if◌then◌otherwise◌
 digit_not c l = go (nat_le 48 c) (nat_le c 57) refl refl
   where
     told : Bool → ℕ
-    told q = if q then c - 48 else (if leb 65 c && nat_le c 90 then c - 65 + 10 else if nat_le 97 c && nat_le c 122 then c - 97 + 10 else 36)
+    told q = if q then c - 48 otherwise (if leb 65 c && nat_le c 90 then c - 65 + 10 otherwise if nat_le 97 c && nat_le c 122 then c - 97 + 10 otherwise 36)
 
     go : (q r : Bool) → nat_le 48 c ≡ q → nat_le c 57 ≡ r → nat_lt (told (nat_le 48 c && nat_le c 57)) 10 ≡ false
     go true true e f = absurd (omega (arith, l (leb-true 48 c e), leb-true c 57 f))
@@ -107,5 +107,5 @@ digit_not c l = go (nat_le 48 c) (nat_le c 57) refl refl
     go false r e f = rw e (le-ltb _ 10 (ten_more (nat_le 65 c && nat_le c 90) (nat_le 97 c && nat_le c 122) c))
 
 pub digit_in : (c : ℕ) → 48 ≤ c → c < 58 → digit 10 c ≡ true
-unfolding digit digit_value if◌then◌else◌
+unfolding digit digit_value if◌then◌otherwise◌
 digit_in c h l = rw (le-leb c 57 (omega arith), le-leb 48 c (omega arith)) (lt-ltb (c - 48) 10 (omega arith))

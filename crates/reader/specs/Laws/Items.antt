@@ -2,7 +2,7 @@
 use Rattle.std.specs.Prelude.{◌≡◌, ℕ, ◌+◌, ◌*◌, ◌<◌, ◌≤◌, min, Bool, true, false, not, List, [], ◌∷◌, ◌++◌, length, take, drop, refl}
 use Rattle.std.proofs.Common.{sym, ◌∙◌, subst, arith, length-append, length-drop, drop-drop}
 use Rattle.std.proofs.Math.Path.{ap}
-use Rattle.grammar.specs.Text.{Text, b, if◌then◌else◌, same, join}
+use Rattle.grammar.specs.Text.{Text, b, if◌then◌otherwise◌, same, join}
 use Rattle.grammar.specs.Limits.{most_open, most_text_bytes, most_entry_bytes, most_length, kept_bytes}
 use Rattle.grammar.specs.Reader.{State, Result, ok, refused, Reader, onto, return, push_arg, while, one_more}
 use Rattle.grammar.specs.Grammar.{reading, ⟨type⟩, ⟨template-arg⟩, ended}
@@ -46,14 +46,14 @@ module _ (s : Text) (at : ℕ) {c : ℕ} (e : peeked (drop at s) ≡ peeked_as.B
 
 module _ {A : Type 0} (on : Text → Bool) (step : A → Reader A) (x : A) (σ : State) (is : while on step x σ ≡ Stepped on step x σ) where
   abbrev stepped : Bool → Result A
-  stepped q = if◌then◌else◌ {A = Reader A} q (λ u. onto (λ y. while on step y) (step x u)) (return x) σ
+  stepped q = if◌then◌otherwise◌ {A = Reader A} q (λ u. onto (λ y. while on step y) (step x u)) (return x) σ
 
   pub while_stops : on σ.rest ≡ false → while on step x σ ≡ ok x σ
-  unfolding if◌then◌else◌
+  unfolding if◌then◌otherwise◌
   while_stops e = is ∙ ap stepped e
 
   pub while_goes : on σ.rest ≡ true → while on step x σ ≡ onto (λ y. while on step y) (step x σ)
-  unfolding if◌then◌else◌
+  unfolding if◌then◌otherwise◌
   while_goes e = is ∙ ap stepped e
 
 abbrev pub looped : Kind → List Text → Reader (List Text)

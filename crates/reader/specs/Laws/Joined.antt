@@ -5,7 +5,7 @@ use Rattle.std.proofs.Math.Bool.{and-false}
 use Rattle.std.proofs.Math.Option.{some}
 use Rattle.std.proofs.Math.Path.{refl, ap}
 use Rattle.std.proofs.Common.{sym, ◌∙◌, subst, arith, eq-eqb, ne_eqb, length-append}
-use Rattle.grammar.specs.Text.{Text, b, choose, join, starts, holds, digit, digit_value, if◌then◌else◌}
+use Rattle.grammar.specs.Text.{Text, b, choose, join, starts, holds, digit, digit_value, if◌then◌otherwise◌}
 use Rattle.grammar.specs.Limits.{most_entries, most_entry_bytes, most_length}
 use Rattle.grammar.specs.Reader.{State, Result, ok, refused, Reader, onto, see, bytes_of, fits, push_sub, find, at_code}
 use Rattle.grammar.specs.Grammar.{reading, Production, ⟨template-param⟩, ⟨unqualified-name⟩, ⟨source-name⟩, ⟨substitution⟩, last, digit_ahead, structor_ahead}
@@ -117,7 +117,7 @@ unfolding fits
 long_unfit l t i = ap (λ (q : Bool). nat_le (length (l ++ (t ∷ []))) most_entries && q) (lt-leb (bytes_of (l ++ (t ∷ []))) most_entry_bytes (omega (arith, bytes_append l (t ∷ []), bytes_one t))) ∙ and-false (nat_le (length (l ++ (t ∷ []))) most_entries)
 
 pub push_long : (t : Text) (σ : State) → most_entry_bytes < length t → push_sub t σ ≡ refused 9
-unfolding push_sub onto if◌then◌else◌
+unfolding push_sub onto if◌then◌otherwise◌
 push_long t σ i = rw (long_unfit σ.subs t i)
 
 pub push_alike : {u t : Text} (σ : State) → Alike u t → push_sub u σ ≡ push_sub t σ
@@ -130,7 +130,7 @@ pushes_alike {s} {m} {n} {p} {r} σ a h = subst (λ (f : Result (Unit {0})). Pus
 -- ---------------------------------------------------------------- a new prefix
 
 abbrev pub Behind : g.Parts → Text → Reader g.Parts
-Behind ps x = λ σ. onto (λ (final : Bool). λ u. onto (λ _. λ (v : State). ok (one_part_more ps x) v) ((if final then (λ (v : State). ok tt v) else push_sub (join (b "::") (ps.texts ++ (x ∷ [])))) u)) (see "E" σ)
+Behind ps x = λ σ. onto (λ (final : Bool). λ u. onto (λ _. λ (v : State). ok (one_part_more ps x) v) ((if final then (λ (v : State). ok tt v) otherwise push_sub (join (b "::") (ps.texts ++ (x ∷ [])))) u)) (see "E" σ)
 
 module _ (k : Production) (ps : g.Parts) (σ : State) where
   pub new_is : g.new_prefix reading k ps σ ≡ onto (Behind ps) (reading k σ)
@@ -139,11 +139,11 @@ module _ (k : Production) (ps : g.Parts) (σ : State) where
 
 module _ (ps : g.Parts) (x : Text) (τ : State) where
   pub behind_last : starts τ.rest (b "E") ≡ true → Behind ps x τ ≡ ok (one_part_more ps x) τ
-  unfolding see onto if◌then◌else◌
+  unfolding see onto if◌then◌otherwise◌
   behind_last e = rw e
 
   pub behind_more : starts τ.rest (b "E") ≡ false → Behind ps x τ ≡ onto (λ _. λ (v : State). ok (one_part_more ps x) v) (push_sub (join (b "::") (ps.texts ++ (x ∷ []))) τ)
-  unfolding see onto if◌then◌else◌
+  unfolding see onto if◌then◌otherwise◌
   behind_more e = rw e
 
 -- ---------------------------------------------------------------- how many bytes are there
@@ -164,18 +164,18 @@ parted_as {k} {d} {s} {base} {from} {m} {p} {q} {q'} {ps} {σ} e h = subst (λ (
 
 module _ (c : ℕ) where
   pub part_T : c ≡ 84 → part_of c ≡ ⟨template-param⟩
-  unfolding part_of if◌then◌else◌
-  part_T e = ap (λ (q : Bool). if q then ⟨template-param⟩ else ⟨unqualified-name⟩) (eq-eqb c 84 e)
+  unfolding part_of if◌then◌otherwise◌
+  part_T e = ap (λ (q : Bool). if q then ⟨template-param⟩ otherwise ⟨unqualified-name⟩) (eq-eqb c 84 e)
 
   pub part_other : (c ≢ 84) → part_of c ≡ ⟨unqualified-name⟩
-  unfolding part_of if◌then◌else◌
-  part_other n = ap (λ (q : Bool). if q then ⟨template-param⟩ else ⟨unqualified-name⟩) (ne_eqb c 84 n)
+  unfolding part_of if◌then◌otherwise◌
+  part_other n = ap (λ (q : Bool). if q then ⟨template-param⟩ otherwise ⟨unqualified-name⟩) (ne_eqb c 84 n)
 
 digit_not_letter : (c k : ℕ) → digit 10 c ≡ true → digit 10 k ≡ false → c ≢ k
 digit_not_letter c k d f q = false≢true (sym f ∙ ap (digit 10) (sym q) ∙ d)
 
 digit_other : (c : ℕ) → digit 10 c ≡ true → holds c (b "CDUL") ≡ false
-unfolding holds b digit digit_value if◌then◌else◌
+unfolding holds b digit digit_value if◌then◌otherwise◌
 digit_other c d =
     rw (ne_eqb c 67 (digit_not_letter c 67 d refl), ne_eqb c 68 (digit_not_letter c 68 d refl), ne_eqb c 85 (digit_not_letter c 85 d refl), ne_eqb c 76 (digit_not_letter c 76 d refl))
 
@@ -194,20 +194,20 @@ module _ (ps : g.Parts) (σ : State) where
   old_is = refl
 
   pub prefix_structor : structor_ahead σ.rest ≡ true → g.prefix reading ps σ ≡ g.ctor_dtor_name reading ps σ
-  unfolding g.prefix onto if◌then◌else◌
+  unfolding g.prefix onto if◌then◌otherwise◌
   prefix_structor e = rw e
 
   module _ (e : structor_ahead σ.rest ≡ false) where
     by_S : starts σ.rest (b "S") ≡ true → g.prefix reading ps σ ≡ g.old_prefix reading ps σ
-    unfolding g.prefix onto if◌then◌else◌ at_code find choose
+    unfolding g.prefix onto if◌then◌otherwise◌ at_code find choose
     by_S f = rw (e, f)
 
     by_I : starts σ.rest (b "S") ≡ false → starts σ.rest (b "I") ≡ true → g.prefix reading ps σ ≡ g.prefix_args reading ps σ
-    unfolding g.prefix onto if◌then◌else◌ at_code find choose
+    unfolding g.prefix onto if◌then◌otherwise◌ at_code find choose
     by_I f i = rw (e, f, i)
 
-    by_new : (q : Bool) → starts σ.rest (b "S") ≡ false → starts σ.rest (b "I") ≡ false → starts σ.rest (b "T") ≡ q → g.prefix reading ps σ ≡ g.new_prefix reading (if q then ⟨template-param⟩ else ⟨unqualified-name⟩) ps σ
-    unfolding g.prefix onto if◌then◌else◌ at_code find choose
+    by_new : (q : Bool) → starts σ.rest (b "S") ≡ false → starts σ.rest (b "I") ≡ false → starts σ.rest (b "T") ≡ q → g.prefix reading ps σ ≡ g.new_prefix reading (if q then ⟨template-param⟩ otherwise ⟨unqualified-name⟩) ps σ
+    unfolding g.prefix onto if◌then◌otherwise◌ at_code find choose
     by_new true f i j = rw (e, f, i, j)
     by_new false f i j = rw (e, f, i, j)
 

@@ -3,7 +3,7 @@ use Rattle.std.specs.Prelude.{◌≡◌, ℕ, ◌+◌, ◌<◌, ◌≤◌, Bool,
 use Rattle.std.proofs.Common.{append-nil, append_assoc, sym, ◌∙◌, arith}
 use Rattle.std.proofs.Math.Path.{refl, ap, subst}
 use Rattle.std.proofs.Math.ListN.{length-append}
-use Rattle.grammar.specs.Text.{Text, b, if◌then◌else◌, starts, join}
+use Rattle.grammar.specs.Text.{Text, b, if◌then◌otherwise◌, starts, join}
 use Rattle.grammar.specs.Limits.{most_text_bytes}
 use Rattle.grammar.specs.Reader.{State, Result, ok, Reader, onto, give, see, need, while, one_more}
 use Rattle.grammar.specs.Grammar.{reading, local_encoding, ⟨name⟩, ⟨type⟩}
@@ -45,7 +45,7 @@ abbrev parameters : Reader Text
 parameters u = onto listed_on (types u)
 
 abbrev chosen : Bool → Reader Text
-chosen q = if q then (λ v. ok [] v) else parameters
+chosen q = if q then (λ v. ok [] v) otherwise parameters
 
 abbrev encoded_on : Text → Reader Text
 encoded_on n u = onto (closing n) (chosen (starts u.rest (b "E")) u)
@@ -56,14 +56,14 @@ encoding_is σ = refl
 
 module _ (n : Text) (s : Text) (at : ℕ) (σ : State) (e : σ.rest ≡ drop at s) where
   bare_is : starts (drop at s) (69 ∷ []) ≡ true → encoded_on n σ ≡ give n (moved (drop (at + 1) s) σ)
-  unfolding onto b if◌then◌else◌
+  unfolding onto b if◌then◌otherwise◌
   bare_is h =
       ap (λ (q : Bool). onto (closing n) (chosen q σ)) (ap (λ (t : Text). starts t (b "E")) e ∙ h)
       ∙ ap (onto (λ _. give (n ++ []))) (need_here "E" s at σ e h)
       ∙ ap (λ (t : Text). give t (moved (drop (at + 1) s) σ)) (append-nil n)
 
   open_is : starts (drop at s) (69 ∷ []) ≡ false → encoded_on n σ ≡ onto (closing n) (onto listed_on (types σ))
-  unfolding b if◌then◌else◌
+  unfolding b if◌then◌otherwise◌
   open_is h = ap (λ (q : Bool). onto (closing n) (chosen q σ)) (ap (λ (t : Text). starts t (b "E")) e ∙ h)
 
 -- ---------------------------------------------------------------- lists

@@ -3,7 +3,7 @@ use Rattle.std.specs.Prelude.{◌≡◌, ℕ, suc, ◌+◌, ◌-◌, ◌<◌, �
 use Rattle.std.proofs.Math.Path.{sym, ap, ap₂}
 use Rattle.std.proofs.Common.{◌∙◌, subst, arith}
 use borrow.Author.Tests.{eq-eqb, ne_eqb}
-use Rattle.grammar.specs.Text.{Text, b, choose, join, starts, each, run, if◌then◌else◌}
+use Rattle.grammar.specs.Text.{Text, b, choose, join, starts, each, run, if◌then◌otherwise◌}
 use Rattle.grammar.specs.Limits.{most_entry_bytes, most_length}
 use Rattle.grammar.specs.Reader.{State, Result, ok, refused, Reader, onto, return, need, every, give, set_cv, set_templated, while, up_to_E}
 use Rattle.grammar.specs.Grammar.{reading, ⟨nested-name⟩, last, qualifier}
@@ -41,7 +41,7 @@ prefixes ps = while before_E (g.prefix reading) ps
 -- ---------------------------------------------------------------- the definition
 
 abbrev pub named : Text → g.Parts → Reader Text
-named q ps = λ (σ : State). onto (λ _. λ (τ : State). onto (λ _. give (join (b "::") ps.texts)) ((if ps.structor then set_templated false else return tt) τ)) (set_cv (each qualifier q) σ)
+named q ps = λ (σ : State). onto (λ _. λ (τ : State). onto (λ _. give (join (b "::") ps.texts)) ((if ps.structor then set_templated false otherwise return tt) τ)) (set_cv (each qualifier q) σ)
 
 abbrev qualified : Text → Reader Text
 qualified q u = onto (named q) (up_to_E (g.prefix reading) no_parts u)
@@ -143,7 +143,7 @@ last_state true x τ = with_templated false (with_cv (each qualifier x) τ)
 last_state false x τ = with_cv (each qualifier x) τ
 
 named_is : (x : Text) (ps : g.Parts) (τ : State) (q : Bool) → ps.structor ≡ q → named x ps τ ≡ give (join (b "::") ps.texts) (last_state q x τ)
-unfolding onto set_cv set_templated if◌then◌else◌
+unfolding onto set_cv set_templated if◌then◌otherwise◌
 named_is x ps τ true e = rw e
 named_is x ps τ false e = rw e
 

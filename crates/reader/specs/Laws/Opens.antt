@@ -3,7 +3,7 @@ use Rattle.std.specs.Prelude.{◌≡◌, ℕ, ◌+◌, ◌<◌, ◌≤◌, Bool,
 use Rattle.std.proofs.Math.Path.{refl, ap, subst}
 use Rattle.std.proofs.Common.{sym, ◌∙◌, arith}
 use Prim.Native.String.{String}
-use Rattle.grammar.specs.Text.{Text, b, holds, if◌then◌else◌}
+use Rattle.grammar.specs.Text.{Text, b, holds, if◌then◌otherwise◌}
 use Rattle.grammar.specs.Limits.{most_open, most_text_bytes}
 use Rattle.grammar.specs.Tables.{◌⇒◌}
 use Rattle.grammar.specs.Reader.{State, Result, ok, Reader, onto, return, at_code, entered, recorded}
@@ -88,13 +88,13 @@ module _ {k d : ℕ} {s base : Text} {from : ℕ} {m : Memory} {p : Parser} {n :
 
 -- ---------------------------------------------------------------- types
 
-pub wrapped_is : (u : String × String) (σ : State) → g.wrapped reading u σ ≡ onto (λ t. recorded (if holds slot t then at_slots (b u.1) t else t ++ b u.0)) (reading ⟨type⟩ σ)
+pub wrapped_is : (u : String × String) (σ : State) → g.wrapped reading u σ ≡ onto (λ t. recorded (if holds slot t then at_slots (b u.1) t otherwise t ++ b u.0)) (reading ⟨type⟩ σ)
 unfolding g.wrapped
 wrapped_is u σ = refl
 
 -- the text of a member type, and its class's
 abbrev pub pointed : Text → Text → Text
-pointed c m = if holds slot m then at_slots (c ++ b "::*") m else m ++ b " " ++ c ++ b "::*"
+pointed c m = if holds slot m then at_slots (c ++ b "::*") m otherwise m ++ b " " ++ c ++ b "::*"
 
 pub member_is : (σ : State) → g.pointer_to_member_type reading σ ≡ onto (λ c τ. onto (λ m. recorded (pointed c m)) (reading ⟨type⟩ τ)) (reading ⟨type⟩ σ)
 unfolding g.pointer_to_member_type
@@ -107,7 +107,7 @@ abbrev referred : (Text → Reader Text) → Text → Reader Text
 referred f x = at_code ("I" ⇒ f x ∷ []) (return x)
 
 abbrev pub at_S : (Text → Reader Text) → Bool → Reader Text
-at_S f q = if q then g.std_name reading else (λ u. onto (referred f) (reading ⟨substitution⟩ u))
+at_S f q = if q then g.std_name reading otherwise (λ u. onto (referred f) (reading ⟨substitution⟩ u))
 
 pub s_name_is : (σ : State) → g.s_name reading σ ≡ at_S (g.name_instance reading) (std_ahead σ.rest) σ
 unfolding g.s_name onto
@@ -119,11 +119,11 @@ s_type_is σ = refl
 
 module _ (r : Reader Text) (f : Text → Reader Text) (is : (σ : State) → r σ ≡ at_S f (std_ahead σ.rest) σ) (σ : State) where
   pub s_std : std_ahead σ.rest ≡ true → r σ ≡ g.std_name reading σ
-  unfolding if◌then◌else◌
+  unfolding if◌then◌otherwise◌
   s_std e = is σ ∙ ap (λ (q : Bool). at_S f q σ) e
 
   pub s_sub : std_ahead σ.rest ≡ false → r σ ≡ onto (referred f) (reading ⟨substitution⟩ σ)
-  unfolding if◌then◌else◌
+  unfolding if◌then◌otherwise◌
   s_sub e = is σ ∙ ap (λ (q : Bool). at_S f q σ) e
 
   pub s_sub_read : {x : Text} {τ : State} → std_ahead σ.rest ≡ false → reading ⟨substitution⟩ σ ≡ ok x τ → r σ ≡ referred f x τ

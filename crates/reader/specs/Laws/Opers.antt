@@ -5,7 +5,7 @@ use Rattle.std.proofs.Math.Option.{Option, none, some}
 use Rattle.std.proofs.Math.Path.{refl, ap}
 use Rattle.std.proofs.Common.{sym, ◌∙◌, arith, eqb→eq, length-drop}
 use borrow.Author.Tests.{ne_eqb, eqb-true}
-use Rattle.grammar.specs.Text.{Text, b, if◌then◌else◌, choose, starts, holds, run, past, digit}
+use Rattle.grammar.specs.Text.{Text, b, if◌then◌otherwise◌, choose, starts, holds, run, past, digit}
 use Rattle.grammar.specs.Tables.{Row, ◌⇒◌, operators}
 use Rattle.grammar.specs.Reader.{State, refused, Reader, onto, give, unfit, go_to, set_templated, find, word_for, by_code}
 use Rattle.grammar.specs.Grammar.{reading, production, operator_name, unnamed_type_name, ⟨operator-name⟩, ⟨type⟩, ⟨unqualified-name⟩, ⟨source-name⟩}
@@ -64,7 +64,7 @@ no_start (x ∷ t) (y ∷ w) h = ap (λ (q : Bool). (x == y) && q) (no_start t w
 
 -- a text that is shorter than the codes
 no_short : {A : Type 0} (n : ℕ) (t : Text) (rows : List (Row A)) → length t < n → T (all_of n rows) → find rows t ≡ none
-unfolding find all_of if◌then◌else◌
+unfolding find all_of if◌then◌otherwise◌
 no_short n t [] l h = refl
 no_short n t ((k ⇒ x) ∷ rows) l h =
     let (p, q) = both (length (b k) == n) (all_of n rows) h in
@@ -185,8 +185,8 @@ module _ (s : Text) (p : Parser) {q : Parser} {to : ℕ} {r : Peeked} (m : q ≡
 -- ---------------------------------------------------------------- unqualified names
 
 skip_one : (q : Bool) (x : ℕ) (t : Text) (σ : State) → (x == 76) ≡ q → reading ⟨unqualified-name⟩ (moved t σ) ≡ reading ⟨unqualified-name⟩ (moved (past (λ x. nat_eq x 76) t) σ)
-    → reading ⟨unqualified-name⟩ (moved (x ∷ t) σ) ≡ reading ⟨unqualified-name⟩ (moved (if q then past (λ x. nat_eq x 76) t else x ∷ t) σ)
-unfolding if◌then◌else◌
+    → reading ⟨unqualified-name⟩ (moved (x ∷ t) σ) ≡ reading ⟨unqualified-name⟩ (moved (if q then past (λ x. nat_eq x 76) t otherwise x ∷ t) σ)
+unfolding if◌then◌otherwise◌
 skip_one true x t σ e h = ap (λ (y : ℕ). reading ⟨unqualified-name⟩ (moved (y ∷ t) σ)) (eqb-true x 76 e) ∙ unqualified_L t σ ∙ h
 skip_one false x t σ e h = refl
 

@@ -3,7 +3,7 @@ use Rattle.std.specs.Prelude.{◌≡◌, ℕ, zero, suc, ◌+◌, ◌-◌, ◌<�
 use Rattle.std.proofs.lemmas.Bool.{false≢true}
 use Rattle.std.proofs.Common.{append_assoc, append-nil, sym, ◌∙◌, arith, eq-eqb, ne_eqb, eqb-true, ltb-true, ltb-false, leb-true, leb-false, length-append, get_or-set_same, get_or-set_other}
 use Rattle.std.proofs.Math.Path.{refl, ap, subst}
-use Rattle.grammar.specs.Text.{Text, b, if◌then◌else◌, starts, join}
+use Rattle.grammar.specs.Text.{Text, b, if◌then◌otherwise◌, starts, join}
 use Rattle.grammar.specs.Limits.{most_text_bytes, most_length}
 use Rattle.grammar.specs.Reader.{State, Result, ok, refused, Reader, onto, return, give, while, one_more}
 use Rattle.grammar.specs.Grammar.{reading, ⟨template-arg⟩}
@@ -353,12 +353,12 @@ module _ {s : Text} {m₀ : Memory} {p₀ : Parser} {m : Memory} {p : Parser} {o
 
   pub packed_ends : {p' : Parser} {j : ℕ} {r : Read} → ends_pack level n ≡ true → p' ≡ moved_to p (p.at + 1) → j ≡ n - 2 → r ≡ given_of p' j →
       Refines (keep p₀.depth) p₀.depth s (window m₀ p₀) (p₀.at + 1) m r (g.pack reading σ₀)
-  unfolding given_of if◌then◌else◌
+  unfolding given_of if◌then◌otherwise◌
   packed_ends {p'} {j} {r} a f o k =
       subst (λ (x : Read). Refines (keep p₀.depth) p₀.depth s (window m₀ p₀) (p₀.at + 1) m x (g.pack reading σ₀)) (sym (k ∙ ap (λ (x : Parser). given_of x j) f)) (go (nat_le j most_text_bytes) refl l.around l.tail l.level_is l.same)
     where
       answer : Bool → Read
-      answer q = if q then read (moved_to p (p.at + 1)) j else Refused 11
+      answer q = if q then read (moved_to p (p.at + 1)) j otherwise Refused 11
 
       go : (q : Bool) → nat_le j most_text_bytes ≡ q → (around : List (List Text)) → Tail (keep p₀.depth) (window m p) (window m₀ p₀ ++ (under around ++ shown)) → level ≡ length around →
           g.pack reading σ₀ ≡ outward around (rest_of l.texts l.state) → Refines (keep p₀.depth) p₀.depth s (window m₀ p₀) (p₀.at + 1) m (answer q) (g.pack reading σ₀)

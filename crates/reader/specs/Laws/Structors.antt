@@ -2,7 +2,7 @@
 use Rattle.std.specs.Prelude.{◌≡◌, ℕ, ◌+◌, ◌-◌, ◌*◌, ◌<◌, ◌≤◌, min, Bool, true, false, List, [], ◌∷◌, ◌++◌, length, take, drop, ◌==◌, ◌≢◌, nat_le, refl}
 use Rattle.std.proofs.Common.{append_assoc, sym, ap, ◌∙◌, subst, arith, length-append, length-drop, take-append-drop, take-take, take_all, drop_at, drop-drop, length-take-le, leb-true, leb-false, eq-eqb, ne_eqb}
 use Rattle.std.proofs.lemmas.List.{take-append-le}
-use Rattle.grammar.specs.Text.{Text, b, choose, join, if◌then◌else◌, run, after_last}
+use Rattle.grammar.specs.Text.{Text, b, choose, join, if◌then◌otherwise◌, run, after_last}
 use Rattle.grammar.specs.Limits.{most_text_bytes, most_entry_bytes, most_length, kept_bytes}
 use Rattle.grammar.specs.Reader.{State, ok, onto, go_to}
 use Rattle.grammar.specs.Grammar.{reading, last, class_of}
@@ -28,8 +28,8 @@ use Rattle.reader.specs.Laws.Standing.{stands_kept, stands_sized}
 use Rattle.reader.specs.Laws.Joined.{last_more, shown_is, colons_size, parts_by}
 use Rattle.reader.specs.Structors.{tilde_of}
 
-tilde_within : (q : Bool) → length {A = ℕ} (if q then 126 ∷ [] else []) ≤ 1
-unfolding if◌then◌else◌
+tilde_within : (q : Bool) → length {A = ℕ} (if q then 126 ∷ [] otherwise []) ≤ 1
+unfolding if◌then◌otherwise◌
 tilde_within true = omega arith
 tilde_within false = omega arith
 
@@ -39,11 +39,11 @@ tilde_size c = tilde_within (c == 68)
 
 module _ (c : ℕ) where
   pub tilde_at : c ≡ 68 → tilde_of c ≡ 126 ∷ []
-  unfolding tilde_of if◌then◌else◌
+  unfolding tilde_of if◌then◌otherwise◌
   tilde_at e = rw (eq-eqb c 68 e)
 
   pub tilde_none : (c ≢ 68) → tilde_of c ≡ []
-  unfolding tilde_of if◌then◌else◌
+  unfolding tilde_of if◌then◌otherwise◌
   tilde_none n = rw (ne_eqb c 68 n)
 
   pub puts_tilde : {text text' : Text} {p p' : Parser} → c ≡ 68 → Puts text text' p p' (126 ∷ []) → Puts text text' p p' (tilde_of c)

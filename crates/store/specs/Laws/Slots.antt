@@ -1,7 +1,7 @@
 -- Laws of slots. Assumes nothing.
 use Rattle.std.specs.Prelude.{◌≡◌, refl, [], ◌∷◌, ◌++◌, Bool, true, false, ℕ, ◌+◌, ◌*◌, ◌≤◌, ◌<◌, length, take, drop, get_or, eqb}
 use Rattle.std.proofs.Common.{sym, ap, ◌∙◌, append_assoc, append-nil, add-mul, add-one, arith, eq-eqb, ne_eqb, length-append, take-append-drop, take-suc}
-use Rattle.grammar.specs.Text.{Text, if◌then◌else◌, each}
+use Rattle.grammar.specs.Text.{Text, if◌then◌otherwise◌, each}
 use Rattle.grammar.specs.Grammar.{at_slots}
 use Rattle.store.specs.Stack.{slots_in, at_slot}
 
@@ -22,8 +22,8 @@ pub at_slots_append : (w s t : Text) → at_slots w (s ++ t) ≡ at_slots w s ++
 at_slots_append w [] t = rw (at_slots_none w)
 at_slots_append w (x ∷ s) t = rw (at_slots_cons w x (s ++ t), at_slots_cons w x s, at_slots_append w s t, append_assoc)
 
-one : (w : Text) (x : ℕ) (q : Bool) → length (if q then w ++ (x ∷ []) else (x ∷ [])) ≡ 1 + (if q then 1 else 0) * length w
-unfolding if◌then◌else◌
+one : (w : Text) (x : ℕ) (q : Bool) → length (if q then w ++ (x ∷ []) otherwise (x ∷ [])) ≡ 1 + (if q then 1 otherwise 0) * length w
+unfolding if◌then◌otherwise◌
 one w x true = omega (arith, length-append w (x ∷ []))
 one w x false = omega arith
 
@@ -33,15 +33,15 @@ length_at_slots w [] = ap length (at_slots_none w) ∙ omega arith
 length_at_slots w (x ∷ t) =
     ap length (at_slots_cons w x t)
     ∙ length-append (at_slot w x) (at_slots w t)
-    ∙ omega (arith, one w x (eqb x 1), length_at_slots w t, add-mul (if eqb x 1 then 1 else 0) (slots_in t) (length w))
+    ∙ omega (arith, one w x (eqb x 1), length_at_slots w t, add-mul (if eqb x 1 then 1 otherwise 0) (slots_in t) (length w))
 
 pub at_slot_yes : (w : Text) (x : ℕ) → x ≡ 1 → at_slot w x ≡ w ++ (x ∷ [])
-unfolding at_slot if◌then◌else◌
-at_slot_yes w x e = ap (λ (q : Bool). if q then w ++ (x ∷ []) else (x ∷ [])) (eq-eqb x 1 e)
+unfolding at_slot if◌then◌otherwise◌
+at_slot_yes w x e = ap (λ (q : Bool). if q then w ++ (x ∷ []) otherwise (x ∷ [])) (eq-eqb x 1 e)
 
 pub at_slot_no : (w : Text) (x : ℕ) → (x ≡ 1 → ⊥) → at_slot w x ≡ x ∷ []
-unfolding at_slot if◌then◌else◌
-at_slot_no w x e = ap (λ (q : Bool). if q then w ++ (x ∷ []) else (x ∷ [])) (ne_eqb x 1 e)
+unfolding at_slot if◌then◌otherwise◌
+at_slot_no w x e = ap (λ (q : Bool). if q then w ++ (x ∷ []) otherwise (x ∷ [])) (ne_eqb x 1 e)
 
 -- one byte more
 pub at_slots_more : (w t : Text) (i : ℕ) → i < length t → at_slots w (take (i + 1) t) ≡ at_slots w (take i t) ++ at_slot w (get_or t i 0)

@@ -1,7 +1,7 @@
-use Rattle.grammar.specs.Text.{if◌then◌else◌}
+use Rattle.grammar.specs.Text.{if◌then◌otherwise◌}
 use Rattle.grammar.proofs.text.behind.Goals as goal
 
 pub returns : goal.returns
-unfolding if◌then◌else◌
+unfolding if◌then◌otherwise◌
 returns c =
     c.next_that.ensures

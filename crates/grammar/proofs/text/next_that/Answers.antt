@@ -1,12 +1,12 @@
 use Rattle.std.proofs.Common.{◌≡◌, Bool, true, false, not, eqb, length, get_or, refl, ap, ◌∙◌, arith}
 use mathlib.Core.Bool.{beq}
-use Rattle.grammar.specs.Text.{if◌then◌else◌}
+use Rattle.grammar.specs.Text.{if◌then◌otherwise◌}
 use Rattle.grammar.specs.Laws.Runs.{run_more, run_stop, run_end}
 use Rattle.grammar.proofs.text.next_that.Invariants.{passed}
 use Rattle.grammar.proofs.text.next_that.Goals as goal
 
-passes : (q is : Bool) → (if is then not q else q) ≡ not (beq q is)
-unfolding if◌then◌else◌
+passes : (q is : Bool) → (if is then not q otherwise q) ≡ not (beq q is)
+unfolding if◌then◌otherwise◌
 passes true true = refl
 passes true false = refl
 passes false true = refl

@@ -3,18 +3,18 @@ use mathlib.Core.Path.{◌≡◌, refl}
 use Prim.Native.Nat.{ℕ, ◌-◌, ◌+◌, ◌≤◌}
 use borrow.Author.Tests.{lt-ltb, le-ltb, le-leb, lt-leb, leb-true, ne_eqb}
 use lib.Dec.{leb}
-use Rattle.grammar.specs.Text.{if◌then◌else◌, digit, digit_value}
+use Rattle.grammar.specs.Text.{if◌then◌otherwise◌, digit, digit_value}
 use Rattle.catalogue.specs.Class.{word_byte}
 use native.Mathlib.Omega.{arith}
 use Rattle.normal_steps.proofs.words.word_byte.Goals as goal
 
 module _ (k : ℕ) (l : 97 ≤ k) where
-  value : digit_value k ≡ (if leb k 122 then k - 97 + 10 else 36)
-  unfolding digit_value if◌then◌else◌
+  value : digit_value k ≡ (if leb k 122 then k - 97 + 10 otherwise 36)
+  unfolding digit_value if◌then◌otherwise◌
   value = rw (le-leb 48 k (omega arith), lt-leb k 57 (omega arith), le-leb 65 k (omega arith), lt-leb k 90 (omega arith), le-leb 97 k l) refl
 
   small : leb k 122 ≡ word_byte k
-  unfolding word_byte digit if◌then◌else◌
+  unfolding word_byte digit if◌then◌otherwise◌
   small = go (leb k 122) refl
     where
       go : (b : Bool) → leb k 122 ≡ b → leb k 122 ≡ word_byte k

@@ -1,15 +1,15 @@
 use mathlib.Core.Path.{sym, ◌∙◌}
-use Rattle.grammar.specs.Text.{if◌then◌else◌, b}
+use Rattle.grammar.specs.Text.{if◌then◌otherwise◌, b}
 use Rattle.parser.specs.Literals.{kind_of}
 use Rattle.parser.proofs.literal.suffix.Goals as goal
 
 pub returns-then-same : goal.returns-then-same
-unfolding kind_of if◌then◌else◌ b
+unfolding kind_of if◌then◌otherwise◌ b
 returns-then-same c =
     rw (sym c.same.ensures ∙ c.if-same.true)
 
 pub returns-then-same-2 : goal.returns-then-same-2
-unfolding kind_of if◌then◌else◌ b
+unfolding kind_of if◌then◌otherwise◌ b
 returns-then-same-2 c =
     rw (
       sym c.same.ensures ∙ c.if-same.false,
@@ -17,7 +17,7 @@ returns-then-same-2 c =
     )
 
 pub returns-then-same-3 : goal.returns-then-same-3
-unfolding kind_of if◌then◌else◌ b
+unfolding kind_of if◌then◌otherwise◌ b
 returns-then-same-3 c =
     rw (
       sym c.same.ensures ∙ c.if-same.false,
@@ -26,7 +26,7 @@ returns-then-same-3 c =
     )
 
 pub returns-then-same-4 : goal.returns-then-same-4
-unfolding kind_of if◌then◌else◌ b
+unfolding kind_of if◌then◌otherwise◌ b
 returns-then-same-4 c =
     rw (
       sym c.same.ensures ∙ c.if-same.false,
@@ -36,7 +36,7 @@ returns-then-same-4 c =
     )
 
 pub returns-then-same-5 : goal.returns-then-same-5
-unfolding kind_of if◌then◌else◌ b
+unfolding kind_of if◌then◌otherwise◌ b
 returns-then-same-5 c =
     rw (
       sym c.same.ensures ∙ c.if-same.false,
@@ -47,7 +47,7 @@ returns-then-same-5 c =
     )
 
 pub returns-then-same-6 : goal.returns-then-same-6
-unfolding kind_of if◌then◌else◌ b
+unfolding kind_of if◌then◌otherwise◌ b
 returns-then-same-6 c =
     rw (
       sym c.same.ensures ∙ c.if-same.false,
@@ -59,7 +59,7 @@ returns-then-same-6 c =
     )
 
 pub returns-then-same-7 : goal.returns-then-same-7
-unfolding kind_of if◌then◌else◌ b
+unfolding kind_of if◌then◌otherwise◌ b
 returns-then-same-7 c =
     rw (
       sym c.same.ensures ∙ c.if-same.false,
@@ -72,7 +72,7 @@ returns-then-same-7 c =
     )
 
 pub returns : goal.returns
-unfolding kind_of if◌then◌else◌ b
+unfolding kind_of if◌then◌otherwise◌ b
 returns c =
     rw (
       sym c.same.ensures ∙ c.if-same.false,

@@ -3,7 +3,7 @@ use Prim.Native.Nat.{ℕ, ◌+◌, ◌≤◌, ◌<◌}
 use native.Mathlib.Omega.{arith}
 use borrow.Author.Tests.{le-leb, lt-leb}
 use lib.ListN.{length, drop, length-drop}
-use Rattle.grammar.specs.Text.{Text, if◌then◌else◌, run, digit, number}
+use Rattle.grammar.specs.Text.{Text, if◌then◌otherwise◌, run, digit, number}
 use Rattle.parser.specs.declared.names.Found.TheVariants.{Part}
 use Rattle.parser.specs.Source.{identified}
 use Rattle.parser.proofs.names.identifier.Goals as goal
@@ -15,13 +15,13 @@ abbrev at-digits : Text → ℕ → ℕ
 at-digits s at = at + length (run (digit 10) (drop at s))
 
 pub returns-then-length-eq0 : goal.returns-then-length-eq0
-unfolding identified if◌then◌else◌
+unfolding identified if◌then◌otherwise◌
 returns-then-length-eq0 c =
     let n : digits c.args.s.now c.args.at < 1 = omega (arith, c.decimal-length.ensures.is, c.if-length-eq0.true) in
     rw (lt-leb 1 (digits c.args.s.now c.args.at) n)
 
 pub returns-then-left-length : goal.returns-then-left-length
-unfolding identified if◌then◌else◌
+unfolding identified if◌then◌otherwise◌
 returns-then-left-length c =
     let n = digits c.args.s.now c.args.at in
     let from = at-digits c.args.s.now c.args.at in
@@ -30,7 +30,7 @@ returns-then-left-length c =
     rw (le-leb 1 n m, lt-leb n (length (drop from c.args.s.now)) l)
 
 pub returns : goal.returns
-unfolding identified if◌then◌else◌
+unfolding identified if◌then◌otherwise◌
 returns c =
     let n = digits c.args.s.now c.args.at in
     let from = at-digits c.args.s.now c.args.at in

@@ -1,18 +1,18 @@
 use mathlib.Core.Path.{sym, ◌∙◌}
 use native.Mathlib.Omega.{arith}
-use Rattle.grammar.specs.Text.{if◌then◌else◌}
+use Rattle.grammar.specs.Text.{if◌then◌otherwise◌}
 use Rattle.grammar.specs.Laws.Places.{starts_inside}
 use Rattle.parser.specs.Source.{behind_number}
 use Rattle.parser.proofs.names.numbered.Goals as goal
 
 pub returns-then-here : goal.returns-then-here
-unfolding behind_number if◌then◌else◌
+unfolding behind_number if◌then◌otherwise◌
 returns-then-here c =
     let e = sym c.here.ensures ∙ c.if-here.true in
     (rw (← c.decimal-end.ensures.behind, e), omega (arith, starts_inside c.args.s.now c.decimal-end.result.next 95 e))
 
 pub returns : goal.returns
-unfolding behind_number if◌then◌else◌
+unfolding behind_number if◌then◌otherwise◌
 returns c =
     let e = sym c.here.ensures ∙ c.if-here.false in
     (rw (← c.decimal-end.ensures.behind, e), omega (arith, c.decimal-end.ensures.inside))

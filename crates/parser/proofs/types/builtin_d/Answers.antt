@@ -7,7 +7,7 @@ use Rattle.grammar.specs.Laws.States.{Past, past_from, end_from, took, took_none
 use Rattle.grammar.specs.States.{moved_to}
 use lib.ListN.{drop}
 use lib.Seq.{drop-drop}
-use Rattle.grammar.specs.Text.{Text, b, if◌then◌else◌, choose, starts}
+use Rattle.grammar.specs.Text.{Text, b, if◌then◌otherwise◌, choose, starts}
 use Rattle.grammar.specs.Tables.{d_letters}
 use Rattle.grammar.specs.Reader.{State, Reader, refused, refuse, by_code, find, word_for, onto, go_to, give}
 use Rattle.grammar.specs.Laws.Agree.{moved}
@@ -28,7 +28,7 @@ abbrev the-reader : Reader Text
 the-reader = by_code d_letters (λ w. give (b w)) (refuse 4)
 
 ended : (σ : State) → σ.rest ≡ 68 ∷ [] → the-reader σ ≡ refused 4
-unfolding by_code onto choose find d_letters b starts if◌then◌else◌
+unfolding by_code onto choose find d_letters b starts if◌then◌otherwise◌
 ended σ e = ap (λ (z : Text). choose (find d_letters z) (λ r v. onto (λ _. give (b r.0)) (go_to r.1 v)) (refuse 4) σ) e
 
 module _ (σ : State) {x : ℕ} {u : Text} (e : σ.rest ≡ 68 ∷ (x ∷ u)) where

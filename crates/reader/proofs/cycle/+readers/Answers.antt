@@ -7,7 +7,7 @@ use Rattle.parser.specs.Laws.Halves.{wrote_one, give_short, newest_part}
 use Rattle.reader.specs.Laws.Opens.{call_moved, at_of, on_got, s_std, s_sub, s_sub_read, member_is, ready_entered, too_deep, still_refused, left_again, name_opens, type_opens, wrote_fits, wrapped_is}
 use Rattle.reader.specs.Laws.Closes.{ahead_is, arg_literal, arg_skipped, arg_open, arg_pack, arg_other, skips_to, skips_none, got_list, list_refused, refuses_list, closed_no, then_refused, args_no, args_deep, args_is, args_open, closed_yes, behind_is, then_ok}
 use Rattle.grammar.specs.Laws.States.{Past, ate, ate_none, went_in, past_from, none_from, took, took_none}
-use Rattle.grammar.specs.Text.{starts, Text, b, join, same, choose, if◌then◌else◌, run}
+use Rattle.grammar.specs.Text.{starts, Text, b, join, same, choose, if◌then◌otherwise◌, run}
 use Rattle.grammar.specs.States.{moved_to, deeper, peeked, cv_to, templated_to}
 use Rattle.parser.specs.Leaves.{Skips, qualifies}
 use Rattle.parser.specs.Laws.Wraps.{stands_puts, spelled_at, spelled_none}
@@ -1036,11 +1036,11 @@ name_inner-returns-in_default-c t c =
 -- ---------------------------------------------------------------- nest_ty
 
 nested_old : (σ : State) {x : Text} {σ₁ : State} → reading ⟨nested-name⟩ σ ≡ ok x σ₁ → choose (last σ₁.subs) (same x) false ≡ true → nested_type reading σ ≡ ok x σ₁
-unfolding nested_type onto if◌then◌else◌
+unfolding nested_type onto if◌then◌otherwise◌
 nested_old σ e f = rw (e, f)
 
 nested-new : (σ : State) {x : Text} {σ₁ : State} → reading ⟨nested-name⟩ σ ≡ ok x σ₁ → choose (last σ₁.subs) (same x) false ≡ false → nested_type reading σ ≡ recorded x σ₁
-unfolding nested_type onto if◌then◌else◌
+unfolding nested_type onto if◌then◌otherwise◌
 nested-new σ e f = rw (e, f)
 
 pub nest_ty-nested_name-got-requires : goal.nest_ty-nested_name-got-requires

@@ -1,14 +1,14 @@
 use Rattle.std.proofs.Common.{arith, le-ltb, lt-ltb}
 use Rattle.grammar.specs.Limits.{most_open}
-use Rattle.grammar.specs.Text.{if◌then◌else◌}
+use Rattle.grammar.specs.Text.{if◌then◌otherwise◌}
 use Rattle.grammar.proofs.state.Parser.enter.Goals as goal
 
 pub returns-then-depth-ge-DEPTH : goal.returns-then-depth-ge-DEPTH
-unfolding if◌then◌else◌
+unfolding if◌then◌otherwise◌
 returns-then-depth-ge-DEPTH c =
     rw (le-ltb _ most_open c.if-depth-ge-DEPTH.true)
 
 pub returns : goal.returns
-unfolding if◌then◌else◌
+unfolding if◌then◌otherwise◌
 returns c =
     rw (lt-ltb c.args.self.depth most_open (omega arith))
