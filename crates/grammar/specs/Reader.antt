@@ -1,5 +1,5 @@
 -- A reader takes a state to a result: a value and the next state, or the number of a refusal.
--- Readers are joined by three functions alone: `onto` (the `do` blocks), `if◌then◌else◌` and `choose`.
+-- Readers are joined by three functions alone: `onto` (the `do` blocks), `if◌then◌otherwise◌` and `choose`.
 use Rattle.std.specs.Prelude.{ℕ, zero, suc, ◌+◌, Bool, true, false, not, ◌&&◌, List, [], ◌∷◌, ◌++◌, length, drop, nat_le, nat_lt}
 use Rattle.std.proofs.Math.Option.{Option, none, some}
 use Prim.Native.String.{String}
