@@ -1,5 +1,4 @@
 use Rattle.std.specs.Prelude.{◌≤◌}
-use mathlib.Core.List.{List}
 use lib.ListN.{length}
 use Prim.Native.Nat.{◌-◌}
 use Rattle.console.proofs.stream.write_whole.Given as goal
