@@ -1,8 +1,8 @@
 -- Lines cut to one byte more than a symbol has: their listing is the same. Assumes nothing.
-use Rattle.std.specs.Prelude.{[], ◌∷◌, ℕ, ◌+◌, ◌-◌, eqb, ltb}
+use Rattle.std.specs.Prelude.{[], ◌∷◌, ℕ, ◌+◌, eqb, ltb}
 use Rattle.grammar.specs.Text.{Text, if◌then◌otherwise◌}
 use Rattle.grammar.specs.Limits.{most_symbol_bytes}
-use Rattle.listing.specs.Listing.{line_feed, lines}
+use Rattle.listing.specs.Listing.{line_feed}
 
 abbrev pub most_kept : ℕ
 most_kept = most_symbol_bytes + 1

@@ -1,4 +1,3 @@
-use Prim.Native.Nat.{◌-◌}
 use native.Mathlib.Omega.{arith}
 use Rattle.console.specs.Laws.Kept.{begin, begun_part, begun_feed, kept}
 use Rattle.console.proofs.lines.keep.Goals as goal

@@ -2,7 +2,6 @@ use mathlib.Core.Path.{◌≡◌}
 use lib.ListN.{length}
 use Rattle.grammar.specs.Text.{Text}
 use Rattle.console.specs.Buffer.{Fed}
-use Rattle.console.specs.Laws.Buffer.{ends}
 use Rattle.console.proofs.turns.list_input.Given as goal
 
 abbrev pub invariant-loop-turns : goal.invariant-loop-turns

@@ -1,7 +1,5 @@
 use mathlib.Core.Path.{refl, sym, ◌∙◌}
-use Prim.Native.Nat.{◌-◌}
 use native.Mathlib.Omega.{arith}
-use borrow.Author.Tests.{not-false}
 use Rattle.listing.specs.Laws.Lines.{feed_behind}
 use Rattle.listing.proofs.feeds.line_end.Goals as goal
 

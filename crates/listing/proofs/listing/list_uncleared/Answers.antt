@@ -1,4 +1,3 @@
-use borrow.Author.Tests.{not-true, not-false}
 use Rattle.answer.specs.Told.{normal_slices}
 use Rattle.listing.specs.Laws.Entry.{least_lengths, goes_none, goes_some}
 use Rattle.listing.proofs.listing.list_uncleared.Goals as goal

@@ -1,5 +1,4 @@
 use mathlib.Core.Path.{sym}
-use borrow.Author.Tests.{not-true, not-false}
 use Rattle.listing.specs.Laws.Entry.{short_name, short_work, long_work}
 use Rattle.listing.proofs.listing.long_enough.Goals as goal
 

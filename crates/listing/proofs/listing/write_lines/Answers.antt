@@ -1,6 +1,5 @@
 use Rattle.std.proofs.Common.{rules}
 use mathlib.Core.Path.{refl}
-use Prim.Native.Nat.{◌-◌}
 use native.Mathlib.Omega.{arith}
 use Rattle.listing.specs.Laws.Lines.{gone_none, gone_end, gone_feed, gone_full, gone_more}
 use Rattle.listing.proofs.listing.write_lines.Goals as goal
