@@ -11,24 +11,28 @@ use Rattle.encoding.proofs.thunks.thunk_or_function.Goals as goal
 pub thunk-requires : goal.thunk-requires
 unfolding b
 thunk-requires c =
-    (omega arith, (_, (_, row_starts c.args.p 104 c.requires.0 c.requires.1 ((let v : starts c.args.s.now (84 ∷ 104 ∷ []) ≡ true = sym c.starts_with.ensures ∙ c.if-starts_with.true in v)) c.moved.ensures c.offset-stepped.ensures)))
+    let unread : starts c.args.s.now (84 ∷ 104 ∷ []) ≡ true = sym c.starts_with.ensures ∙ c.if-starts_with.true in
+    (omega arith, (_, (_, row_starts c.args.p 104 c.requires.0 c.requires.1 unread c.moved.ensures c.offset-stepped.ensures)))
 
 pub returns-then-starts_with : goal.returns-then-starts_with
 unfolding b
 returns-then-starts_with c =
-    encodes_by (row_h c.args.s.now ((let v : starts c.args.s.now (84 ∷ 104 ∷ []) ≡ true = sym c.starts_with.ensures ∙ c.if-starts_with.true in v))) (c.thunk.ensures _ _
-    (row_starts c.args.p 104 c.requires.0 c.requires.1 ((let v : starts c.args.s.now (84 ∷ 104 ∷ []) ≡ true = sym c.starts_with.ensures ∙ c.if-starts_with.true in v)) c.moved.ensures c.offset-stepped.ensures))
+    let unread : starts c.args.s.now (84 ∷ 104 ∷ []) ≡ true = sym c.starts_with.ensures ∙ c.if-starts_with.true in
+    encodes_by (row_h c.args.s.now unread) (c.thunk.ensures _ _
+    (row_starts c.args.p 104 c.requires.0 c.requires.1 unread c.moved.ensures c.offset-stepped.ensures))
 
 pub thunk-requires-then-starts_with-2 : goal.thunk-requires-then-starts_with-2
 unfolding b
 thunk-requires-then-starts_with-2 c =
-    (omega arith, (_, (_, row_starts c.args.p 118 c.requires.0 c.requires.1 ((let v : starts c.args.s.now (84 ∷ 118 ∷ []) ≡ true = sym c.starts_with-2.ensures ∙ c.if-starts_with-2.true in v)) c.moved-then-starts_with-2.ensures c.two_offsets-stepped.ensures)))
+    let unread : starts c.args.s.now (84 ∷ 118 ∷ []) ≡ true = sym c.starts_with-2.ensures ∙ c.if-starts_with-2.true in
+    (omega arith, (_, (_, row_starts c.args.p 118 c.requires.0 c.requires.1 unread c.moved-then-starts_with-2.ensures c.two_offsets-stepped.ensures)))
 
 pub returns-then-starts_with-2 : goal.returns-then-starts_with-2
 unfolding b
 returns-then-starts_with-2 c =
-    encodes_by (row_v c.args.s.now ((let v : starts c.args.s.now (84 ∷ 118 ∷ []) ≡ true = sym c.starts_with-2.ensures ∙ c.if-starts_with-2.true in v))) (c.thunk-then-starts_with-2.ensures _ _
-    (row_starts c.args.p 118 c.requires.0 c.requires.1 ((let v : starts c.args.s.now (84 ∷ 118 ∷ []) ≡ true = sym c.starts_with-2.ensures ∙ c.if-starts_with-2.true in v)) c.moved-then-starts_with-2.ensures c.two_offsets-stepped.ensures))
+    let unread : starts c.args.s.now (84 ∷ 118 ∷ []) ≡ true = sym c.starts_with-2.ensures ∙ c.if-starts_with-2.true in
+    encodes_by (row_v c.args.s.now unread) (c.thunk-then-starts_with-2.ensures _ _
+    (row_starts c.args.p 118 c.requires.0 c.requires.1 unread c.moved-then-starts_with-2.ensures c.two_offsets-stepped.ensures))
 
 pub function_or_data-requires : goal.function_or_data-requires
 function_or_data-requires c =

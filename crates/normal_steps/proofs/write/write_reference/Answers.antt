@@ -22,15 +22,18 @@ write_seq_id-end-requires c =
 
 pub bounds-out-end : goal.bounds-out-end
 bounds-out-end c =
+    let same : length c.write_seq_id-end.new.out ≡ length c.args.out.now = c.write_seq_id-end.auto.out ∙ length-set c.args.out.now c.args.at 83 in
     let l = ref_some_length c.args.i c.if-i-eq0.false in
-    omega (arith, l, c.write_seq_id-end.ensures.end, (let v : length c.write_seq_id-end.new.out ≡ length c.args.out.now = c.write_seq_id-end.auto.out ∙ length-set c.args.out.now c.args.at 83 in v), c.requires.1)
+    omega (arith, l, c.write_seq_id-end.ensures.end, same, c.requires.1)
 
 pub overflow_add-result-2 : goal.overflow_add-result-2
 overflow_add-result-2 c =
-    omega (arith, bounds-out-end c, (let v : length c.write_seq_id-end.new.out ≡ length c.args.out.now = c.write_seq_id-end.auto.out ∙ length-set c.args.out.now c.args.at 83 in v))
+    let same : length c.write_seq_id-end.new.out ≡ length c.args.out.now = c.write_seq_id-end.auto.out ∙ length-set c.args.out.now c.args.at 83 in
+    omega (arith, bounds-out-end c, same)
 
 pub returns : goal.returns
 returns c =
-    let h : c.args.at + 1 ≤ length c.args.out.now = omega (arith, bounds-out-end c, c.write_seq_id-end.ensures.end, (let v : length c.write_seq_id-end.new.out ≡ length c.args.out.now = c.write_seq_id-end.auto.out ∙ length-set c.args.out.now c.args.at 83 in v)) in
+    let same : length c.write_seq_id-end.new.out ≡ length c.args.out.now = c.write_seq_id-end.auto.out ∙ length-set c.args.out.now c.args.at 83 in
+    let h : c.args.at + 1 ≤ length c.args.out.now = omega (arith, bounds-out-end c, c.write_seq_id-end.ensures.end, same) in
     wrote_as (sym (ref_some c.args.i c.if-i-eq0.false))
     (wrote_both h (wrote_one c.args.out.now c.args.at 83 h) (wrote_behind 95 c.write_seq_id-end.auto.out (bounds-out-end c) c.write_seq_id-end.ensures))

@@ -18,35 +18,40 @@ returns-in_default c =
 
 pub recall-requires : goal.recall-requires
 recall-requires c =
-    let l = ((let v : Past c.args.s.now (moved_to c.args.p c.seq_id-number.result.next) 95 c.in-Next.next = past_from c.moved.ensures (ate _ _ 95 c.eat.ensures c.in-Next.is) in v)).inside in
-    (c.args.s.now, ready_moved _ ((let v : Past c.args.s.now (moved_to c.args.p c.seq_id-number.result.next) 95 c.in-Next.next = past_from c.moved.ensures (ate _ _ 95 c.eat.ensures c.in-Next.is) in v)).next c.requires.1 (omega (arith, l)))
+    let passed : Past c.args.s.now (moved_to c.args.p c.seq_id-number.result.next) 95 c.in-Next.next = past_from c.moved.ensures (ate _ _ 95 c.eat.ensures c.in-Next.is) in
+    let l = passed.inside in
+    (c.args.s.now, ready_moved _ passed.next c.requires.1 (omega (arith, l)))
 
 pub returns-then-end-at : goal.returns-then-end-at
 returns-then-end-at c =
+    let passed : Past c.args.s.now (moved_to c.args.p c.seq_id-number.result.next) 95 c.in-Next.next = past_from c.moved.ensures (ate _ _ 95 c.eat.ensures c.in-Next.is) in
     λ σ h.
-    let e = ((let v : Past c.args.s.now (moved_to c.args.p c.seq_id-number.result.next) 95 c.in-Next.next = past_from c.moved.ensures (ate _ _ 95 c.eat.ensures c.in-Next.is) in v)).ahead in
-    let l = ((let v : Past c.args.s.now (moved_to c.args.p c.seq_id-number.result.next) 95 c.in-Next.next = past_from c.moved.ensures (ate _ _ 95 c.eat.ensures c.in-Next.is) in v)).inside in
+    let e = passed.ahead in
+    let l = passed.inside in
     by (entry_is c.args.s.now _ σ h.rest c.seq_id-number.ensures.behind 0 (index_none 36 _ (omega (arith, c.seq_id-number.ensures.behind, c.if-end-at.true))) e)
-    (reads_moved ((let v : Past c.args.s.now (moved_to c.args.p c.seq_id-number.result.next) 95 c.in-Next.next = past_from c.moved.ensures (ate _ _ 95 c.eat.ensures c.in-Next.is) in v)).next (c.recall.ensures c.args.s.now) h (omega (arith, l)) (omega (arith, c.seq_id-number.ensures.behind)))
+    (reads_moved passed.next (c.recall.ensures c.args.s.now) h (omega (arith, l)) (omega (arith, c.seq_id-number.ensures.behind)))
 
 pub returns-then-number : goal.returns-then-number
 returns-then-number c =
+    let passed : Past c.args.s.now (moved_to c.args.p c.seq_id-number.result.next) 95 c.in-Next.next = past_from c.moved.ensures (ate _ _ 95 c.eat.ensures c.in-Next.is) in
     λ σ h.
     by
-    (entry_is c.args.s.now _ σ h.rest c.seq_id-number.ensures.behind _ (index_some 36 _ (λ z. c.if-end-at.false (omega (arith, c.seq_id-number.ensures.behind, z)))) ((let v : Past c.args.s.now (moved_to c.args.p c.seq_id-number.result.next) 95 c.in-Next.next = past_from c.moved.ensures (ate _ _ 95 c.eat.ensures c.in-Next.is) in v)).ahead
+    (entry_is c.args.s.now _ σ h.rest c.seq_id-number.ensures.behind _ (index_some 36 _ (λ z. c.if-end-at.false (omega (arith, c.seq_id-number.ensures.behind, z)))) passed.ahead
     ∙ none_given σ.subs _ _ _ (omega (arith, c.seq_id-number.ensures.is, c.if-number.true, h.subs.count_is, h.subs.most)))
     refuses
 
 pub recall-requires-2 : goal.recall-requires-2
 recall-requires-2 c =
-    let l = ((let v : Past c.args.s.now (moved_to c.args.p c.seq_id-number.result.next) 95 c.in-Next.next = past_from c.moved.ensures (ate _ _ 95 c.eat.ensures c.in-Next.is) in v)).inside in
-    (c.args.s.now, ready_moved _ ((let v : Past c.args.s.now (moved_to c.args.p c.seq_id-number.result.next) 95 c.in-Next.next = past_from c.moved.ensures (ate _ _ 95 c.eat.ensures c.in-Next.is) in v)).next c.requires.1 (omega (arith, l)))
+    let passed : Past c.args.s.now (moved_to c.args.p c.seq_id-number.result.next) 95 c.in-Next.next = past_from c.moved.ensures (ate _ _ 95 c.eat.ensures c.in-Next.is) in
+    let l = passed.inside in
+    (c.args.s.now, ready_moved _ passed.next c.requires.1 (omega (arith, l)))
 
 pub returns : goal.returns
 returns c =
+    let passed : Past c.args.s.now (moved_to c.args.p c.seq_id-number.result.next) 95 c.in-Next.next = past_from c.moved.ensures (ate _ _ 95 c.eat.ensures c.in-Next.is) in
     λ σ h.
-    let e = ((let v : Past c.args.s.now (moved_to c.args.p c.seq_id-number.result.next) 95 c.in-Next.next = past_from c.moved.ensures (ate _ _ 95 c.eat.ensures c.in-Next.is) in v)).ahead in
-    let l = ((let v : Past c.args.s.now (moved_to c.args.p c.seq_id-number.result.next) 95 c.in-Next.next = past_from c.moved.ensures (ate _ _ 95 c.eat.ensures c.in-Next.is) in v)).inside in
+    let e = passed.ahead in
+    let l = passed.inside in
     by
     (entry_is c.args.s.now _ σ h.rest c.seq_id-number.ensures.behind _ (index_some 36 _ (λ z. c.if-end-at.false (omega (arith, c.seq_id-number.ensures.behind, z))) ∙ omega (arith, c.seq_id-number.ensures.is, c.if-number.false)) e)
-    (reads_moved ((let v : Past c.args.s.now (moved_to c.args.p c.seq_id-number.result.next) 95 c.in-Next.next = past_from c.moved.ensures (ate _ _ 95 c.eat.ensures c.in-Next.is) in v)).next (c.recall-2.ensures c.args.s.now) h (omega (arith, l)) (omega (arith, c.seq_id-number.ensures.behind)))
+    (reads_moved passed.next (c.recall-2.ensures c.args.s.now) h (omega (arith, l)) (omega (arith, c.seq_id-number.ensures.behind)))

@@ -47,9 +47,11 @@ sum-requires c =
 
 pub returns-in_default-eat : goal.returns-in_default-eat
 returns-in_default-eat c =
+    let same : c.put_part-next.result ≡ moved_to c.put_part-next.result c.in-Part.to = ap (λ (i : ℕ). moved_to c.put_part-next.result i) (puts_at c.moved.ensures c.put_part-next.ensures) in
+    let unread : starts (drop c.in-Part.to c.args.s.now) (66 ∷ []) ≡ false = none_from c.args.s.now 66 same (ate_none c.args.s.now c.put_part-next.result 66 c.eat.ensures c.in_default-eat.is) in
     λ store ends.
     tagging_ends c.loop-from.invariant (sym c.identifier.ensures ∙ c.in-Part.is)
-    ((let v : starts (drop c.in-Part.to c.args.s.now) (66 ∷ []) ≡ false = none_from c.args.s.now 66 ((let v : c.put_part-next.result ≡ moved_to c.put_part-next.result c.in-Part.to = ap (λ (i : ℕ). moved_to c.put_part-next.result i) (puts_at c.moved.ensures c.put_part-next.ensures) in v)) (ate_none c.args.s.now c.put_part-next.result 66 c.eat.ensures c.in_default-eat.is) in v))
+    unread
     c.moved.ensures
     c.put_part-next.ensures
     c.sum-n.ensures
@@ -59,7 +61,9 @@ returns-in_default-eat c =
 
 pub put-next-requires : goal.put-next-requires
 put-next-requires c =
-    (stack_by ((let v : Past c.args.s.now (moved_to c.put_part-next.result c.in-Part.to) 66 c.in-Next.behind = past_from ((let v : c.put_part-next.result ≡ moved_to c.put_part-next.result c.in-Part.to = ap (λ (i : ℕ). moved_to c.put_part-next.result i) (puts_at c.moved.ensures c.put_part-next.ensures) in v)) (ate _ _ 66 c.eat.ensures c.in-Next.is) in v)).next c.put_part-next.ensures.put.stack, omega arith)
+    let same : c.put_part-next.result ≡ moved_to c.put_part-next.result c.in-Part.to = ap (λ (i : ℕ). moved_to c.put_part-next.result i) (puts_at c.moved.ensures c.put_part-next.ensures) in
+    let passed : Past c.args.s.now (moved_to c.put_part-next.result c.in-Part.to) 66 c.in-Next.behind = past_from same (ate _ _ 66 c.eat.ensures c.in-Next.is) in
+    (stack_by passed.next c.put_part-next.ensures.put.stack, omega arith)
 
 pub sum-n-requires-in-loop-from : goal.sum-n-requires-in-loop-from
 sum-n-requires-in-loop-from c =
@@ -71,16 +75,20 @@ overflow_add-tags c =
 
 pub loop-from-smaller : goal.loop-from-smaller
 loop-from-smaller c =
+    let same : c.put_part-next.result ≡ moved_to c.put_part-next.result c.in-Part.to = ap (λ (i : ℕ). moved_to c.put_part-next.result i) (puts_at c.moved.ensures c.put_part-next.ensures) in
+    let passed : Past c.args.s.now (moved_to c.put_part-next.result c.in-Part.to) 66 c.in-Next.behind = past_from same (ate _ _ 66 c.eat.ensures c.in-Next.is) in
     let l = located c.loop-from.invariant (sym c.identifier.ensures ∙ c.in-Part.is) in
-    omega (arith, l.behind, l.some, l.inside, puts_at ((let v : Past c.args.s.now (moved_to c.put_part-next.result c.in-Part.to) 66 c.in-Next.behind = past_from ((let v : c.put_part-next.result ≡ moved_to c.put_part-next.result c.in-Part.to = ap (λ (i : ℕ). moved_to c.put_part-next.result i) (puts_at c.moved.ensures c.put_part-next.ensures) in v)) (ate _ _ 66 c.eat.ensures c.in-Next.is) in v)).next c.put-next.ensures)
+    omega (arith, l.behind, l.some, l.inside, puts_at passed.next c.put-next.ensures)
 
 pub loop-from-preserved : goal.loop-from-preserved
 loop-from-preserved c =
-    tagging_more c.loop-from.invariant (sym c.identifier.ensures ∙ c.in-Part.is) ((let v : Past c.args.s.now (moved_to c.put_part-next.result c.in-Part.to) 66 c.in-Next.behind = past_from ((let v : c.put_part-next.result ≡ moved_to c.put_part-next.result c.in-Part.to = ap (λ (i : ℕ). moved_to c.put_part-next.result i) (puts_at c.moved.ensures c.put_part-next.ensures) in v)) (ate _ _ 66 c.eat.ensures c.in-Next.is) in v)).ahead
-    ((let v : Past c.args.s.now (moved_to c.put_part-next.result c.in-Part.to) 66 c.in-Next.behind = past_from ((let v : c.put_part-next.result ≡ moved_to c.put_part-next.result c.in-Part.to = ap (λ (i : ℕ). moved_to c.put_part-next.result i) (puts_at c.moved.ensures c.put_part-next.ensures) in v)) (ate _ _ 66 c.eat.ensures c.in-Next.is) in v)).inside
+    let same : c.put_part-next.result ≡ moved_to c.put_part-next.result c.in-Part.to = ap (λ (i : ℕ). moved_to c.put_part-next.result i) (puts_at c.moved.ensures c.put_part-next.ensures) in
+    let passed : Past c.args.s.now (moved_to c.put_part-next.result c.in-Part.to) 66 c.in-Next.behind = past_from same (ate _ _ 66 c.eat.ensures c.in-Next.is) in
+    tagging_more c.loop-from.invariant (sym c.identifier.ensures ∙ c.in-Part.is) passed.ahead
+    passed.inside
     c.moved.ensures
     c.put_part-next.ensures
     c.sum-n.ensures
-    ((let v : Past c.args.s.now (moved_to c.put_part-next.result c.in-Part.to) 66 c.in-Next.behind = past_from ((let v : c.put_part-next.result ≡ moved_to c.put_part-next.result c.in-Part.to = ap (λ (i : ℕ). moved_to c.put_part-next.result i) (puts_at c.moved.ensures c.put_part-next.ensures) in v)) (ate _ _ 66 c.eat.ensures c.in-Next.is) in v)).next
+    passed.next
     c.put-next.ensures
     c.sum-n-in-loop-from.ensures

@@ -20,31 +20,42 @@ returns-in_default c =
 
 pub returns-in_default-take : goal.returns-in_default-take
 returns-in_default-take c =
-    λ σ h. by (sub_end _ _ σ h.rest ((let v : Past c.args.s.now c.args.p 83 c.in-Next.behind = ate _ _ 83 c.eat.ensures c.in-Next.is in v)).ahead (end_from
-    c.args.s.now ((let v : Past c.args.s.now c.args.p 83 c.in-Next.behind = ate _ _ 83 c.eat.ensures c.in-Next.is in v)).next (took_none
+    let passed : Past c.args.s.now c.args.p 83 c.in-Next.behind = ate _ _ 83 c.eat.ensures c.in-Next.is in
+    λ σ h. by (sub_end _ _ σ h.rest passed.ahead (end_from
+    c.args.s.now passed.next (took_none
     c.args.s.now c.in-Next.behind
     c.take.ensures c.in_default-take.is))) refuses
 
 pub old_entry-requires : goal.old_entry-requires
 old_entry-requires c =
-    ready_moved _ ((let v : Past c.args.s.now c.args.p 83 c.in-Next.behind = ate _ _ 83 c.eat.ensures c.in-Next.is in v)).next c.requires.1 (omega (arith, ((let v : Past c.args.s.now (moved_to c.args.p (c.args.p.at + 1)) c.in-Byte.c c.in-Byte.next = past_from ((let v : Past c.args.s.now c.args.p 83 c.in-Next.behind = ate _ _ 83 c.eat.ensures c.in-Next.is in v)).next (took _ _ c.take.ensures c.in-Byte.is) in v)).inside))
+    let passed : Past c.args.s.now c.args.p 83 c.in-Next.behind = ate _ _ 83 c.eat.ensures c.in-Next.is in
+    let passed2 : Past c.args.s.now (moved_to c.args.p (c.args.p.at + 1)) c.in-Byte.c c.in-Byte.next = past_from passed.next (took _ _ c.take.ensures c.in-Byte.is) in
+    ready_moved _ passed.next c.requires.1 (omega (arith, passed2.inside))
 
 pub returns-in_default-abbreviation : goal.returns-in_default-abbreviation
 returns-in_default-abbreviation c =
+    let passed : Past c.args.s.now c.args.p 83 c.in-Next.behind = ate _ _ 83 c.eat.ensures c.in-Next.is in
+    let passed2 : Past c.args.s.now (moved_to c.args.p (c.args.p.at + 1)) c.in-Byte.c c.in-Byte.next = past_from passed.next (took _ _ c.take.ensures c.in-Byte.is) in
+    let same : word_for abbreviations (c.in-Byte.c ∷ []) ≡ word_for abbreviations (get_or c.args.s.now (c.args.p.at + 1) 0 ∷ []) = ap (λ (x : ℕ). word_for abbreviations (x ∷ [])) (sym passed2.byte) in
     λ σ h.
     by
-    (sub_entry _ _ σ h.rest ((let v : Past c.args.s.now c.args.p 83 c.in-Next.behind = ate _ _ 83 c.eat.ensures c.in-Next.is in v)).ahead ((let v : Past c.args.s.now (moved_to c.args.p (c.args.p.at + 1)) c.in-Byte.c c.in-Byte.next = past_from ((let v : Past c.args.s.now c.args.p 83 c.in-Next.behind = ate _ _ 83 c.eat.ensures c.in-Next.is in v)).next (took _ _ c.take.ensures c.in-Byte.is) in v)).inside
-    (sym (spelled_none c.abbreviation.ensures c.in_default-abbreviation.is) ∙ (let v : word_for abbreviations (c.in-Byte.c ∷ []) ≡ word_for abbreviations (get_or c.args.s.now (c.args.p.at + 1) 0 ∷ []) = ap (λ (x : ℕ). word_for abbreviations (x ∷ [])) (sym ((let v : Past c.args.s.now (moved_to c.args.p (c.args.p.at + 1)) c.in-Byte.c c.in-Byte.next = past_from ((let v : Past c.args.s.now c.args.p 83 c.in-Next.behind = ate _ _ 83 c.eat.ensures c.in-Next.is in v)).next (took _ _ c.take.ensures c.in-Byte.is) in v)).byte) in v)))
-    (reads_moved ((let v : Past c.args.s.now c.args.p 83 c.in-Next.behind = ate _ _ 83 c.eat.ensures c.in-Next.is in v)).next c.old_entry.ensures h (omega (arith, ((let v : Past c.args.s.now (moved_to c.args.p (c.args.p.at + 1)) c.in-Byte.c c.in-Byte.next = past_from ((let v : Past c.args.s.now c.args.p 83 c.in-Next.behind = ate _ _ 83 c.eat.ensures c.in-Next.is in v)).next (took _ _ c.take.ensures c.in-Byte.is) in v)).inside)) (omega arith))
+    (sub_entry _ _ σ h.rest passed.ahead passed2.inside
+    (sym (spelled_none c.abbreviation.ensures c.in_default-abbreviation.is) ∙ same))
+    (reads_moved passed.next c.old_entry.ensures h (omega (arith, passed2.inside)) (omega arith))
 
 pub word-requires : goal.word-requires
 word-requires c =
-    (stack_by ((let v : Past c.args.s.now (moved_to c.args.p (c.args.p.at + 1)) c.in-Byte.c c.in-Byte.next = past_from ((let v : Past c.args.s.now c.args.p 83 c.in-Next.behind = ate _ _ 83 c.eat.ensures c.in-Next.is in v)).next (took _ _ c.take.ensures c.in-Byte.is) in v)).next c.requires.1.text, (spelled_at c.abbreviation.ensures c.in-Bytes.is).1)
+    let passed : Past c.args.s.now c.args.p 83 c.in-Next.behind = ate _ _ 83 c.eat.ensures c.in-Next.is in
+    let passed2 : Past c.args.s.now (moved_to c.args.p (c.args.p.at + 1)) c.in-Byte.c c.in-Byte.next = past_from passed.next (took _ _ c.take.ensures c.in-Byte.is) in
+    (stack_by passed2.next c.requires.1.text, (spelled_at c.abbreviation.ensures c.in-Bytes.is).1)
 
 pub returns : goal.returns
 returns c =
+    let passed : Past c.args.s.now c.args.p 83 c.in-Next.behind = ate _ _ 83 c.eat.ensures c.in-Next.is in
+    let passed2 : Past c.args.s.now (moved_to c.args.p (c.args.p.at + 1)) c.in-Byte.c c.in-Byte.next = past_from passed.next (took _ _ c.take.ensures c.in-Byte.is) in
+    let same : word_for abbreviations (c.in-Byte.c ∷ []) ≡ word_for abbreviations (get_or c.args.s.now (c.args.p.at + 1) 0 ∷ []) = ap (λ (x : ℕ). word_for abbreviations (x ∷ [])) (sym passed2.byte) in
     λ σ h.
     by
-    (sub_word _ _ σ h.rest ((let v : Past c.args.s.now c.args.p 83 c.in-Next.behind = ate _ _ 83 c.eat.ensures c.in-Next.is in v)).ahead ((let v : Past c.args.s.now (moved_to c.args.p (c.args.p.at + 1)) c.in-Byte.c c.in-Byte.next = past_from ((let v : Past c.args.s.now c.args.p 83 c.in-Next.behind = ate _ _ 83 c.eat.ensures c.in-Next.is in v)).next (took _ _ c.take.ensures c.in-Byte.is) in v)).inside _
-    (sym (spelled_at c.abbreviation.ensures c.in-Bytes.is).0.0 ∙ (let v : word_for abbreviations (c.in-Byte.c ∷ []) ≡ word_for abbreviations (get_or c.args.s.now (c.args.p.at + 1) 0 ∷ []) = ap (λ (x : ℕ). word_for abbreviations (x ∷ [])) (sym ((let v : Past c.args.s.now (moved_to c.args.p (c.args.p.at + 1)) c.in-Byte.c c.in-Byte.next = past_from ((let v : Past c.args.s.now c.args.p 83 c.in-Next.behind = ate _ _ 83 c.eat.ensures c.in-Next.is in v)).next (took _ _ c.take.ensures c.in-Byte.is) in v)).byte) in v)))
-    (reads_moved ((let v : Past c.args.s.now (moved_to c.args.p (c.args.p.at + 1)) c.in-Byte.c c.in-Byte.next = past_from ((let v : Past c.args.s.now c.args.p 83 c.in-Next.behind = ate _ _ 83 c.eat.ensures c.in-Next.is in v)).next (took _ _ c.take.ensures c.in-Byte.is) in v)).next (c.word.ensures _ _ _) h (omega (arith, ((let v : Past c.args.s.now (moved_to c.args.p (c.args.p.at + 1)) c.in-Byte.c c.in-Byte.next = past_from ((let v : Past c.args.s.now c.args.p 83 c.in-Next.behind = ate _ _ 83 c.eat.ensures c.in-Next.is in v)).next (took _ _ c.take.ensures c.in-Byte.is) in v)).inside)) (omega arith))
+    (sub_word _ _ σ h.rest passed.ahead passed2.inside _
+    (sym (spelled_at c.abbreviation.ensures c.in-Bytes.is).0.0 ∙ same))
+    (reads_moved passed2.next (c.word.ensures _ _ _) h (omega (arith, passed2.inside)) (omega arith))

@@ -26,41 +26,62 @@ returns-in_default c =
 
 pub before-end-requires : goal.before-end-requires
 before-end-requires c =
-    omega (arith, ((let v : Past c.args.s.now c.args.p c.in-Byte.kind c.in-Byte.behind = took _ _ c.take.ensures c.in-Byte.is in v)).inside, (let v : c.in-Byte.behind.at ≡ c.args.p.at + 1 = ap (λ (z : Parser). z.at) ((let v : Past c.args.s.now c.args.p c.in-Byte.kind c.in-Byte.behind = took _ _ c.take.ensures c.in-Byte.is in v)).next in v))
+    let passed : Past c.args.s.now c.args.p c.in-Byte.kind c.in-Byte.behind = took _ _ c.take.ensures c.in-Byte.is in
+    let same : c.in-Byte.behind.at ≡ c.args.p.at + 1 = ap (λ (z : Parser). z.at) passed.next in
+    omega (arith, passed.inside, same)
 
 pub returns-then-s-end : goal.returns-then-s-end
 returns-then-s-end c =
-    λ store ends σ h. by (unnamed_open _ _ σ h.rest ((let v : Past c.args.s.now c.args.p c.in-Byte.kind c.in-Byte.behind = took _ _ c.take.ensures c.in-Byte.is in v)).inside (((let v : Past c.args.s.now c.args.p c.in-Byte.kind c.in-Byte.behind = took _ _ c.take.ensures c.in-Byte.is in v)).byte ∙ c.if-kind-eq108.true) (omega (arith, (let v : c.before-end.result ≡ c.args.p.at + 1 + length (run (λ x. not (eqb x 69)) (drop (c.args.p.at + 1) c.args.s.now)) = subst (λ (i : ℕ). c.before-end.result ≡ i + length (run (λ x. not (eqb x 69)) (drop i c.args.s.now))) ((let v : c.in-Byte.behind.at ≡ c.args.p.at + 1 = ap (λ (z : Parser). z.at) ((let v : Past c.args.s.now c.args.p c.in-Byte.kind c.in-Byte.behind = took _ _ c.take.ensures c.in-Byte.is in v)).next in v)) c.before-end.ensures.0 in v), c.if-s-end.true))) refuses
+    let passed : Past c.args.s.now c.args.p c.in-Byte.kind c.in-Byte.behind = took _ _ c.take.ensures c.in-Byte.is in
+    let same : c.in-Byte.behind.at ≡ c.args.p.at + 1 = ap (λ (z : Parser). z.at) passed.next in
+    let same2 : c.before-end.result ≡ c.args.p.at + 1 + length (run (λ x. not (eqb x 69)) (drop (c.args.p.at + 1) c.args.s.now)) =
+    subst (λ (i : ℕ). c.before-end.result ≡ i + length (run (λ x. not (eqb x 69)) (drop i c.args.s.now))) same c.before-end.ensures.0 in
+    λ store ends σ h. by (unnamed_open _ _ σ h.rest passed.inside (passed.byte ∙ c.if-kind-eq108.true) (omega (arith, same2, c.if-s-end.true))) refuses
 
 pub put-requires : goal.put-requires
 put-requires c =
-    (stack_by ((let v : c.moved.result ≡ moved_to c.args.p c.numbered-next.result = c.moved.ensures ∙ ap (λ (z : Parser). moved_to z c.numbered-next.result) ((let v : Past c.args.s.now c.args.p c.in-Byte.kind c.in-Byte.behind = took _ _ c.take.ensures c.in-Byte.is in v)).next in v)) c.requires, omega arith)
+    let passed : Past c.args.s.now c.args.p c.in-Byte.kind c.in-Byte.behind = took _ _ c.take.ensures c.in-Byte.is in
+    let same : c.moved.result ≡ moved_to c.args.p c.numbered-next.result = c.moved.ensures ∙ ap (λ (z : Parser). moved_to z c.numbered-next.result) passed.next in
+    (stack_by same c.requires, omega arith)
 
 pub returns-then-kind-eq108 : goal.returns-then-kind-eq108
 returns-then-kind-eq108 c =
+    let passed : Past c.args.s.now c.args.p c.in-Byte.kind c.in-Byte.behind = took _ _ c.take.ensures c.in-Byte.is in
+    let same : c.in-Byte.behind.at ≡ c.args.p.at + 1 = ap (λ (z : Parser). z.at) passed.next in
+    let same2 : c.before-end.result ≡ c.args.p.at + 1 + length (run (λ x. not (eqb x 69)) (drop (c.args.p.at + 1) c.args.s.now)) =
+    subst (λ (i : ℕ). c.before-end.result ≡ i + length (run (λ x. not (eqb x 69)) (drop i c.args.s.now))) same c.before-end.ensures.0 in
+    let same3 : c.moved.result ≡ moved_to c.args.p c.numbered-next.result = c.moved.ensures ∙ ap (λ (z : Parser). moved_to z c.numbered-next.result) passed.next in
     λ store ends σ h.
-    let e = c.numbered-next.ensures.0 ∙ ap (λ (i : ℕ). behind_number c.args.s.now (i + 1)) ((let v : c.before-end.result ≡ c.args.p.at + 1 + length (run (λ x. not (eqb x 69)) (drop (c.args.p.at + 1) c.args.s.now)) = subst (λ (i : ℕ). c.before-end.result ≡ i + length (run (λ x. not (eqb x 69)) (drop i c.args.s.now))) ((let v : c.in-Byte.behind.at ≡ c.args.p.at + 1 = ap (λ (z : Parser). z.at) ((let v : Past c.args.s.now c.args.p c.in-Byte.kind c.in-Byte.behind = took _ _ c.take.ensures c.in-Byte.is in v)).next in v)) c.before-end.ensures.0 in v)) in
+    let e = c.numbered-next.ensures.0 ∙ ap (λ (i : ℕ). behind_number c.args.s.now (i + 1)) same2 in
     by
-    (unnamed_lambda _ _ σ h.rest ((let v : Past c.args.s.now c.args.p c.in-Byte.kind c.in-Byte.behind = took _ _ c.take.ensures c.in-Byte.is in v)).inside
-    (((let v : Past c.args.s.now c.args.p c.in-Byte.kind c.in-Byte.behind = took _ _ c.take.ensures c.in-Byte.is in v)).byte ∙ c.if-kind-eq108.true)
-    (omega (arith, (let v : c.before-end.result ≡ c.args.p.at + 1 + length (run (λ x. not (eqb x 69)) (drop (c.args.p.at + 1) c.args.s.now)) = subst (λ (i : ℕ). c.before-end.result ≡ i + length (run (λ x. not (eqb x 69)) (drop i c.args.s.now))) ((let v : c.in-Byte.behind.at ≡ c.args.p.at + 1 = ap (λ (z : Parser). z.at) ((let v : Past c.args.s.now c.args.p c.in-Byte.kind c.in-Byte.behind = took _ _ c.take.ensures c.in-Byte.is in v)).next in v)) c.before-end.ensures.0 in v), c.if-s-end.false))
+    (unnamed_lambda _ _ σ h.rest passed.inside
+    (passed.byte ∙ c.if-kind-eq108.true)
+    (omega (arith, same2, c.if-s-end.false))
     ∙ ap (λ (i : ℕ). give lambda (moved (drop i c.args.s.now) σ)) (sym e))
-    (wrote_one (holds_moved h c.numbered-next.result c.numbered-next.ensures.1) (puts_from ((let v : c.moved.result ≡ moved_to c.args.p c.numbered-next.result = c.moved.ensures ∙ ap (λ (z : Parser). moved_to z c.numbered-next.result) ((let v : Past c.args.s.now c.args.p c.in-Byte.kind c.in-Byte.behind = took _ _ c.take.ensures c.in-Byte.is in v)).next in v)) c.put.ensures) refl (omega arith)
-    (omega (arith, c.numbered-next.ensures.0, number_more c.args.s.now (c.before-end.result + 1), (let v : c.before-end.result ≡ c.args.p.at + 1 + length (run (λ x. not (eqb x 69)) (drop (c.args.p.at + 1) c.args.s.now)) = subst (λ (i : ℕ). c.before-end.result ≡ i + length (run (λ x. not (eqb x 69)) (drop i c.args.s.now))) ((let v : c.in-Byte.behind.at ≡ c.args.p.at + 1 = ap (λ (z : Parser). z.at) ((let v : Past c.args.s.now c.args.p c.in-Byte.kind c.in-Byte.behind = took _ _ c.take.ensures c.in-Byte.is in v)).next in v)) c.before-end.ensures.0 in v))))
+    (wrote_one (holds_moved h c.numbered-next.result c.numbered-next.ensures.1) (puts_from same3 c.put.ensures) refl (omega arith)
+    (omega (arith, c.numbered-next.ensures.0, number_more c.args.s.now (c.before-end.result + 1), same2)))
 
 pub numbered-next-requires-2 : goal.numbered-next-requires-2
 numbered-next-requires-2 c =
-    omega (arith, ((let v : Past c.args.s.now c.args.p c.in-Byte.kind c.in-Byte.behind = took _ _ c.take.ensures c.in-Byte.is in v)).inside, (let v : c.in-Byte.behind.at ≡ c.args.p.at + 1 = ap (λ (z : Parser). z.at) ((let v : Past c.args.s.now c.args.p c.in-Byte.kind c.in-Byte.behind = took _ _ c.take.ensures c.in-Byte.is in v)).next in v))
+    let passed : Past c.args.s.now c.args.p c.in-Byte.kind c.in-Byte.behind = took _ _ c.take.ensures c.in-Byte.is in
+    let same : c.in-Byte.behind.at ≡ c.args.p.at + 1 = ap (λ (z : Parser). z.at) passed.next in
+    omega (arith, passed.inside, same)
 
 pub put-requires-2 : goal.put-requires-2
 put-requires-2 c =
-    (stack_by ((let v : c.moved-2.result ≡ moved_to c.args.p c.numbered-next-2.result = c.moved-2.ensures ∙ ap (λ (z : Parser). moved_to z c.numbered-next-2.result) ((let v : Past c.args.s.now c.args.p c.in-Byte.kind c.in-Byte.behind = took _ _ c.take.ensures c.in-Byte.is in v)).next in v)) c.requires, omega arith)
+    let passed : Past c.args.s.now c.args.p c.in-Byte.kind c.in-Byte.behind = took _ _ c.take.ensures c.in-Byte.is in
+    let same : c.moved-2.result ≡ moved_to c.args.p c.numbered-next-2.result = c.moved-2.ensures ∙ ap (λ (z : Parser). moved_to z c.numbered-next-2.result) passed.next in
+    (stack_by same c.requires, omega arith)
 
 pub returns : goal.returns
 returns c =
+    let passed : Past c.args.s.now c.args.p c.in-Byte.kind c.in-Byte.behind = took _ _ c.take.ensures c.in-Byte.is in
+    let same : c.in-Byte.behind.at ≡ c.args.p.at + 1 = ap (λ (z : Parser). z.at) passed.next in
+    let same2 : c.numbered-next-2.result ≡ behind_number c.args.s.now (c.args.p.at + 1) = c.numbered-next-2.ensures.0 ∙ ap (behind_number c.args.s.now) same in
+    let same3 : c.moved-2.result ≡ moved_to c.args.p c.numbered-next-2.result = c.moved-2.ensures ∙ ap (λ (z : Parser). moved_to z c.numbered-next-2.result) passed.next in
     λ store ends σ h.
     by
-    (unnamed_other _ _ σ h.rest ((let v : Past c.args.s.now c.args.p c.in-Byte.kind c.in-Byte.behind = took _ _ c.take.ensures c.in-Byte.is in v)).inside (λ z. c.if-kind-eq108.false (sym ((let v : Past c.args.s.now c.args.p c.in-Byte.kind c.in-Byte.behind = took _ _ c.take.ensures c.in-Byte.is in v)).byte ∙ z))
-    ∙ ap (λ (i : ℕ). give no_name (moved (drop i c.args.s.now) σ)) (sym ((let v : c.numbered-next-2.result ≡ behind_number c.args.s.now (c.args.p.at + 1) = c.numbered-next-2.ensures.0 ∙ ap (behind_number c.args.s.now) ((let v : c.in-Byte.behind.at ≡ c.args.p.at + 1 = ap (λ (z : Parser). z.at) ((let v : Past c.args.s.now c.args.p c.in-Byte.kind c.in-Byte.behind = took _ _ c.take.ensures c.in-Byte.is in v)).next in v)) in v))))
-    (wrote_one (holds_moved h c.numbered-next-2.result c.numbered-next-2.ensures.1) (puts_from ((let v : c.moved-2.result ≡ moved_to c.args.p c.numbered-next-2.result = c.moved-2.ensures ∙ ap (λ (z : Parser). moved_to z c.numbered-next-2.result) ((let v : Past c.args.s.now c.args.p c.in-Byte.kind c.in-Byte.behind = took _ _ c.take.ensures c.in-Byte.is in v)).next in v)) c.put-2.ensures) refl (omega arith)
-    (omega (arith, (let v : c.numbered-next-2.result ≡ behind_number c.args.s.now (c.args.p.at + 1) = c.numbered-next-2.ensures.0 ∙ ap (behind_number c.args.s.now) ((let v : c.in-Byte.behind.at ≡ c.args.p.at + 1 = ap (λ (z : Parser). z.at) ((let v : Past c.args.s.now c.args.p c.in-Byte.kind c.in-Byte.behind = took _ _ c.take.ensures c.in-Byte.is in v)).next in v)) in v), number_more c.args.s.now (c.args.p.at + 1))))
+    (unnamed_other _ _ σ h.rest passed.inside (λ z. c.if-kind-eq108.false (sym passed.byte ∙ z))
+    ∙ ap (λ (i : ℕ). give no_name (moved (drop i c.args.s.now) σ)) (sym same2))
+    (wrote_one (holds_moved h c.numbered-next-2.result c.numbered-next-2.ensures.1) (puts_from same3 c.put-2.ensures) refl (omega arith)
+    (omega (arith, same2, number_more c.args.s.now (c.args.p.at + 1))))

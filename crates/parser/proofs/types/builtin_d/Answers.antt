@@ -53,15 +53,18 @@ returns-in_default c store ends rest σ e h =
 pub returns-in_default-builtin_d : goal.returns-in_default-builtin_d
 unfolding b
 returns-in_default-builtin_d c store ends rest σ e h =
-    by (unknown σ (e ∙ ap (λ (z : Text). 68 ∷ z) (behind-d c.args.s.now c.args.p.at (sym h.rest ∙ e) ∙ ((let v : Past c.args.s.now (moved_to c.args.p (c.args.p.at + 1)) c.in-Byte.c c.in-Byte.next = past_from c.moved.ensures (took _ _ c.take.ensures c.in-Byte.is) in v)).there)) (spelled_none c.builtin_d.ensures c.in_default-builtin_d.is)) refuses
+    let passed : Past c.args.s.now (moved_to c.args.p (c.args.p.at + 1)) c.in-Byte.c c.in-Byte.next = past_from c.moved.ensures (took _ _ c.take.ensures c.in-Byte.is) in
+    by (unknown σ (e ∙ ap (λ (z : Text). 68 ∷ z) (behind-d c.args.s.now c.args.p.at (sym h.rest ∙ e) ∙ passed.there)) (spelled_none c.builtin_d.ensures c.in_default-builtin_d.is)) refuses
 
 pub word-requires : goal.word-requires
 word-requires c =
-    (rw ((let v : Past c.args.s.now (moved_to c.args.p (c.args.p.at + 1)) c.in-Byte.c c.in-Byte.next = past_from c.moved.ensures (took _ _ c.take.ensures c.in-Byte.is) in v)).next c.requires.1.1.1.text, (spelled_at c.builtin_d.ensures c.in-Bytes.is).1)
+    let passed : Past c.args.s.now (moved_to c.args.p (c.args.p.at + 1)) c.in-Byte.c c.in-Byte.next = past_from c.moved.ensures (took _ _ c.take.ensures c.in-Byte.is) in
+    (rw passed.next c.requires.1.1.1.text, (spelled_at c.builtin_d.ensures c.in-Bytes.is).1)
 
 pub returns : goal.returns
 unfolding b
 returns c store ends rest σ e h =
+    let passed : Past c.args.s.now (moved_to c.args.p (c.args.p.at + 1)) c.in-Byte.c c.in-Byte.next = past_from c.moved.ensures (took _ _ c.take.ensures c.in-Byte.is) in
     let w = spelled_at c.builtin_d.ensures c.in-Bytes.is in
-    by (known σ (e ∙ ap (λ (z : Text). 68 ∷ z) (behind-d c.args.s.now c.args.p.at (sym h.rest ∙ e) ∙ ((let v : Past c.args.s.now (moved_to c.args.p (c.args.p.at + 1)) c.in-Byte.c c.in-Byte.next = past_from c.moved.ensures (took _ _ c.take.ensures c.in-Byte.is) in v)).there)) w.0.0)
-    (sooner (omega arith) (reads_at ((let v : Past c.args.s.now (moved_to c.args.p (c.args.p.at + 1)) c.in-Byte.c c.in-Byte.next = past_from c.moved.ensures (took _ _ c.take.ensures c.in-Byte.is) in v)).next (c.word.ensures c.args.s.now store ends) _ (holds_moved h (c.args.p.at + 1 + 1) (omega (arith, ((let v : Past c.args.s.now (moved_to c.args.p (c.args.p.at + 1)) c.in-Byte.c c.in-Byte.next = past_from c.moved.ensures (took _ _ c.take.ensures c.in-Byte.is) in v)).inside)))))
+    by (known σ (e ∙ ap (λ (z : Text). 68 ∷ z) (behind-d c.args.s.now c.args.p.at (sym h.rest ∙ e) ∙ passed.there)) w.0.0)
+    (sooner (omega arith) (reads_at passed.next (c.word.ensures c.args.s.now store ends) _ (holds_moved h (c.args.p.at + 1 + 1) (omega (arith, passed.inside)))))

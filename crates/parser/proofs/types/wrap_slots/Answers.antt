@@ -21,38 +21,52 @@ returns-in_default c k d s base from t σ w e h =
 
 pub woven-size-requires : goal.woven-size-requires
 woven-size-requires c =
-    (omega (arith, c.requires.1.1.0), (omega (arith, c.requires.1.1.0, c.requires.1.1.1.0), omega (arith, ((let v : ((word_for at_slot (c.args.c ∷ []) ≡ some (take c.in-Bytes.each c.slot_wrapper.new.word)) × (length (take c.in-Bytes.each c.slot_wrapper.new.word) ≡ c.in-Bytes.each)) × (c.in-Bytes.each ≤ longest_word) = spelled_at c.slot_wrapper.ensures c.in-Bytes.is in v)).1)))
+    let both_are : ((word_for at_slot (c.args.c ∷ []) ≡ some (take c.in-Bytes.each c.slot_wrapper.new.word)) × (length (take c.in-Bytes.each c.slot_wrapper.new.word) ≡ c.in-Bytes.each)) × (c.in-Bytes.each ≤ longest_word) =
+    spelled_at c.slot_wrapper.ensures c.in-Bytes.is in
+    (omega (arith, c.requires.1.1.0), (omega (arith, c.requires.1.1.0, c.requires.1.1.1.0), omega (arith, both_are.1)))
 
 pub returns-then-size-gt-TEXT : goal.returns-then-size-gt-TEXT
 returns-then-size-gt-TEXT c k d s base from t σ w e h =
+    let both_are : ((word_for at_slot (c.args.c ∷ []) ≡ some (take c.in-Bytes.each c.slot_wrapper.new.word)) × (length (take c.in-Bytes.each c.slot_wrapper.new.word) ≡ c.in-Bytes.each)) × (c.in-Bytes.each ≤ longest_word) =
+    spelled_at c.slot_wrapper.ensures c.in-Bytes.is in
     let l : length t ≡ c.args.n = omega (arith, h.size, c.requires.1.1.0) in
-    let x = (let v : ((word_for at_slot (c.args.c ∷ []) ≡ some (take c.in-Bytes.each c.slot_wrapper.new.word)) × (length (take c.in-Bytes.each c.slot_wrapper.new.word) ≡ c.in-Bytes.each)) × (c.in-Bytes.each ≤ longest_word) = spelled_at c.slot_wrapper.ensures c.in-Bytes.is in v) in
+    let x = both_are in
     let f = some_is (sym x.0.0 ∙ e) in
     let z = woven_size w t l (ap slots_in (sym (newest_text h (omega (arith, l, c.requires.1.1.0)))) ∙ sym c.requires.1.1.1.1) (ap length (sym f) ∙ x.0.1) in
     c.too_long.ensures k d s base from _ _ (at_slots w t) σ h.holds (omega (arith, z, c.woven-size.ensures)) c.if-size-gt-TEXT.true
 
 pub slice_bounds-word-end : goal.slice_bounds-word-end
 slice_bounds-word-end c =
-    omega (arith, ((let v : ((word_for at_slot (c.args.c ∷ []) ≡ some (take c.in-Bytes.each c.slot_wrapper.new.word)) × (length (take c.in-Bytes.each c.slot_wrapper.new.word) ≡ c.in-Bytes.each)) × (c.in-Bytes.each ≤ longest_word) = spelled_at c.slot_wrapper.ensures c.in-Bytes.is in v)).0.1, length-take c.in-Bytes.each c.slot_wrapper.new.word)
+    let both_are : ((word_for at_slot (c.args.c ∷ []) ≡ some (take c.in-Bytes.each c.slot_wrapper.new.word)) × (length (take c.in-Bytes.each c.slot_wrapper.new.word) ≡ c.in-Bytes.each)) × (c.in-Bytes.each ≤ longest_word) =
+    spelled_at c.slot_wrapper.ensures c.in-Bytes.is in
+    omega (arith, both_are.0.1, length-take c.in-Bytes.each c.slot_wrapper.new.word)
 
 pub slice_bounds-weave_word-end : goal.slice_bounds-weave_word-end
 slice_bounds-weave_word-end c =
-    sym ((let v : ((word_for at_slot (c.args.c ∷ []) ≡ some (take c.in-Bytes.each c.slot_wrapper.new.word)) × (length (take c.in-Bytes.each c.slot_wrapper.new.word) ≡ c.in-Bytes.each)) × (c.in-Bytes.each ≤ longest_word) = spelled_at c.slot_wrapper.ensures c.in-Bytes.is in v)).0.1
+    let both_are : ((word_for at_slot (c.args.c ∷ []) ≡ some (take c.in-Bytes.each c.slot_wrapper.new.word)) × (length (take c.in-Bytes.each c.slot_wrapper.new.word) ≡ c.in-Bytes.each)) × (c.in-Bytes.each ≤ longest_word) =
+    spelled_at c.slot_wrapper.ensures c.in-Bytes.is in
+    sym both_are.0.1
 
 pub weave_word-put-requires : goal.weave_word-put-requires
 weave_word-put-requires c =
-    let x = (let v : ((word_for at_slot (c.args.c ∷ []) ≡ some (take c.in-Bytes.each c.slot_wrapper.new.word)) × (length (take c.in-Bytes.each c.slot_wrapper.new.word) ≡ c.in-Bytes.each)) × (c.in-Bytes.each ≤ longest_word) = spelled_at c.slot_wrapper.ensures c.in-Bytes.is in v) in
+    let both_are : ((word_for at_slot (c.args.c ∷ []) ≡ some (take c.in-Bytes.each c.slot_wrapper.new.word)) × (length (take c.in-Bytes.each c.slot_wrapper.new.word) ≡ c.in-Bytes.each)) × (c.in-Bytes.each ≤ longest_word) =
+    spelled_at c.slot_wrapper.ensures c.in-Bytes.is in
+    let x = both_are in
     (c.requires.0.1.1.text, (omega (arith, x.0.1, x.1), (c.requires.1.0, omega (arith, c.if-size-gt-TEXT.false, c.woven-size.ensures, ap (λ (j : ℕ). j * c.in-Bytes.each) c.requires.1.1.1.1, ap (λ (j : ℕ). slots_in (newest c.args.text.now c.args.p.top c.args.n) * j) x.0.1))))
 
 pub cut-next-requires : goal.cut-next-requires
 cut-next-requires c =
-    let x = (let v : ((word_for at_slot (c.args.c ∷ []) ≡ some (take c.in-Bytes.each c.slot_wrapper.new.word)) × (length (take c.in-Bytes.each c.slot_wrapper.new.word) ≡ c.in-Bytes.each)) × (c.in-Bytes.each ≤ longest_word) = spelled_at c.slot_wrapper.ensures c.in-Bytes.is in v) in
+    let both_are : ((word_for at_slot (c.args.c ∷ []) ≡ some (take c.in-Bytes.each c.slot_wrapper.new.word)) × (length (take c.in-Bytes.each c.slot_wrapper.new.word) ≡ c.in-Bytes.each)) × (c.in-Bytes.each ≤ longest_word) =
+    spelled_at c.slot_wrapper.ensures c.in-Bytes.is in
+    let x = both_are in
     let z = woven_size (take c.in-Bytes.each c.slot_wrapper.new.word) (newest c.args.text.now c.args.p.top c.args.n) (newest_size c.args.n c.requires.0.1.1.text c.requires.1.0) (sym c.requires.1.1.1.1) x.0.1 in
     (c.weave_word-put.ensures.put.stack, omega (arith, puts_top c.args.n c.requires.0.1.1.text c.weave_word-put.ensures c.requires.1.0 (omega (arith, c.requires.1.1.0)), z, c.woven-size.ensures, c.if-size-gt-TEXT.false))
 
 pub recorded-requires : goal.recorded-requires
 recorded-requires c =
-    let x = (let v : ((word_for at_slot (c.args.c ∷ []) ≡ some (take c.in-Bytes.each c.slot_wrapper.new.word)) × (length (take c.in-Bytes.each c.slot_wrapper.new.word) ≡ c.in-Bytes.each)) × (c.in-Bytes.each ≤ longest_word) = spelled_at c.slot_wrapper.ensures c.in-Bytes.is in v) in
+    let both_are : ((word_for at_slot (c.args.c ∷ []) ≡ some (take c.in-Bytes.each c.slot_wrapper.new.word)) × (length (take c.in-Bytes.each c.slot_wrapper.new.word) ≡ c.in-Bytes.each)) × (c.in-Bytes.each ≤ longest_word) =
+    spelled_at c.slot_wrapper.ensures c.in-Bytes.is in
+    let x = both_are in
     let z = woven_size (take c.in-Bytes.each c.slot_wrapper.new.word) (newest c.args.text.now c.args.p.top c.args.n) (newest_size c.args.n c.requires.0.1.1.text c.requires.1.0) (sym c.requires.1.1.1.1) x.0.1 in (
       (c.requires.0.0, (c.requires.0.1.0, holds_cuts c.cut-next.ensures (holds_puts c.weave_word-put.ensures c.requires.0.1.1))),
       omega (
@@ -67,8 +81,10 @@ recorded-requires c =
 
 pub returns : goal.returns
 returns c k d s base from t σ w e h =
+    let both_are : ((word_for at_slot (c.args.c ∷ []) ≡ some (take c.in-Bytes.each c.slot_wrapper.new.word)) × (length (take c.in-Bytes.each c.slot_wrapper.new.word) ≡ c.in-Bytes.each)) × (c.in-Bytes.each ≤ longest_word) =
+    spelled_at c.slot_wrapper.ensures c.in-Bytes.is in
     let l : length t ≡ c.args.n = omega (arith, h.size, c.requires.1.1.0) in
-    let x = (let v : ((word_for at_slot (c.args.c ∷ []) ≡ some (take c.in-Bytes.each c.slot_wrapper.new.word)) × (length (take c.in-Bytes.each c.slot_wrapper.new.word) ≡ c.in-Bytes.each)) × (c.in-Bytes.each ≤ longest_word) = spelled_at c.slot_wrapper.ensures c.in-Bytes.is in v) in
+    let x = both_are in
     let f = some_is (sym x.0.0 ∙ e) in
     let g = newest_text h (omega (arith, l, c.requires.1.1.0)) in
     let z = woven_size w t l (ap slots_in (sym g) ∙ sym c.requires.1.1.1.1) (ap length (sym f) ∙ x.0.1) in

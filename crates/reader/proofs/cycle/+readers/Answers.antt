@@ -65,11 +65,14 @@ arg-eat-requires t c =
 
 pub arg-expression-requires : goal.arg-expression-requires
 arg-expression-requires t c =
-    (omega (arith, ((let v : Past c.args.s.now c.args.p 88 c.in-Next.behind = ate _ _ 88 c.eat.ensures c.in-Next.is in v)).inside, ap (λ (z : Parser). z.at) ((let v : Past c.args.s.now c.args.p 88 c.in-Next.behind = ate _ _ 88 c.eat.ensures c.in-Next.is in v)).next), c.requires.1.source)
+    let passed : Past c.args.s.now c.args.p 88 c.in-Next.behind = ate _ _ 88 c.eat.ensures c.in-Next.is in
+    (omega (arith, passed.inside, ap (λ (z : Parser). z.at) passed.next), c.requires.1.source)
 
 pub arg-returns-in_default-expression : goal.arg-returns-in_default-expression
 arg-returns-in_default-expression t c =
-    λ σ h. by (arg_open c.args.s.now c.args.p.at σ h.rest (ahead_is _ _ _ h.rest refl ((let v : Past c.args.s.now c.args.p 88 c.in-Next.behind = ate _ _ 88 c.eat.ensures c.in-Next.is in v)).ahead) (skips_none ((let v : Skips c.args.s.now (c.args.p.at + 1) c.expression.result = subst (λ (i : ℕ). Skips c.args.s.now i c.expression.result) (ap (λ (z : Parser). z.at) ((let v : Past c.args.s.now c.args.p 88 c.in-Next.behind = ate _ _ 88 c.eat.ensures c.in-Next.is in v)).next) c.expression.ensures in v)) c.in_default-expression.is)) refuses
+    let passed : Past c.args.s.now c.args.p 88 c.in-Next.behind = ate _ _ 88 c.eat.ensures c.in-Next.is in
+    let known : Skips c.args.s.now (c.args.p.at + 1) c.expression.result = subst (λ (i : ℕ). Skips c.args.s.now i c.expression.result) (ap (λ (z : Parser). z.at) passed.next) c.expression.ensures in
+    λ σ h. by (arg_open c.args.s.now c.args.p.at σ h.rest (ahead_is _ _ _ h.rest refl passed.ahead) (skips_none known c.in_default-expression.is)) refuses
 
 pub arg-moved-requires : goal.arg-moved-requires
 arg-moved-requires t c =
@@ -77,15 +80,20 @@ arg-moved-requires t c =
 
 pub arg-put-requires : goal.arg-put-requires
 arg-put-requires t c =
-    (stack_by ((let v : c.moved.result ≡ moved_to c.args.p c.in-To.end = c.moved.ensures ∙ ap (λ (z : Parser). moved_to z c.in-To.end) ((let v : Past c.args.s.now c.args.p 88 c.in-Next.behind = ate _ _ 88 c.eat.ensures c.in-Next.is in v)).next in v)) c.requires.1.text, omega arith)
+    let passed : Past c.args.s.now c.args.p 88 c.in-Next.behind = ate _ _ 88 c.eat.ensures c.in-Next.is in
+    let same : c.moved.result ≡ moved_to c.args.p c.in-To.end = c.moved.ensures ∙ ap (λ (z : Parser). moved_to z c.in-To.end) passed.next in
+    (stack_by same c.requires.1.text, omega arith)
 
 pub arg-returns-in-Next : goal.arg-returns-in-Next
 arg-returns-in-Next t c =
+    let passed : Past c.args.s.now c.args.p 88 c.in-Next.behind = ate _ _ 88 c.eat.ensures c.in-Next.is in
+    let known : Skips c.args.s.now (c.args.p.at + 1) c.expression.result = subst (λ (i : ℕ). Skips c.args.s.now i c.expression.result) (ap (λ (z : Parser). z.at) passed.next) c.expression.ensures in
+    let same : c.moved.result ≡ moved_to c.args.p c.in-To.end = c.moved.ensures ∙ ap (λ (z : Parser). moved_to z c.in-To.end) passed.next in
     λ σ h.
-    let k = skips_to ((let v : Skips c.args.s.now (c.args.p.at + 1) c.expression.result = subst (λ (i : ℕ). Skips c.args.s.now i c.expression.result) (ap (λ (z : Parser). z.at) ((let v : Past c.args.s.now c.args.p 88 c.in-Next.behind = ate _ _ 88 c.eat.ensures c.in-Next.is in v)).next) c.expression.ensures in v)) c.in-To.is in
+    let k = skips_to known c.in-To.is in
     by (arg_skipped c.args.s.now c.args.p.at σ h.rest
-    (ahead_is _ _ _ h.rest refl ((let v : Past c.args.s.now c.args.p 88 c.in-Next.behind = ate _ _ 88 c.eat.ensures c.in-Next.is in v)).ahead) k.0)
-    (less (omega (arith, h.deep)) (wrote_one (holds_moved h _ k.1.1) (puts_from ((let v : c.moved.result ≡ moved_to c.args.p c.in-To.end = c.moved.ensures ∙ ap (λ (z : Parser). moved_to z c.in-To.end) ((let v : Past c.args.s.now c.args.p 88 c.in-Next.behind = ate _ _ 88 c.eat.ensures c.in-Next.is in v)).next in v)) c.put.ensures) refl (omega arith) k.1.0))
+    (ahead_is _ _ _ h.rest refl passed.ahead) k.0)
+    (less (omega (arith, h.deep)) (wrote_one (holds_moved h _ k.1.1) (puts_from same c.put.ensures) refl (omega arith) k.1.0))
 
 pub arg-eat-requires-2 : goal.arg-eat-requires-2
 arg-eat-requires-2 t c =
@@ -93,18 +101,20 @@ arg-eat-requires-2 t c =
 
 pub arg-pack-requires : goal.arg-pack-requires
 arg-pack-requires t c =
-    let i = ((let v : Past c.args.s.now c.args.p 74 c.in-Next-eat.behind = ate _ _ 74 c.eat-2.ensures c.in-Next-eat.is in v)).inside in
-    (omega (arith, c.decreases, i, ap (λ (z : Parser). z.at) ((let v : Past c.args.s.now c.args.p 74 c.in-Next-eat.behind = ate _ _ 74 c.eat-2.ensures c.in-Next-eat.is in v)).next), ready_moved _ ((let v : Past c.args.s.now c.args.p 74 c.in-Next-eat.behind = ate _ _ 74 c.eat-2.ensures c.in-Next-eat.is in v)).next c.requires.1 (omega (arith, i)))
+    let passed : Past c.args.s.now c.args.p 74 c.in-Next-eat.behind = ate _ _ 74 c.eat-2.ensures c.in-Next-eat.is in
+    let i = passed.inside in
+    (omega (arith, c.decreases, i, ap (λ (z : Parser). z.at) passed.next), ready_moved _ passed.next c.requires.1 (omega (arith, i)))
 
 pub arg-returns-in-Next-eat : goal.arg-returns-in-Next-eat
 arg-returns-in-Next-eat t c =
+    let passed : Past c.args.s.now c.args.p 74 c.in-Next-eat.behind = ate _ _ 74 c.eat-2.ensures c.in-Next-eat.is in
     λ σ h.
-    by (arg_pack c.args.s.now c.args.p.at σ h.rest (ahead_is _ _ _ h.rest refl ((let v : Past c.args.s.now c.args.p 74 c.in-Next-eat.behind = ate _ _ 74 c.eat-2.ensures c.in-Next-eat.is in v)).ahead))
+    by (arg_pack c.args.s.now c.args.p.at σ h.rest (ahead_is _ _ _ h.rest refl passed.ahead))
     (sooner (omega arith)
-    (call_moved keep ((let v : Past c.args.s.now c.args.p 74 c.in-Next-eat.behind = ate _ _ 74 c.eat-2.ensures c.in-Next-eat.is in v)).next c.pack.ensures h
+    (call_moved keep passed.next c.pack.ensures h
     (omega (
       arith,
-      ((let v : Past c.args.s.now c.args.p 74 c.in-Next-eat.behind = ate _ _ 74 c.eat-2.ensures c.in-Next-eat.is in v)).inside,
+      passed.inside,
     ))))
 
 pub arg-ty-requires : goal.arg-ty-requires
@@ -113,10 +123,12 @@ arg-ty-requires t c =
 
 pub arg-returns : goal.arg-returns
 arg-returns t c =
+    let unread : starts (drop c.args.p.at c.args.s.now) (88 ∷ []) ≡ false = ate_none c.args.s.now c.args.p 88 c.eat.ensures c.in_default.is in
+    let unread2 : starts (drop c.args.p.at c.args.s.now) (74 ∷ []) ≡ false = ate_none c.args.s.now c.args.p 74 c.eat-2.ensures c.in_default-eat.is in
     λ σ h.
     by (arg_other σ (ahead_is _ _ _ h.rest c.here.ensures c.if-here.false)
-    (ahead_is _ _ _ h.rest refl ((let v : starts (drop c.args.p.at c.args.s.now) (88 ∷ []) ≡ false = ate_none c.args.s.now c.args.p 88 c.eat.ensures c.in_default.is in v)))
-    (ahead_is _ _ _ h.rest refl ((let v : starts (drop c.args.p.at c.args.s.now) (74 ∷ []) ≡ false = ate_none c.args.s.now c.args.p 74 c.eat-2.ensures c.in_default-eat.is in v))))
+    (ahead_is _ _ _ h.rest refl unread)
+    (ahead_is _ _ _ h.rest refl unread2))
     (less (omega arith) (c.ty.ensures σ h))
 
 -- ---------------------------------------------------------------- args
@@ -136,19 +148,24 @@ args-enter-entered-requires t c =
 
 pub args-returns-in_default-entered : goal.args-returns-in_default-entered
 args-returns-in_default-entered t c =
-    let k = (let v : Past (c.args.s.now) c.args.p 73 c.in-Next.behind = ate _ _ 73 c.eat.ensures c.in-Next.is in v) in
+    let passed : Past (c.args.s.now) c.args.p 73 c.in-Next.behind = ate _ _ 73 c.eat.ensures c.in-Next.is in
+    let k = passed in
     args_deep k.ahead k.next c.enter-entered.ensures c.in_default-entered.is
 
 pub args-put-open-requires : goal.args-put-open-requires
 args-put-open-requires t c =
+    let passed : Past (c.args.s.now) c.args.p 73 c.in-Next.behind = ate _ _ 73 c.eat.ensures c.in-Next.is in
     let i = went_in c.in-Next.behind c.enter-entered.ensures c.in-Text.is in
-    (stack_by i.1 (stack_by ((let v : Past (c.args.s.now) c.args.p 73 c.in-Next.behind = ate _ _ 73 c.eat.ensures c.in-Next.is in v)).next c.requires.1.text), omega arith)
+    (stack_by i.1 (stack_by passed.next c.requires.1.text), omega arith)
 
 pub args-items-list-requires : goal.args-items-list-requires
-args-items-list-requires t c = (
-  omega (arith, c.decreases, (((let v : Past (c.args.s.now) c.args.p 73 c.in-Next.behind = ate _ _ 73 c.eat.ensures c.in-Next.is in v))).inside, ap (λ (z : Parser). z.at) c.put-open.ensures.same, ap (λ (z : Parser). z.at) ((let v : (c.in-Next.behind.depth < most_open) × (c.in-Text.inner ≡ deeper c.in-Next.behind) = went_in c.in-Next.behind c.enter-entered.ensures c.in-Text.is in v)).1, ap (λ (z : Parser). z.at) (((let v : Past (c.args.s.now) c.args.p 73 c.in-Next.behind = ate _ _ 73 c.eat.ensures c.in-Next.is in v))).next),
-  (_, holds_puts c.put-open.ensures ((args_open ((let v : (c.in-Next.behind.depth < most_open) × (c.in-Text.inner ≡ deeper c.in-Next.behind) = went_in c.in-Next.behind c.enter-entered.ensures c.in-Text.is in v)).1 (((let v : Past (c.args.s.now) c.args.p 73 c.in-Next.behind = ate _ _ 73 c.eat.ensures c.in-Next.is in v))).next ((let v : c.args.p.depth < most_open = omega (arith, ((let v : (c.in-Next.behind.depth < most_open) × (c.in-Text.inner ≡ deeper c.in-Next.behind) = went_in c.in-Next.behind c.enter-entered.ensures c.in-Text.is in v)).0, ap (λ (z : Parser). z.depth) (((let v : Past (c.args.s.now) c.args.p 73 c.in-Next.behind = ate _ _ 73 c.eat.ensures c.in-Next.is in v))).next) in v)) (omega (arith, (((let v : Past (c.args.s.now) c.args.p 73 c.in-Next.behind = ate _ _ 73 c.eat.ensures c.in-Next.is in v))).inside)) c.requires.1))),
-)
+args-items-list-requires t c =
+    let passed : Past (c.args.s.now) c.args.p 73 c.in-Next.behind = ate _ _ 73 c.eat.ensures c.in-Next.is in
+    let inside : (c.in-Next.behind.depth < most_open) × (c.in-Text.inner ≡ deeper c.in-Next.behind) = went_in c.in-Next.behind c.enter-entered.ensures c.in-Text.is in
+    let below : c.args.p.depth < most_open = omega (arith, inside.0, ap (λ (z : Parser). z.depth) passed.next) in (
+      omega (arith, c.decreases, passed.inside, ap (λ (z : Parser). z.at) c.put-open.ensures.same, ap (λ (z : Parser). z.at) inside.1, ap (λ (z : Parser). z.at) passed.next),
+      (_, holds_puts c.put-open.ensures ((args_open inside.1 passed.next below (omega (arith, passed.inside)) c.requires.1))),
+    )
 
 pub args-refused-requires : goal.args-refused-requires
 args-refused-requires t c =
@@ -156,9 +173,12 @@ args-refused-requires t c =
 
 pub args-returns-in_default-list : goal.args-returns-in_default-list
 args-returns-in_default-list t c =
+    let passed : Past (c.args.s.now) c.args.p 73 c.in-Next.behind = ate _ _ 73 c.eat.ensures c.in-Next.is in
+    let inside : (c.in-Next.behind.depth < most_open) × (c.in-Text.inner ≡ deeper c.in-Next.behind) = went_in c.in-Next.behind c.enter-entered.ensures c.in-Text.is in
+    let below : c.args.p.depth < most_open = omega (arith, inside.0, ap (λ (z : Parser). z.depth) passed.next) in
     λ σ h.
-    by (args_is (c.args.s.now) c.args.p.at σ h.rest (ahead_is _ _ _ h.rest refl (((let v : Past (c.args.s.now) c.args.p 73 c.in-Next.behind = ate _ _ 73 c.eat.ensures c.in-Next.is in v))).ahead) (omega (arith, h.depth, (let v : c.args.p.depth < most_open = omega (arith, ((let v : (c.in-Next.behind.depth < most_open) × (c.in-Text.inner ≡ deeper c.in-Next.behind) = went_in c.in-Next.behind c.enter-entered.ensures c.in-Text.is in v)).0, ap (λ (z : Parser). z.depth) (((let v : Past (c.args.s.now) c.args.p 73 c.in-Next.behind = ate _ _ 73 c.eat.ensures c.in-Next.is in v))).next) in v)))
-    ∙ then_refused _ (then_refused _ (then_refused _ (list_refused c.in_default-list.is (c.items-list.ensures _ (holds_puts c.put-open.ensures ((args_open ((let v : (c.in-Next.behind.depth < most_open) × (c.in-Text.inner ≡ deeper c.in-Next.behind) = went_in c.in-Next.behind c.enter-entered.ensures c.in-Text.is in v)).1 (((let v : Past (c.args.s.now) c.args.p 73 c.in-Next.behind = ate _ _ 73 c.eat.ensures c.in-Next.is in v))).next ((let v : c.args.p.depth < most_open = omega (arith, ((let v : (c.in-Next.behind.depth < most_open) × (c.in-Text.inner ≡ deeper c.in-Next.behind) = went_in c.in-Next.behind c.enter-entered.ensures c.in-Text.is in v)).0, ap (λ (z : Parser). z.depth) (((let v : Past (c.args.s.now) c.args.p 73 c.in-Next.behind = ate _ _ 73 c.eat.ensures c.in-Next.is in v))).next) in v)) (omega (arith, (((let v : Past (c.args.s.now) c.args.p 73 c.in-Next.behind = ate _ _ 73 c.eat.ensures c.in-Next.is in v))).inside)) h))))))))
+    by (args_is (c.args.s.now) c.args.p.at σ h.rest (ahead_is _ _ _ h.rest refl passed.ahead) (omega (arith, h.depth, below))
+    ∙ then_refused _ (then_refused _ (then_refused _ (list_refused c.in_default-list.is (c.items-list.ensures _ (holds_puts c.put-open.ensures ((args_open inside.1 passed.next below (omega (arith, passed.inside)) h))))))))
     (refuses_list c.in_default-list.is c.refused.ensures)
 
 pub args-eat-requires-2 : goal.args-eat-requires-2
@@ -167,9 +187,12 @@ args-eat-requires-2 t c =
 
 pub args-returns-in_default-eat : goal.args-returns-in_default-eat
 args-returns-in_default-eat t c =
+    let inside : (c.in-Next.behind.depth < most_open) × (c.in-Text.inner ≡ deeper c.in-Next.behind) = went_in c.in-Next.behind c.enter-entered.ensures c.in-Text.is in
+    let passed : Past (c.args.s.now) c.args.p 73 c.in-Next.behind = ate _ _ 73 c.eat.ensures c.in-Next.is in
+    let below : c.args.p.depth < most_open = omega (arith, inside.0, ap (λ (z : Parser). z.depth) passed.next) in
     λ σ h.
-    let w = (got_list c.in-Listed.is (c.items-list.ensures _ (holds_puts c.put-open.ensures ((args_open ((let v : (c.in-Next.behind.depth < most_open) × (c.in-Text.inner ≡ deeper c.in-Next.behind) = went_in c.in-Next.behind c.enter-entered.ensures c.in-Text.is in v)).1 (((let v : Past (c.args.s.now) c.args.p 73 c.in-Next.behind = ate _ _ 73 c.eat.ensures c.in-Next.is in v))).next ((let v : c.args.p.depth < most_open = omega (arith, ((let v : (c.in-Next.behind.depth < most_open) × (c.in-Text.inner ≡ deeper c.in-Next.behind) = went_in c.in-Next.behind c.enter-entered.ensures c.in-Text.is in v)).0, ap (λ (z : Parser). z.depth) (((let v : Past (c.args.s.now) c.args.p 73 c.in-Next.behind = ate _ _ 73 c.eat.ensures c.in-Next.is in v))).next) in v)) (omega (arith, (((let v : Past (c.args.s.now) c.args.p 73 c.in-Next.behind = ate _ _ 73 c.eat.ensures c.in-Next.is in v))).inside)) h))))) in
-    by (args_is (c.args.s.now) c.args.p.at σ h.rest (ahead_is _ _ _ h.rest refl (((let v : Past (c.args.s.now) c.args.p 73 c.in-Next.behind = ate _ _ 73 c.eat.ensures c.in-Next.is in v))).ahead) (omega (arith, h.depth, (let v : c.args.p.depth < most_open = omega (arith, ((let v : (c.in-Next.behind.depth < most_open) × (c.in-Text.inner ≡ deeper c.in-Next.behind) = went_in c.in-Next.behind c.enter-entered.ensures c.in-Text.is in v)).0, ap (λ (z : Parser). z.depth) (((let v : Past (c.args.s.now) c.args.p 73 c.in-Next.behind = ate _ _ 73 c.eat.ensures c.in-Next.is in v))).next) in v)))
+    let w = (got_list c.in-Listed.is (c.items-list.ensures _ (holds_puts c.put-open.ensures ((args_open inside.1 passed.next below (omega (arith, passed.inside)) h))))) in
+    by (args_is (c.args.s.now) c.args.p.at σ h.rest (ahead_is _ _ _ h.rest refl passed.ahead) (omega (arith, h.depth, below))
     ∙ then_refused _ (then_refused _ (closed_no w.is (ahead_is _ _ _ w.stands.holds.rest refl (ate_none (c.args.s.now) c.in-Listed.last 69 c.eat-2.ensures c.in_default-eat.is))))) refuses
 
 pub args-leave-next-requires : goal.args-leave-next-requires
@@ -178,20 +201,35 @@ args-leave-next-requires t c =
 
 pub args-overflow_sub-top : goal.args-overflow_sub-top
 args-overflow_sub-top t c =
-    bracket_top ((bracket_stands c.args.p ((let v : (c.in-Next.behind.depth < most_open) × (c.in-Text.inner ≡ deeper c.in-Next.behind) = went_in c.in-Next.behind c.enter-entered.ensures c.in-Text.is in v)).1 (((let v : Past (c.args.s.now) c.args.p 73 c.in-Next.behind = ate _ _ 73 c.eat.ensures c.in-Next.is in v))).next ((let v : c.args.p.depth < most_open = omega (arith, ((let v : (c.in-Next.behind.depth < most_open) × (c.in-Text.inner ≡ deeper c.in-Next.behind) = went_in c.in-Next.behind c.enter-entered.ensures c.in-Text.is in v)).0, ap (λ (z : Parser). z.depth) (((let v : Past (c.args.s.now) c.args.p 73 c.in-Next.behind = ate _ _ 73 c.eat.ensures c.in-Next.is in v))).next) in v)) ((args_open ((let v : (c.in-Next.behind.depth < most_open) × (c.in-Text.inner ≡ deeper c.in-Next.behind) = went_in c.in-Next.behind c.enter-entered.ensures c.in-Text.is in v)).1 (((let v : Past (c.args.s.now) c.args.p 73 c.in-Next.behind = ate _ _ 73 c.eat.ensures c.in-Next.is in v))).next ((let v : c.args.p.depth < most_open = omega (arith, ((let v : (c.in-Next.behind.depth < most_open) × (c.in-Text.inner ≡ deeper c.in-Next.behind) = went_in c.in-Next.behind c.enter-entered.ensures c.in-Text.is in v)).0, ap (λ (z : Parser). z.depth) (((let v : Past (c.args.s.now) c.args.p 73 c.in-Next.behind = ate _ _ 73 c.eat.ensures c.in-Next.is in v))).next) in v)) (omega (arith, (((let v : Past (c.args.s.now) c.args.p 73 c.in-Next.behind = ate _ _ 73 c.eat.ensures c.in-Next.is in v))).inside)) c.requires.1)) c.put-open.ensures ((got_list c.in-Listed.is (c.items-list.ensures _ (holds_puts c.put-open.ensures ((args_open ((let v : (c.in-Next.behind.depth < most_open) × (c.in-Text.inner ≡ deeper c.in-Next.behind) = went_in c.in-Next.behind c.enter-entered.ensures c.in-Text.is in v)).1 (((let v : Past (c.args.s.now) c.args.p 73 c.in-Next.behind = ate _ _ 73 c.eat.ensures c.in-Next.is in v))).next ((let v : c.args.p.depth < most_open = omega (arith, ((let v : (c.in-Next.behind.depth < most_open) × (c.in-Text.inner ≡ deeper c.in-Next.behind) = went_in c.in-Next.behind c.enter-entered.ensures c.in-Text.is in v)).0, ap (λ (z : Parser). z.depth) (((let v : Past (c.args.s.now) c.args.p 73 c.in-Next.behind = ate _ _ 73 c.eat.ensures c.in-Next.is in v))).next) in v)) (omega (arith, (((let v : Past (c.args.s.now) c.args.p 73 c.in-Next.behind = ate _ _ 73 c.eat.ensures c.in-Next.is in v))).inside)) c.requires.1)))))).stands (((let v : Past (c.args.s.now) c.in-Listed.last 69 c.in-Next-eat.closed = ate _ _ 69 c.eat-2.ensures c.in-Next-eat.is in v))).next c.leave-next.ensures (omega arith) (omega (arith, (((let v : Past (c.args.s.now) c.in-Listed.last 69 c.in-Next-eat.closed = ate _ _ 69 c.eat-2.ensures c.in-Next-eat.is in v))).inside)))) (omega arith)
+    let inside : (c.in-Next.behind.depth < most_open) × (c.in-Text.inner ≡ deeper c.in-Next.behind) = went_in c.in-Next.behind c.enter-entered.ensures c.in-Text.is in
+    let passed : Past (c.args.s.now) c.args.p 73 c.in-Next.behind = ate _ _ 73 c.eat.ensures c.in-Next.is in
+    let passed2 : Past (c.args.s.now) c.in-Listed.last 69 c.in-Next-eat.closed = ate _ _ 69 c.eat-2.ensures c.in-Next-eat.is in
+    let below : c.args.p.depth < most_open = omega (arith, inside.0, ap (λ (z : Parser). z.depth) passed.next) in
+    bracket_top ((bracket_stands c.args.p inside.1 passed.next below ((args_open inside.1 passed.next below (omega (arith, passed.inside)) c.requires.1)) c.put-open.ensures ((got_list c.in-Listed.is (c.items-list.ensures _ (holds_puts c.put-open.ensures ((args_open inside.1 passed.next below (omega (arith, passed.inside)) c.requires.1)))))).stands passed2.next c.leave-next.ensures (omega arith) (omega (arith, passed2.inside)))) (omega arith)
 
 pub args-bounds-text-top : goal.args-bounds-text-top
 args-bounds-text-top t c =
-    let v = (bracket_stands c.args.p ((let v : (c.in-Next.behind.depth < most_open) × (c.in-Text.inner ≡ deeper c.in-Next.behind) = went_in c.in-Next.behind c.enter-entered.ensures c.in-Text.is in v)).1 (((let v : Past (c.args.s.now) c.args.p 73 c.in-Next.behind = ate _ _ 73 c.eat.ensures c.in-Next.is in v))).next ((let v : c.args.p.depth < most_open = omega (arith, ((let v : (c.in-Next.behind.depth < most_open) × (c.in-Text.inner ≡ deeper c.in-Next.behind) = went_in c.in-Next.behind c.enter-entered.ensures c.in-Text.is in v)).0, ap (λ (z : Parser). z.depth) (((let v : Past (c.args.s.now) c.args.p 73 c.in-Next.behind = ate _ _ 73 c.eat.ensures c.in-Next.is in v))).next) in v)) ((args_open ((let v : (c.in-Next.behind.depth < most_open) × (c.in-Text.inner ≡ deeper c.in-Next.behind) = went_in c.in-Next.behind c.enter-entered.ensures c.in-Text.is in v)).1 (((let v : Past (c.args.s.now) c.args.p 73 c.in-Next.behind = ate _ _ 73 c.eat.ensures c.in-Next.is in v))).next ((let v : c.args.p.depth < most_open = omega (arith, ((let v : (c.in-Next.behind.depth < most_open) × (c.in-Text.inner ≡ deeper c.in-Next.behind) = went_in c.in-Next.behind c.enter-entered.ensures c.in-Text.is in v)).0, ap (λ (z : Parser). z.depth) (((let v : Past (c.args.s.now) c.args.p 73 c.in-Next.behind = ate _ _ 73 c.eat.ensures c.in-Next.is in v))).next) in v)) (omega (arith, (((let v : Past (c.args.s.now) c.args.p 73 c.in-Next.behind = ate _ _ 73 c.eat.ensures c.in-Next.is in v))).inside)) c.requires.1)) c.put-open.ensures ((got_list c.in-Listed.is (c.items-list.ensures _ (holds_puts c.put-open.ensures ((args_open ((let v : (c.in-Next.behind.depth < most_open) × (c.in-Text.inner ≡ deeper c.in-Next.behind) = went_in c.in-Next.behind c.enter-entered.ensures c.in-Text.is in v)).1 (((let v : Past (c.args.s.now) c.args.p 73 c.in-Next.behind = ate _ _ 73 c.eat.ensures c.in-Next.is in v))).next ((let v : c.args.p.depth < most_open = omega (arith, ((let v : (c.in-Next.behind.depth < most_open) × (c.in-Text.inner ≡ deeper c.in-Next.behind) = went_in c.in-Next.behind c.enter-entered.ensures c.in-Text.is in v)).0, ap (λ (z : Parser). z.depth) (((let v : Past (c.args.s.now) c.args.p 73 c.in-Next.behind = ate _ _ 73 c.eat.ensures c.in-Next.is in v))).next) in v)) (omega (arith, (((let v : Past (c.args.s.now) c.args.p 73 c.in-Next.behind = ate _ _ 73 c.eat.ensures c.in-Next.is in v))).inside)) c.requires.1)))))).stands (((let v : Past (c.args.s.now) c.in-Listed.last 69 c.in-Next-eat.closed = ate _ _ 69 c.eat-2.ensures c.in-Next-eat.is in v))).next c.leave-next.ensures (omega arith) (omega (arith, (((let v : Past (c.args.s.now) c.in-Listed.last 69 c.in-Next-eat.closed = ate _ _ 69 c.eat-2.ensures c.in-Next-eat.is in v))).inside))) in
+    let inside : (c.in-Next.behind.depth < most_open) × (c.in-Text.inner ≡ deeper c.in-Next.behind) = went_in c.in-Next.behind c.enter-entered.ensures c.in-Text.is in
+    let passed : Past (c.args.s.now) c.args.p 73 c.in-Next.behind = ate _ _ 73 c.eat.ensures c.in-Next.is in
+    let passed2 : Past (c.args.s.now) c.in-Listed.last 69 c.in-Next-eat.closed = ate _ _ 69 c.eat-2.ensures c.in-Next-eat.is in
+    let below : c.args.p.depth < most_open = omega (arith, inside.0, ap (λ (z : Parser). z.depth) passed.next) in
+    let v = (bracket_stands c.args.p inside.1 passed.next below ((args_open inside.1 passed.next below (omega (arith, passed.inside)) c.requires.1)) c.put-open.ensures ((got_list c.in-Listed.is (c.items-list.ensures _ (holds_puts c.put-open.ensures ((args_open inside.1 passed.next below (omega (arith, passed.inside)) c.requires.1)))))).stands passed2.next c.leave-next.ensures (omega arith) (omega (arith, passed2.inside))) in
     omega (arith, bracket_top v (omega arith), v.holds.text.size, v.holds.text.most)
 
 pub args-put-close-requires : goal.args-put-close-requires
 args-put-close-requires t c =
-    (((bracket_stands c.args.p ((let v : (c.in-Next.behind.depth < most_open) × (c.in-Text.inner ≡ deeper c.in-Next.behind) = went_in c.in-Next.behind c.enter-entered.ensures c.in-Text.is in v)).1 (((let v : Past (c.args.s.now) c.args.p 73 c.in-Next.behind = ate _ _ 73 c.eat.ensures c.in-Next.is in v))).next ((let v : c.args.p.depth < most_open = omega (arith, ((let v : (c.in-Next.behind.depth < most_open) × (c.in-Text.inner ≡ deeper c.in-Next.behind) = went_in c.in-Next.behind c.enter-entered.ensures c.in-Text.is in v)).0, ap (λ (z : Parser). z.depth) (((let v : Past (c.args.s.now) c.args.p 73 c.in-Next.behind = ate _ _ 73 c.eat.ensures c.in-Next.is in v))).next) in v)) ((args_open ((let v : (c.in-Next.behind.depth < most_open) × (c.in-Text.inner ≡ deeper c.in-Next.behind) = went_in c.in-Next.behind c.enter-entered.ensures c.in-Text.is in v)).1 (((let v : Past (c.args.s.now) c.args.p 73 c.in-Next.behind = ate _ _ 73 c.eat.ensures c.in-Next.is in v))).next ((let v : c.args.p.depth < most_open = omega (arith, ((let v : (c.in-Next.behind.depth < most_open) × (c.in-Text.inner ≡ deeper c.in-Next.behind) = went_in c.in-Next.behind c.enter-entered.ensures c.in-Text.is in v)).0, ap (λ (z : Parser). z.depth) (((let v : Past (c.args.s.now) c.args.p 73 c.in-Next.behind = ate _ _ 73 c.eat.ensures c.in-Next.is in v))).next) in v)) (omega (arith, (((let v : Past (c.args.s.now) c.args.p 73 c.in-Next.behind = ate _ _ 73 c.eat.ensures c.in-Next.is in v))).inside)) c.requires.1)) c.put-open.ensures ((got_list c.in-Listed.is (c.items-list.ensures _ (holds_puts c.put-open.ensures ((args_open ((let v : (c.in-Next.behind.depth < most_open) × (c.in-Text.inner ≡ deeper c.in-Next.behind) = went_in c.in-Next.behind c.enter-entered.ensures c.in-Text.is in v)).1 (((let v : Past (c.args.s.now) c.args.p 73 c.in-Next.behind = ate _ _ 73 c.eat.ensures c.in-Next.is in v))).next ((let v : c.args.p.depth < most_open = omega (arith, ((let v : (c.in-Next.behind.depth < most_open) × (c.in-Text.inner ≡ deeper c.in-Next.behind) = went_in c.in-Next.behind c.enter-entered.ensures c.in-Text.is in v)).0, ap (λ (z : Parser). z.depth) (((let v : Past (c.args.s.now) c.args.p 73 c.in-Next.behind = ate _ _ 73 c.eat.ensures c.in-Next.is in v))).next) in v)) (omega (arith, (((let v : Past (c.args.s.now) c.args.p 73 c.in-Next.behind = ate _ _ 73 c.eat.ensures c.in-Next.is in v))).inside)) c.requires.1)))))).stands (((let v : Past (c.args.s.now) c.in-Listed.last 69 c.in-Next-eat.closed = ate _ _ 69 c.eat-2.ensures c.in-Next-eat.is in v))).next c.leave-next.ensures (omega arith) (omega (arith, (((let v : Past (c.args.s.now) c.in-Listed.last 69 c.in-Next-eat.closed = ate _ _ 69 c.eat-2.ensures c.in-Next-eat.is in v))).inside)))).holds.text, omega arith)
+    let inside : (c.in-Next.behind.depth < most_open) × (c.in-Text.inner ≡ deeper c.in-Next.behind) = went_in c.in-Next.behind c.enter-entered.ensures c.in-Text.is in
+    let passed : Past (c.args.s.now) c.args.p 73 c.in-Next.behind = ate _ _ 73 c.eat.ensures c.in-Next.is in
+    let passed2 : Past (c.args.s.now) c.in-Listed.last 69 c.in-Next-eat.closed = ate _ _ 69 c.eat-2.ensures c.in-Next-eat.is in
+    let below : c.args.p.depth < most_open = omega (arith, inside.0, ap (λ (z : Parser). z.depth) passed.next) in
+    (((bracket_stands c.args.p inside.1 passed.next below ((args_open inside.1 passed.next below (omega (arith, passed.inside)) c.requires.1)) c.put-open.ensures ((got_list c.in-Listed.is (c.items-list.ensures _ (holds_puts c.put-open.ensures ((args_open inside.1 passed.next below (omega (arith, passed.inside)) c.requires.1)))))).stands passed2.next c.leave-next.ensures (omega arith) (omega (arith, passed2.inside)))).holds.text, omega arith)
 
 pub args-sum-requires : goal.args-sum-requires
 args-sum-requires t c =
-    (omega (arith, ((got_list c.in-Listed.is (c.items-list.ensures _ (holds_puts c.put-open.ensures ((args_open ((let v : (c.in-Next.behind.depth < most_open) × (c.in-Text.inner ≡ deeper c.in-Next.behind) = went_in c.in-Next.behind c.enter-entered.ensures c.in-Text.is in v)).1 (((let v : Past (c.args.s.now) c.args.p 73 c.in-Next.behind = ate _ _ 73 c.eat.ensures c.in-Next.is in v))).next ((let v : c.args.p.depth < most_open = omega (arith, ((let v : (c.in-Next.behind.depth < most_open) × (c.in-Text.inner ≡ deeper c.in-Next.behind) = went_in c.in-Next.behind c.enter-entered.ensures c.in-Text.is in v)).0, ap (λ (z : Parser). z.depth) (((let v : Past (c.args.s.now) c.args.p 73 c.in-Next.behind = ate _ _ 73 c.eat.ensures c.in-Next.is in v))).next) in v)) (omega (arith, (((let v : Past (c.args.s.now) c.args.p 73 c.in-Next.behind = ate _ _ 73 c.eat.ensures c.in-Next.is in v))).inside)) c.requires.1)))))).stands.size), omega arith)
+    let inside : (c.in-Next.behind.depth < most_open) × (c.in-Text.inner ≡ deeper c.in-Next.behind) = went_in c.in-Next.behind c.enter-entered.ensures c.in-Text.is in
+    let passed : Past (c.args.s.now) c.args.p 73 c.in-Next.behind = ate _ _ 73 c.eat.ensures c.in-Next.is in
+    let below : c.args.p.depth < most_open = omega (arith, inside.0, ap (λ (z : Parser). z.depth) passed.next) in
+    (omega (arith, ((got_list c.in-Listed.is (c.items-list.ensures _ (holds_puts c.put-open.ensures ((args_open inside.1 passed.next below (omega (arith, passed.inside)) c.requires.1)))))).stands.size), omega arith)
 
 pub args-given-requires : goal.args-given-requires
 args-given-requires t c =
@@ -199,21 +237,32 @@ args-given-requires t c =
 
 pub args-returns-then-text-top-eq62 : goal.args-returns-then-text-top-eq62
 args-returns-then-text-top-eq62 t c =
+    let inside : (c.in-Next.behind.depth < most_open) × (c.in-Text.inner ≡ deeper c.in-Next.behind) = went_in c.in-Next.behind c.enter-entered.ensures c.in-Text.is in
+    let passed : Past (c.args.s.now) c.args.p 73 c.in-Next.behind = ate _ _ 73 c.eat.ensures c.in-Next.is in
+    let passed2 : Past (c.args.s.now) c.in-Listed.last 69 c.in-Next-eat.closed = ate _ _ 69 c.eat-2.ensures c.in-Next-eat.is in
+    let below : c.args.p.depth < most_open = omega (arith, inside.0, ap (λ (z : Parser). z.depth) passed.next) in
     λ σ h.
-    let w = (got_list c.in-Listed.is (c.items-list.ensures _ (holds_puts c.put-open.ensures ((args_open ((let v : (c.in-Next.behind.depth < most_open) × (c.in-Text.inner ≡ deeper c.in-Next.behind) = went_in c.in-Next.behind c.enter-entered.ensures c.in-Text.is in v)).1 (((let v : Past (c.args.s.now) c.args.p 73 c.in-Next.behind = ate _ _ 73 c.eat.ensures c.in-Next.is in v))).next ((let v : c.args.p.depth < most_open = omega (arith, ((let v : (c.in-Next.behind.depth < most_open) × (c.in-Text.inner ≡ deeper c.in-Next.behind) = went_in c.in-Next.behind c.enter-entered.ensures c.in-Text.is in v)).0, ap (λ (z : Parser). z.depth) (((let v : Past (c.args.s.now) c.args.p 73 c.in-Next.behind = ate _ _ 73 c.eat.ensures c.in-Next.is in v))).next) in v)) (omega (arith, (((let v : Past (c.args.s.now) c.args.p 73 c.in-Next.behind = ate _ _ 73 c.eat.ensures c.in-Next.is in v))).inside)) h))))) in
-    let v = (bracket_stands c.args.p ((let v : (c.in-Next.behind.depth < most_open) × (c.in-Text.inner ≡ deeper c.in-Next.behind) = went_in c.in-Next.behind c.enter-entered.ensures c.in-Text.is in v)).1 (((let v : Past (c.args.s.now) c.args.p 73 c.in-Next.behind = ate _ _ 73 c.eat.ensures c.in-Next.is in v))).next ((let v : c.args.p.depth < most_open = omega (arith, ((let v : (c.in-Next.behind.depth < most_open) × (c.in-Text.inner ≡ deeper c.in-Next.behind) = went_in c.in-Next.behind c.enter-entered.ensures c.in-Text.is in v)).0, ap (λ (z : Parser). z.depth) (((let v : Past (c.args.s.now) c.args.p 73 c.in-Next.behind = ate _ _ 73 c.eat.ensures c.in-Next.is in v))).next) in v)) ((args_open ((let v : (c.in-Next.behind.depth < most_open) × (c.in-Text.inner ≡ deeper c.in-Next.behind) = went_in c.in-Next.behind c.enter-entered.ensures c.in-Text.is in v)).1 (((let v : Past (c.args.s.now) c.args.p 73 c.in-Next.behind = ate _ _ 73 c.eat.ensures c.in-Next.is in v))).next ((let v : c.args.p.depth < most_open = omega (arith, ((let v : (c.in-Next.behind.depth < most_open) × (c.in-Text.inner ≡ deeper c.in-Next.behind) = went_in c.in-Next.behind c.enter-entered.ensures c.in-Text.is in v)).0, ap (λ (z : Parser). z.depth) (((let v : Past (c.args.s.now) c.args.p 73 c.in-Next.behind = ate _ _ 73 c.eat.ensures c.in-Next.is in v))).next) in v)) (omega (arith, (((let v : Past (c.args.s.now) c.args.p 73 c.in-Next.behind = ate _ _ 73 c.eat.ensures c.in-Next.is in v))).inside)) h)) c.put-open.ensures ((got_list c.in-Listed.is (c.items-list.ensures _ (holds_puts c.put-open.ensures ((args_open ((let v : (c.in-Next.behind.depth < most_open) × (c.in-Text.inner ≡ deeper c.in-Next.behind) = went_in c.in-Next.behind c.enter-entered.ensures c.in-Text.is in v)).1 (((let v : Past (c.args.s.now) c.args.p 73 c.in-Next.behind = ate _ _ 73 c.eat.ensures c.in-Next.is in v))).next ((let v : c.args.p.depth < most_open = omega (arith, ((let v : (c.in-Next.behind.depth < most_open) × (c.in-Text.inner ≡ deeper c.in-Next.behind) = went_in c.in-Next.behind c.enter-entered.ensures c.in-Text.is in v)).0, ap (λ (z : Parser). z.depth) (((let v : Past (c.args.s.now) c.args.p 73 c.in-Next.behind = ate _ _ 73 c.eat.ensures c.in-Next.is in v))).next) in v)) (omega (arith, (((let v : Past (c.args.s.now) c.args.p 73 c.in-Next.behind = ate _ _ 73 c.eat.ensures c.in-Next.is in v))).inside)) h)))))).stands (((let v : Past (c.args.s.now) c.in-Listed.last 69 c.in-Next-eat.closed = ate _ _ 69 c.eat-2.ensures c.in-Next-eat.is in v))).next c.leave-next.ensures (omega arith) (omega (arith, (((let v : Past (c.args.s.now) c.in-Listed.last 69 c.in-Next-eat.closed = ate _ _ 69 c.eat-2.ensures c.in-Next-eat.is in v))).inside))) in
-    by (args_is (c.args.s.now) c.args.p.at σ h.rest (ahead_is _ _ _ h.rest refl (((let v : Past (c.args.s.now) c.args.p 73 c.in-Next.behind = ate _ _ 73 c.eat.ensures c.in-Next.is in v))).ahead) (omega (arith, h.depth, (let v : c.args.p.depth < most_open = omega (arith, ((let v : (c.in-Next.behind.depth < most_open) × (c.in-Text.inner ≡ deeper c.in-Next.behind) = went_in c.in-Next.behind c.enter-entered.ensures c.in-Text.is in v)).0, ap (λ (z : Parser). z.depth) (((let v : Past (c.args.s.now) c.args.p 73 c.in-Next.behind = ate _ _ 73 c.eat.ensures c.in-Next.is in v))).next) in v)))
-    ∙ args_given (c.args.s.now) c.in-Listed.last.at w.is w.stands.holds.rest (ahead_is _ _ _ w.stands.holds.rest refl (((let v : Past (c.args.s.now) c.in-Listed.last 69 c.in-Next-eat.closed = ate _ _ 69 c.eat-2.ensures c.in-Next-eat.is in v))).ahead) h.depth
+    let w = (got_list c.in-Listed.is (c.items-list.ensures _ (holds_puts c.put-open.ensures ((args_open inside.1 passed.next below (omega (arith, passed.inside)) h))))) in
+    let v = (bracket_stands c.args.p inside.1 passed.next below ((args_open inside.1 passed.next below (omega (arith, passed.inside)) h)) c.put-open.ensures ((got_list c.in-Listed.is (c.items-list.ensures _ (holds_puts c.put-open.ensures ((args_open inside.1 passed.next below (omega (arith, passed.inside)) h)))))).stands passed2.next c.leave-next.ensures (omega arith) (omega (arith, passed2.inside))) in
+    by (args_is (c.args.s.now) c.args.p.at σ h.rest (ahead_is _ _ _ h.rest refl passed.ahead) (omega (arith, h.depth, below))
+    ∙ args_given (c.args.s.now) c.in-Listed.last.at w.is w.stands.holds.rest (ahead_is _ _ _ w.stands.holds.rest refl passed2.ahead) h.depth
     (angled_more w.texts (sym (stands_last v) ∙ c.if-text-top-eq62.true)))
     (given_as c.given.ensures (stands_puts v c.put-close.ensures (c.sum.ensures ∙ omega (arith, w.stands.size, length-append (60 ∷ join (b ", ") w.texts) (32 ∷ 62 ∷ [])))))
 
 pub args-put-close-requires-2 : goal.args-put-close-requires-2
 args-put-close-requires-2 t c =
-    (((bracket_stands c.args.p ((let v : (c.in-Next.behind.depth < most_open) × (c.in-Text.inner ≡ deeper c.in-Next.behind) = went_in c.in-Next.behind c.enter-entered.ensures c.in-Text.is in v)).1 (((let v : Past (c.args.s.now) c.args.p 73 c.in-Next.behind = ate _ _ 73 c.eat.ensures c.in-Next.is in v))).next ((let v : c.args.p.depth < most_open = omega (arith, ((let v : (c.in-Next.behind.depth < most_open) × (c.in-Text.inner ≡ deeper c.in-Next.behind) = went_in c.in-Next.behind c.enter-entered.ensures c.in-Text.is in v)).0, ap (λ (z : Parser). z.depth) (((let v : Past (c.args.s.now) c.args.p 73 c.in-Next.behind = ate _ _ 73 c.eat.ensures c.in-Next.is in v))).next) in v)) ((args_open ((let v : (c.in-Next.behind.depth < most_open) × (c.in-Text.inner ≡ deeper c.in-Next.behind) = went_in c.in-Next.behind c.enter-entered.ensures c.in-Text.is in v)).1 (((let v : Past (c.args.s.now) c.args.p 73 c.in-Next.behind = ate _ _ 73 c.eat.ensures c.in-Next.is in v))).next ((let v : c.args.p.depth < most_open = omega (arith, ((let v : (c.in-Next.behind.depth < most_open) × (c.in-Text.inner ≡ deeper c.in-Next.behind) = went_in c.in-Next.behind c.enter-entered.ensures c.in-Text.is in v)).0, ap (λ (z : Parser). z.depth) (((let v : Past (c.args.s.now) c.args.p 73 c.in-Next.behind = ate _ _ 73 c.eat.ensures c.in-Next.is in v))).next) in v)) (omega (arith, (((let v : Past (c.args.s.now) c.args.p 73 c.in-Next.behind = ate _ _ 73 c.eat.ensures c.in-Next.is in v))).inside)) c.requires.1)) c.put-open.ensures ((got_list c.in-Listed.is (c.items-list.ensures _ (holds_puts c.put-open.ensures ((args_open ((let v : (c.in-Next.behind.depth < most_open) × (c.in-Text.inner ≡ deeper c.in-Next.behind) = went_in c.in-Next.behind c.enter-entered.ensures c.in-Text.is in v)).1 (((let v : Past (c.args.s.now) c.args.p 73 c.in-Next.behind = ate _ _ 73 c.eat.ensures c.in-Next.is in v))).next ((let v : c.args.p.depth < most_open = omega (arith, ((let v : (c.in-Next.behind.depth < most_open) × (c.in-Text.inner ≡ deeper c.in-Next.behind) = went_in c.in-Next.behind c.enter-entered.ensures c.in-Text.is in v)).0, ap (λ (z : Parser). z.depth) (((let v : Past (c.args.s.now) c.args.p 73 c.in-Next.behind = ate _ _ 73 c.eat.ensures c.in-Next.is in v))).next) in v)) (omega (arith, (((let v : Past (c.args.s.now) c.args.p 73 c.in-Next.behind = ate _ _ 73 c.eat.ensures c.in-Next.is in v))).inside)) c.requires.1)))))).stands (((let v : Past (c.args.s.now) c.in-Listed.last 69 c.in-Next-eat.closed = ate _ _ 69 c.eat-2.ensures c.in-Next-eat.is in v))).next c.leave-next.ensures (omega arith) (omega (arith, (((let v : Past (c.args.s.now) c.in-Listed.last 69 c.in-Next-eat.closed = ate _ _ 69 c.eat-2.ensures c.in-Next-eat.is in v))).inside)))).holds.text, omega arith)
+    let inside : (c.in-Next.behind.depth < most_open) × (c.in-Text.inner ≡ deeper c.in-Next.behind) = went_in c.in-Next.behind c.enter-entered.ensures c.in-Text.is in
+    let passed : Past (c.args.s.now) c.args.p 73 c.in-Next.behind = ate _ _ 73 c.eat.ensures c.in-Next.is in
+    let passed2 : Past (c.args.s.now) c.in-Listed.last 69 c.in-Next-eat.closed = ate _ _ 69 c.eat-2.ensures c.in-Next-eat.is in
+    let below : c.args.p.depth < most_open = omega (arith, inside.0, ap (λ (z : Parser). z.depth) passed.next) in
+    (((bracket_stands c.args.p inside.1 passed.next below ((args_open inside.1 passed.next below (omega (arith, passed.inside)) c.requires.1)) c.put-open.ensures ((got_list c.in-Listed.is (c.items-list.ensures _ (holds_puts c.put-open.ensures ((args_open inside.1 passed.next below (omega (arith, passed.inside)) c.requires.1)))))).stands passed2.next c.leave-next.ensures (omega arith) (omega (arith, passed2.inside)))).holds.text, omega arith)
 
 pub args-sum-requires-2 : goal.args-sum-requires-2
 args-sum-requires-2 t c =
-    (omega (arith, ((got_list c.in-Listed.is (c.items-list.ensures _ (holds_puts c.put-open.ensures ((args_open ((let v : (c.in-Next.behind.depth < most_open) × (c.in-Text.inner ≡ deeper c.in-Next.behind) = went_in c.in-Next.behind c.enter-entered.ensures c.in-Text.is in v)).1 (((let v : Past (c.args.s.now) c.args.p 73 c.in-Next.behind = ate _ _ 73 c.eat.ensures c.in-Next.is in v))).next ((let v : c.args.p.depth < most_open = omega (arith, ((let v : (c.in-Next.behind.depth < most_open) × (c.in-Text.inner ≡ deeper c.in-Next.behind) = went_in c.in-Next.behind c.enter-entered.ensures c.in-Text.is in v)).0, ap (λ (z : Parser). z.depth) (((let v : Past (c.args.s.now) c.args.p 73 c.in-Next.behind = ate _ _ 73 c.eat.ensures c.in-Next.is in v))).next) in v)) (omega (arith, (((let v : Past (c.args.s.now) c.args.p 73 c.in-Next.behind = ate _ _ 73 c.eat.ensures c.in-Next.is in v))).inside)) c.requires.1)))))).stands.size), omega arith)
+    let inside : (c.in-Next.behind.depth < most_open) × (c.in-Text.inner ≡ deeper c.in-Next.behind) = went_in c.in-Next.behind c.enter-entered.ensures c.in-Text.is in
+    let passed : Past (c.args.s.now) c.args.p 73 c.in-Next.behind = ate _ _ 73 c.eat.ensures c.in-Next.is in
+    let below : c.args.p.depth < most_open = omega (arith, inside.0, ap (λ (z : Parser). z.depth) passed.next) in
+    (omega (arith, ((got_list c.in-Listed.is (c.items-list.ensures _ (holds_puts c.put-open.ensures ((args_open inside.1 passed.next below (omega (arith, passed.inside)) c.requires.1)))))).stands.size), omega arith)
 
 pub args-given-requires-2 : goal.args-given-requires-2
 args-given-requires-2 t c =
@@ -221,11 +270,15 @@ args-given-requires-2 t c =
 
 pub args-returns : goal.args-returns
 args-returns t c =
+    let inside : (c.in-Next.behind.depth < most_open) × (c.in-Text.inner ≡ deeper c.in-Next.behind) = went_in c.in-Next.behind c.enter-entered.ensures c.in-Text.is in
+    let passed : Past (c.args.s.now) c.args.p 73 c.in-Next.behind = ate _ _ 73 c.eat.ensures c.in-Next.is in
+    let passed2 : Past (c.args.s.now) c.in-Listed.last 69 c.in-Next-eat.closed = ate _ _ 69 c.eat-2.ensures c.in-Next-eat.is in
+    let below : c.args.p.depth < most_open = omega (arith, inside.0, ap (λ (z : Parser). z.depth) passed.next) in
     λ σ h.
-    let w = (got_list c.in-Listed.is (c.items-list.ensures _ (holds_puts c.put-open.ensures ((args_open ((let v : (c.in-Next.behind.depth < most_open) × (c.in-Text.inner ≡ deeper c.in-Next.behind) = went_in c.in-Next.behind c.enter-entered.ensures c.in-Text.is in v)).1 (((let v : Past (c.args.s.now) c.args.p 73 c.in-Next.behind = ate _ _ 73 c.eat.ensures c.in-Next.is in v))).next ((let v : c.args.p.depth < most_open = omega (arith, ((let v : (c.in-Next.behind.depth < most_open) × (c.in-Text.inner ≡ deeper c.in-Next.behind) = went_in c.in-Next.behind c.enter-entered.ensures c.in-Text.is in v)).0, ap (λ (z : Parser). z.depth) (((let v : Past (c.args.s.now) c.args.p 73 c.in-Next.behind = ate _ _ 73 c.eat.ensures c.in-Next.is in v))).next) in v)) (omega (arith, (((let v : Past (c.args.s.now) c.args.p 73 c.in-Next.behind = ate _ _ 73 c.eat.ensures c.in-Next.is in v))).inside)) h))))) in
-    let v = (bracket_stands c.args.p ((let v : (c.in-Next.behind.depth < most_open) × (c.in-Text.inner ≡ deeper c.in-Next.behind) = went_in c.in-Next.behind c.enter-entered.ensures c.in-Text.is in v)).1 (((let v : Past (c.args.s.now) c.args.p 73 c.in-Next.behind = ate _ _ 73 c.eat.ensures c.in-Next.is in v))).next ((let v : c.args.p.depth < most_open = omega (arith, ((let v : (c.in-Next.behind.depth < most_open) × (c.in-Text.inner ≡ deeper c.in-Next.behind) = went_in c.in-Next.behind c.enter-entered.ensures c.in-Text.is in v)).0, ap (λ (z : Parser). z.depth) (((let v : Past (c.args.s.now) c.args.p 73 c.in-Next.behind = ate _ _ 73 c.eat.ensures c.in-Next.is in v))).next) in v)) ((args_open ((let v : (c.in-Next.behind.depth < most_open) × (c.in-Text.inner ≡ deeper c.in-Next.behind) = went_in c.in-Next.behind c.enter-entered.ensures c.in-Text.is in v)).1 (((let v : Past (c.args.s.now) c.args.p 73 c.in-Next.behind = ate _ _ 73 c.eat.ensures c.in-Next.is in v))).next ((let v : c.args.p.depth < most_open = omega (arith, ((let v : (c.in-Next.behind.depth < most_open) × (c.in-Text.inner ≡ deeper c.in-Next.behind) = went_in c.in-Next.behind c.enter-entered.ensures c.in-Text.is in v)).0, ap (λ (z : Parser). z.depth) (((let v : Past (c.args.s.now) c.args.p 73 c.in-Next.behind = ate _ _ 73 c.eat.ensures c.in-Next.is in v))).next) in v)) (omega (arith, (((let v : Past (c.args.s.now) c.args.p 73 c.in-Next.behind = ate _ _ 73 c.eat.ensures c.in-Next.is in v))).inside)) h)) c.put-open.ensures ((got_list c.in-Listed.is (c.items-list.ensures _ (holds_puts c.put-open.ensures ((args_open ((let v : (c.in-Next.behind.depth < most_open) × (c.in-Text.inner ≡ deeper c.in-Next.behind) = went_in c.in-Next.behind c.enter-entered.ensures c.in-Text.is in v)).1 (((let v : Past (c.args.s.now) c.args.p 73 c.in-Next.behind = ate _ _ 73 c.eat.ensures c.in-Next.is in v))).next ((let v : c.args.p.depth < most_open = omega (arith, ((let v : (c.in-Next.behind.depth < most_open) × (c.in-Text.inner ≡ deeper c.in-Next.behind) = went_in c.in-Next.behind c.enter-entered.ensures c.in-Text.is in v)).0, ap (λ (z : Parser). z.depth) (((let v : Past (c.args.s.now) c.args.p 73 c.in-Next.behind = ate _ _ 73 c.eat.ensures c.in-Next.is in v))).next) in v)) (omega (arith, (((let v : Past (c.args.s.now) c.args.p 73 c.in-Next.behind = ate _ _ 73 c.eat.ensures c.in-Next.is in v))).inside)) h)))))).stands (((let v : Past (c.args.s.now) c.in-Listed.last 69 c.in-Next-eat.closed = ate _ _ 69 c.eat-2.ensures c.in-Next-eat.is in v))).next c.leave-next.ensures (omega arith) (omega (arith, (((let v : Past (c.args.s.now) c.in-Listed.last 69 c.in-Next-eat.closed = ate _ _ 69 c.eat-2.ensures c.in-Next-eat.is in v))).inside))) in
-    by (args_is (c.args.s.now) c.args.p.at σ h.rest (ahead_is _ _ _ h.rest refl (((let v : Past (c.args.s.now) c.args.p 73 c.in-Next.behind = ate _ _ 73 c.eat.ensures c.in-Next.is in v))).ahead) (omega (arith, h.depth, (let v : c.args.p.depth < most_open = omega (arith, ((let v : (c.in-Next.behind.depth < most_open) × (c.in-Text.inner ≡ deeper c.in-Next.behind) = went_in c.in-Next.behind c.enter-entered.ensures c.in-Text.is in v)).0, ap (λ (z : Parser). z.depth) (((let v : Past (c.args.s.now) c.args.p 73 c.in-Next.behind = ate _ _ 73 c.eat.ensures c.in-Next.is in v))).next) in v)))
-    ∙ args_given (c.args.s.now) c.in-Listed.last.at w.is w.stands.holds.rest (ahead_is _ _ _ w.stands.holds.rest refl (((let v : Past (c.args.s.now) c.in-Listed.last 69 c.in-Next-eat.closed = ate _ _ 69 c.eat-2.ensures c.in-Next-eat.is in v))).ahead) h.depth
+    let w = (got_list c.in-Listed.is (c.items-list.ensures _ (holds_puts c.put-open.ensures ((args_open inside.1 passed.next below (omega (arith, passed.inside)) h))))) in
+    let v = (bracket_stands c.args.p inside.1 passed.next below ((args_open inside.1 passed.next below (omega (arith, passed.inside)) h)) c.put-open.ensures ((got_list c.in-Listed.is (c.items-list.ensures _ (holds_puts c.put-open.ensures ((args_open inside.1 passed.next below (omega (arith, passed.inside)) h)))))).stands passed2.next c.leave-next.ensures (omega arith) (omega (arith, passed2.inside))) in
+    by (args_is (c.args.s.now) c.args.p.at σ h.rest (ahead_is _ _ _ h.rest refl passed.ahead) (omega (arith, h.depth, below))
+    ∙ args_given (c.args.s.now) c.in-Listed.last.at w.is w.stands.holds.rest (ahead_is _ _ _ w.stands.holds.rest refl passed2.ahead) h.depth
     (angled_plain w.texts (λ x. c.if-text-top-eq62.false (stands_last v ∙ x))))
     (given_as c.given-2.ensures (stands_puts v c.put-close-2.ensures (c.sum-2.ensures ∙ omega (arith, w.stands.size, length-append (60 ∷ join (b ", ") w.texts) (62 ∷ [])))))
 
@@ -250,20 +303,27 @@ array-returns-in_default t c =
 
 pub array-ty-got-requires : goal.array-ty-got-requires
 array-ty-got-requires t c =
-    (omega (arith, at_of ((let v : c.in-Next.behind ≡ moved_to c.args.p (c.before-to.result + 1) = ((let v : Past c.args.s.now (moved_to c.args.p c.before-to.result) 95 c.in-Next.behind = past_from c.moved.ensures (ate _ _ 95 c.eat.ensures c.in-Next.is) in v)).next in v)), c.decreases, ((let v : Past c.args.s.now (moved_to c.args.p c.before-to.result) 95 c.in-Next.behind = past_from c.moved.ensures (ate _ _ 95 c.eat.ensures c.in-Next.is) in v)).inside, c.before-to.ensures.0), ready_moved _ ((let v : c.in-Next.behind ≡ moved_to c.args.p (c.before-to.result + 1) = ((let v : Past c.args.s.now (moved_to c.args.p c.before-to.result) 95 c.in-Next.behind = past_from c.moved.ensures (ate _ _ 95 c.eat.ensures c.in-Next.is) in v)).next in v)) c.requires.1 (omega (arith, ((let v : Past c.args.s.now (moved_to c.args.p c.before-to.result) 95 c.in-Next.behind = past_from c.moved.ensures (ate _ _ 95 c.eat.ensures c.in-Next.is) in v)).inside)))
+    let passed : Past c.args.s.now (moved_to c.args.p c.before-to.result) 95 c.in-Next.behind = past_from c.moved.ensures (ate _ _ 95 c.eat.ensures c.in-Next.is) in
+    let same : c.in-Next.behind ≡ moved_to c.args.p (c.before-to.result + 1) = passed.next in
+    (omega (arith, at_of same, c.decreases, passed.inside, c.before-to.ensures.0), ready_moved _ same c.requires.1 (omega (arith, passed.inside)))
 
 pub array-returns-in_default-got : goal.array-returns-in_default-got
 array-returns-in_default-got t c =
-    λ σ h. by (array_in _ _ σ h.rest c.before-to.ensures.0 ((let v : Past c.args.s.now (moved_to c.args.p c.before-to.result) 95 c.in-Next.behind = past_from c.moved.ensures (ate _ _ 95 c.eat.ensures c.in-Next.is) in v)).ahead) (refused_on _ c.in_default-got.is (call_moved (λ d. keep (d + 1)) ((let v : c.in-Next.behind ≡ moved_to c.args.p (c.before-to.result + 1) = ((let v : Past c.args.s.now (moved_to c.args.p c.before-to.result) 95 c.in-Next.behind = past_from c.moved.ensures (ate _ _ 95 c.eat.ensures c.in-Next.is) in v)).next in v)) c.ty-got.ensures h (omega (arith, ((let v : Past c.args.s.now (moved_to c.args.p c.before-to.result) 95 c.in-Next.behind = past_from c.moved.ensures (ate _ _ 95 c.eat.ensures c.in-Next.is) in v)).inside))))
+    let passed : Past c.args.s.now (moved_to c.args.p c.before-to.result) 95 c.in-Next.behind = past_from c.moved.ensures (ate _ _ 95 c.eat.ensures c.in-Next.is) in
+    let same : c.in-Next.behind ≡ moved_to c.args.p (c.before-to.result + 1) = passed.next in
+    λ σ h. by (array_in _ _ σ h.rest c.before-to.ensures.0 passed.ahead) (refused_on _ c.in_default-got.is (call_moved (λ d. keep (d + 1)) same c.ty-got.ensures h (omega (arith, passed.inside))))
 
 pub array-put-open-requires : goal.array-put-open-requires
 array-put-open-requires t c =
-    let w = got c.in-Text.is (call_moved (λ d. keep (d + 1)) ((let v : c.in-Next.behind ≡ moved_to c.args.p (c.before-to.result + 1) = ((let v : Past c.args.s.now (moved_to c.args.p c.before-to.result) 95 c.in-Next.behind = past_from c.moved.ensures (ate _ _ 95 c.eat.ensures c.in-Next.is) in v)).next in v)) c.ty-got.ensures c.requires.1 (omega (arith, ((let v : Past c.args.s.now (moved_to c.args.p c.before-to.result) 95 c.in-Next.behind = past_from c.moved.ensures (ate _ _ 95 c.eat.ensures c.in-Next.is) in v)).inside))) in
+    let passed : Past c.args.s.now (moved_to c.args.p c.before-to.result) 95 c.in-Next.behind = past_from c.moved.ensures (ate _ _ 95 c.eat.ensures c.in-Next.is) in
+    let same : c.in-Next.behind ≡ moved_to c.args.p (c.before-to.result + 1) = passed.next in
+    let w = got c.in-Text.is (call_moved (λ d. keep (d + 1)) same c.ty-got.ensures c.requires.1 (omega (arith, passed.inside))) in
     (w.wrote.holds.text, omega arith)
 
 pub array-put_part-bound-requires : goal.array-put_part-bound-requires
 array-put_part-bound-requires t c =
-    (c.put-open.ensures.put.stack, (omega (arith, c.before-to.ensures.0), (omega (arith, ((let v : Past c.args.s.now (moved_to c.args.p c.before-to.result) 95 c.in-Next.behind = past_from c.moved.ensures (ate _ _ 95 c.eat.ensures c.in-Next.is) in v)).inside), omega (arith, ((let v : Past c.args.s.now (moved_to c.args.p c.before-to.result) 95 c.in-Next.behind = past_from c.moved.ensures (ate _ _ 95 c.eat.ensures c.in-Next.is) in v)).inside, c.requires.1.source))))
+    let passed : Past c.args.s.now (moved_to c.args.p c.before-to.result) 95 c.in-Next.behind = past_from c.moved.ensures (ate _ _ 95 c.eat.ensures c.in-Next.is) in
+    (c.put-open.ensures.put.stack, (omega (arith, c.before-to.ensures.0), (omega (arith, passed.inside), omega (arith, passed.inside, c.requires.1.source))))
 
 pub array-put-close-requires : goal.array-put-close-requires
 array-put-close-requires t c =
@@ -271,7 +331,9 @@ array-put-close-requires t c =
 
 pub array-overflow_add-n : goal.array-overflow_add-n
 array-overflow_add-n t c =
-    let w = got c.in-Text.is (call_moved (λ d. keep (d + 1)) ((let v : c.in-Next.behind ≡ moved_to c.args.p (c.before-to.result + 1) = ((let v : Past c.args.s.now (moved_to c.args.p c.before-to.result) 95 c.in-Next.behind = past_from c.moved.ensures (ate _ _ 95 c.eat.ensures c.in-Next.is) in v)).next in v)) c.ty-got.ensures c.requires.1 (omega (arith, ((let v : Past c.args.s.now (moved_to c.args.p c.before-to.result) 95 c.in-Next.behind = past_from c.moved.ensures (ate _ _ 95 c.eat.ensures c.in-Next.is) in v)).inside))) in
+    let passed : Past c.args.s.now (moved_to c.args.p c.before-to.result) 95 c.in-Next.behind = past_from c.moved.ensures (ate _ _ 95 c.eat.ensures c.in-Next.is) in
+    let same : c.in-Next.behind ≡ moved_to c.args.p (c.before-to.result + 1) = passed.next in
+    let w = got c.in-Text.is (call_moved (λ d. keep (d + 1)) same c.ty-got.ensures c.requires.1 (omega (arith, passed.inside))) in
     omega (arith, w.wrote.size, w.wrote.short)
 
 pub array-overflow_sub-to : goal.array-overflow_sub-to
@@ -280,8 +342,10 @@ array-overflow_sub-to t c =
 
 pub array-overflow_add-n-2 : goal.array-overflow_add-n-2
 array-overflow_add-n-2 t c =
-    let w = got c.in-Text.is (call_moved (λ d. keep (d + 1)) ((let v : c.in-Next.behind ≡ moved_to c.args.p (c.before-to.result + 1) = ((let v : Past c.args.s.now (moved_to c.args.p c.before-to.result) 95 c.in-Next.behind = past_from c.moved.ensures (ate _ _ 95 c.eat.ensures c.in-Next.is) in v)).next in v)) c.ty-got.ensures c.requires.1 (omega (arith, ((let v : Past c.args.s.now (moved_to c.args.p c.before-to.result) 95 c.in-Next.behind = past_from c.moved.ensures (ate _ _ 95 c.eat.ensures c.in-Next.is) in v)).inside))) in
-    omega (arith, w.wrote.size, w.wrote.short, ((let v : Past c.args.s.now (moved_to c.args.p c.before-to.result) 95 c.in-Next.behind = past_from c.moved.ensures (ate _ _ 95 c.eat.ensures c.in-Next.is) in v)).inside, c.requires.1.source)
+    let passed : Past c.args.s.now (moved_to c.args.p c.before-to.result) 95 c.in-Next.behind = past_from c.moved.ensures (ate _ _ 95 c.eat.ensures c.in-Next.is) in
+    let same : c.in-Next.behind ≡ moved_to c.args.p (c.before-to.result + 1) = passed.next in
+    let w = got c.in-Text.is (call_moved (λ d. keep (d + 1)) same c.ty-got.ensures c.requires.1 (omega (arith, passed.inside))) in
+    omega (arith, w.wrote.size, w.wrote.short, passed.inside, c.requires.1.source)
 
 pub array-given-requires : goal.array-given-requires
 array-given-requires t c =
@@ -289,12 +353,14 @@ array-given-requires t c =
 
 pub array-returns : goal.array-returns
 array-returns t c =
+    let passed : Past c.args.s.now (moved_to c.args.p c.before-to.result) 95 c.in-Next.behind = past_from c.moved.ensures (ate _ _ 95 c.eat.ensures c.in-Next.is) in
+    let same : c.in-Next.behind ≡ moved_to c.args.p (c.before-to.result + 1) = passed.next in
     λ σ h.
-    let w = got c.in-Text.is (call_moved (λ d. keep (d + 1)) ((let v : c.in-Next.behind ≡ moved_to c.args.p (c.before-to.result + 1) = ((let v : Past c.args.s.now (moved_to c.args.p c.before-to.result) 95 c.in-Next.behind = past_from c.moved.ensures (ate _ _ 95 c.eat.ensures c.in-Next.is) in v)).next in v)) c.ty-got.ensures h (omega (arith, ((let v : Past c.args.s.now (moved_to c.args.p c.before-to.result) 95 c.in-Next.behind = past_from c.moved.ensures (ate _ _ 95 c.eat.ensures c.in-Next.is) in v)).inside))) in
+    let w = got c.in-Text.is (call_moved (λ d. keep (d + 1)) same c.ty-got.ensures h (omega (arith, passed.inside))) in
     let l = part_size h _ c.before-to.ensures.1 in
-    by (array_in _ _ σ h.rest c.before-to.ensures.0 ((let v : Past c.args.s.now (moved_to c.args.p c.before-to.result) 95 c.in-Next.behind = past_from c.moved.ensures (ate _ _ 95 c.eat.ensures c.in-Next.is) in v)).ahead ∙ on_got _ w)
+    by (array_in _ _ σ h.rest c.before-to.ensures.0 passed.ahead ∙ on_got _ w)
     (array_given _ (stands_at _ _ w.wrote (omega arith) (omega (arith, c.before-to.ensures.0)) (omega arith) (omega (arith, h.deep))) w.wrote.short
-    (omega (arith, l, ((let v : Past c.args.s.now (moved_to c.args.p c.before-to.result) 95 c.in-Next.behind = past_from c.moved.ensures (ate _ _ 95 c.eat.ensures c.in-Next.is) in v)).inside, h.source)) c.put-open.ensures c.put_part-bound.ensures c.put-close.ensures (omega (arith, l))
+    (omega (arith, l, passed.inside, h.source)) c.put-open.ensures c.put_part-bound.ensures c.put-close.ensures (omega (arith, l))
     c.given.ensures)
 
 -- ---------------------------------------------------------------- at_s
@@ -441,30 +507,33 @@ func-eat-requires t c =
 
 pub func-returns-in_default-eat : goal.func-returns-in_default-eat
 func-returns-in_default-eat t c =
+    let unread : starts (drop c.in-Listed.last.at c.args.s.now) (69 ∷ []) ≡ false = ate_none c.args.s.now c.in-Listed.last 69 c.eat.ensures c.in_default-eat.is in
     λ σ h.
     let g = got c.in-Text.is (c.ty-got.ensures _ h) in
     let w = got_list c.in-Listed.is (c.items-list.ensures _ (holds_puts c.put-open.ensures g.wrote.holds)) in
-    by (function_of σ g.is ∙ then_refused _ (closed_no w.is (ahead_is _ _ _ w.stands.holds.rest refl ((let v : starts (drop c.in-Listed.last.at c.args.s.now) (69 ∷ []) ≡ false = ate_none c.args.s.now c.in-Listed.last 69 c.eat.ensures c.in_default-eat.is in v))))) refuses
+    by (function_of σ g.is ∙ then_refused _ (closed_no w.is (ahead_is _ _ _ w.stands.holds.rest refl unread))) refuses
 
 pub func-func_end-requires : goal.func-func_end-requires
 func-func_end-requires t c =
+    let passed : Past c.args.s.now c.in-Listed.last 69 c.in-Next.next = ate _ _ 69 c.eat.ensures c.in-Next.is in
     let g = got c.in-Text.is (c.ty-got.ensures _ c.requires.1) in
     let w = got_list c.in-Listed.is (c.items-list.ensures _ (holds_puts c.put-open.ensures g.wrote.holds)) in
-    let i = ((let v : Past c.args.s.now c.in-Listed.last 69 c.in-Next.next = ate _ _ 69 c.eat.ensures c.in-Next.is in v)).inside in
-    let v = stands_moved _ ((let v : Past c.args.s.now c.in-Listed.last 69 c.in-Next.next = ate _ _ 69 c.eat.ensures c.in-Next.is in v)).next (func_stands g.wrote c.put-open.ensures c.requires.1.deep w.stands) (omega arith) (omega (arith, i)) in
+    let i = passed.inside in
+    let v = stands_moved _ passed.next (func_stands g.wrote c.put-open.ensures c.requires.1.deep w.stands) (omega arith) (omega (arith, i)) in
     ((_, (_, v.holds)), (omega (arith, g.wrote.size, g.wrote.short), (omega (arith, w.stands.size), omega (arith, stands_least v))))
 
 pub func-returns : goal.func-returns
 func-returns t c =
+    let passed : Past c.args.s.now c.in-Listed.last 69 c.in-Next.next = ate _ _ 69 c.eat.ensures c.in-Next.is in
     λ σ h.
     let g = got c.in-Text.is (c.ty-got.ensures _ h) in
     let w = got_list c.in-Listed.is (c.items-list.ensures _ (holds_puts c.put-open.ensures g.wrote.holds)) in
-    let i = ((let v : Past c.args.s.now c.in-Listed.last 69 c.in-Next.next = ate _ _ 69 c.eat.ensures c.in-Next.is in v)).inside in
+    let i = passed.inside in
     by (function_of σ g.is ∙ then_ok _
-    (closed_yes w.is (ahead_is _ _ _ w.stands.holds.rest refl ((let v : Past c.args.s.now c.in-Listed.last 69 c.in-Next.next = ate _ _ 69 c.eat.ensures c.in-Next.is in v)).ahead)) ∙ ap (recorded _)
+    (closed_yes w.is (ahead_is _ _ _ w.stands.holds.rest refl passed.ahead)) ∙ ap (recorded _)
     (behind_is c.args.s.now c.in-Listed.last.at w.state w.stands.holds.rest))
     (func_ended g.said w.texts c.func_end.ensures
-    (stands_moved _ ((let v : Past c.args.s.now c.in-Listed.last 69 c.in-Next.next = ate _ _ 69 c.eat.ensures c.in-Next.is in v)).next (func_stands g.wrote c.put-open.ensures h.deep w.stands) (omega arith)
+    (stands_moved _ passed.next (func_stands g.wrote c.put-open.ensures h.deep w.stands) (omega arith)
     (omega (arith, i))) g.wrote.size w.stands.size w.count_is)
 
 -- ---------------------------------------------------------------- instance
@@ -574,8 +643,10 @@ items-sum-n-requires t c =
 
 pub items-item-got-requires : goal.items-item-got-requires
 items-item-got-requires t c =
+    let spaced : Spaced c.loop-c.text c.if-count-gt0.text c.loop-c.next c.if-count-gt0.next c.loop-c.n c.if-count-gt0.n c.loop-c.count =
+    elim c.if-count-gt0.branch [ items-then-count-gt0 w ↦ spaced_some (omega (arith, w.if-count-gt0.true)) w.put-next.ensures w.sum-n.ensures w.text-is w.next-is w.n-is | items-else-count-gt0 w ↦ spaced_none (omega (arith, w.if-count-gt0.false)) (c.loop-c.invariant.so_far _ c.requires.1).stands.holds.text c.loop-c.invariant.small w.text-is w.next-is w.n-is ] in
     let l = c.loop-c.invariant.so_far _ c.requires.1 in
-    let u = (let v : Spaced c.loop-c.text c.if-count-gt0.text c.loop-c.next c.if-count-gt0.next c.loop-c.n c.if-count-gt0.n c.loop-c.count = elim c.if-count-gt0.branch [ items-then-count-gt0 w ↦ spaced_some (omega (arith, w.if-count-gt0.true)) w.put-next.ensures w.sum-n.ensures w.text-is w.next-is w.n-is | items-else-count-gt0 w ↦ spaced_none (omega (arith, w.if-count-gt0.false)) (c.loop-c.invariant.so_far _ c.requires.1).stands.holds.text c.loop-c.invariant.small w.text-is w.next-is w.n-is ] in v) in
+    let u = spaced in
     (omega (arith, c.decreases, c.loop-c.invariant.far, ap (λ (z : Parser). z.at) u.puts.same), (l.state, holds_puts u.puts l.stands.holds))
 
 pub items-unlisted-requires : goal.items-unlisted-requires
@@ -584,16 +655,20 @@ items-unlisted-requires t c =
 
 pub items-returns-in_default-got : goal.items-returns-in_default-got
 items-returns-in_default-got t c =
+    let spaced : Spaced c.loop-c.text c.if-count-gt0.text c.loop-c.next c.if-count-gt0.next c.loop-c.n c.if-count-gt0.n c.loop-c.count =
+    elim c.if-count-gt0.branch [ items-then-count-gt0 w ↦ spaced_some (omega (arith, w.if-count-gt0.true)) w.put-next.ensures w.sum-n.ensures w.text-is w.next-is w.n-is | items-else-count-gt0 w ↦ spaced_none (omega (arith, w.if-count-gt0.false)) (c.loop-c.invariant.so_far _ c.requires.1).stands.holds.text c.loop-c.invariant.small w.text-is w.next-is w.n-is ] in
     λ σ h.
     let l = c.loop-c.invariant.so_far σ h in
-    let u = (let v : Spaced c.loop-c.text c.if-count-gt0.text c.loop-c.next c.if-count-gt0.next c.loop-c.n c.if-count-gt0.n c.loop-c.count = elim c.if-count-gt0.branch [ items-then-count-gt0 w ↦ spaced_some (omega (arith, w.if-count-gt0.true)) w.put-next.ensures w.sum-n.ensures w.text-is w.next-is w.n-is | items-else-count-gt0 w ↦ spaced_none (omega (arith, w.if-count-gt0.false)) (c.loop-c.invariant.so_far _ c.requires.1).stands.holds.text c.loop-c.invariant.small w.text-is w.next-is w.n-is ] in v) in
+    let u = spaced in
     listed_refuses l (at_byte l (sym c.peek.ensures ∙ c.in-Byte.is) (sym c.stops.ensures ∙ c.if-stops.false)) c.in_default-got.is
     (c.item-got.ensures l.state (holds_puts u.puts l.stands.holds)) c.unlisted.ensures
 
 pub items-sum-n-requires-in-loop-c : goal.items-sum-n-requires-in-loop-c
 items-sum-n-requires-in-loop-c t c =
+    let spaced : Spaced c.loop-c.text c.if-count-gt0.text c.loop-c.next c.if-count-gt0.next c.loop-c.n c.if-count-gt0.n c.loop-c.count =
+    elim c.if-count-gt0.branch [ items-then-count-gt0 w ↦ spaced_some (omega (arith, w.if-count-gt0.true)) w.put-next.ensures w.sum-n.ensures w.text-is w.next-is w.n-is | items-else-count-gt0 w ↦ spaced_none (omega (arith, w.if-count-gt0.false)) (c.loop-c.invariant.so_far _ c.requires.1).stands.holds.text c.loop-c.invariant.small w.text-is w.next-is w.n-is ] in
     let l = c.loop-c.invariant.so_far _ c.requires.1 in
-    let u = (let v : Spaced c.loop-c.text c.if-count-gt0.text c.loop-c.next c.if-count-gt0.next c.loop-c.n c.if-count-gt0.n c.loop-c.count = elim c.if-count-gt0.branch [ items-then-count-gt0 w ↦ spaced_some (omega (arith, w.if-count-gt0.true)) w.put-next.ensures w.sum-n.ensures w.text-is w.next-is w.n-is | items-else-count-gt0 w ↦ spaced_none (omega (arith, w.if-count-gt0.false)) (c.loop-c.invariant.so_far _ c.requires.1).stands.holds.text c.loop-c.invariant.small w.text-is w.next-is w.n-is ] in v) in
+    let u = spaced in
     let g = got c.in-Text.is (c.item-got.ensures l.state (holds_puts u.puts l.stands.holds)) in
     (omega (arith, u.size), omega (arith, g.wrote.size, g.wrote.short))
 
@@ -603,14 +678,18 @@ items-overflow_add-count t c =
 
 pub items-loop-c-smaller : goal.items-loop-c-smaller
 items-loop-c-smaller t c =
+    let spaced : Spaced c.loop-c.text c.if-count-gt0.text c.loop-c.next c.if-count-gt0.next c.loop-c.n c.if-count-gt0.n c.loop-c.count =
+    elim c.if-count-gt0.branch [ items-then-count-gt0 w ↦ spaced_some (omega (arith, w.if-count-gt0.true)) w.put-next.ensures w.sum-n.ensures w.text-is w.next-is w.n-is | items-else-count-gt0 w ↦ spaced_none (omega (arith, w.if-count-gt0.false)) (c.loop-c.invariant.so_far _ c.requires.1).stands.holds.text c.loop-c.invariant.small w.text-is w.next-is w.n-is ] in
     let l = c.loop-c.invariant.so_far _ c.requires.1 in
-    let u = (let v : Spaced c.loop-c.text c.if-count-gt0.text c.loop-c.next c.if-count-gt0.next c.loop-c.n c.if-count-gt0.n c.loop-c.count = elim c.if-count-gt0.branch [ items-then-count-gt0 w ↦ spaced_some (omega (arith, w.if-count-gt0.true)) w.put-next.ensures w.sum-n.ensures w.text-is w.next-is w.n-is | items-else-count-gt0 w ↦ spaced_none (omega (arith, w.if-count-gt0.false)) (c.loop-c.invariant.so_far _ c.requires.1).stands.holds.text c.loop-c.invariant.small w.text-is w.next-is w.n-is ] in v) in
+    let u = spaced in
     let g = got c.in-Text.is (c.item-got.ensures l.state (holds_puts u.puts l.stands.holds)) in
     omega (arith, g.wrote.more, g.wrote.holds.place, ap (λ (z : Parser). z.at) u.puts.same)
 
 pub items-loop-c-preserved : goal.items-loop-c-preserved
 items-loop-c-preserved t c =
-    listing_more c.loop-c.invariant c.requires.1 ((let v : Spaced c.loop-c.text c.if-count-gt0.text c.loop-c.next c.if-count-gt0.next c.loop-c.n c.if-count-gt0.n c.loop-c.count = elim c.if-count-gt0.branch [ items-then-count-gt0 w ↦ spaced_some (omega (arith, w.if-count-gt0.true)) w.put-next.ensures w.sum-n.ensures w.text-is w.next-is w.n-is | items-else-count-gt0 w ↦ spaced_none (omega (arith, w.if-count-gt0.false)) (c.loop-c.invariant.so_far _ c.requires.1).stands.holds.text c.loop-c.invariant.small w.text-is w.next-is w.n-is ] in v)) (sym c.peek.ensures ∙ c.in-Byte.is) (sym c.stops.ensures ∙ c.if-stops.false) c.in-Text.is
+    let spaced : Spaced c.loop-c.text c.if-count-gt0.text c.loop-c.next c.if-count-gt0.next c.loop-c.n c.if-count-gt0.n c.loop-c.count =
+    elim c.if-count-gt0.branch [ items-then-count-gt0 w ↦ spaced_some (omega (arith, w.if-count-gt0.true)) w.put-next.ensures w.sum-n.ensures w.text-is w.next-is w.n-is | items-else-count-gt0 w ↦ spaced_none (omega (arith, w.if-count-gt0.false)) (c.loop-c.invariant.so_far _ c.requires.1).stands.holds.text c.loop-c.invariant.small w.text-is w.next-is w.n-is ] in
+    listing_more c.loop-c.invariant c.requires.1 spaced (sym c.peek.ensures ∙ c.in-Byte.is) (sym c.stops.ensures ∙ c.if-stops.false) c.in-Text.is
     c.item-got.ensures c.sum-n-in-loop-c.ensures
 
 -- ---------------------------------------------------------------- lit
@@ -628,18 +707,26 @@ lit-eat-requires-2 t c =
     search rules
 
 pub lit-name-got-requires : goal.lit-name-got-requires
-lit-name-got-requires t c = (
-  omega (arith, c.decreases, ap (λ (z : Parser). z.at) ((let v : c.in-Next-eat.mangled ≡ moved_to c.args.p (c.args.p.at + 1 + 1) = ((let v : Past c.args.s.now c.in-Next.behind 95 c.in-Next-eat.mangled = ate _ _ 95 c.eat-2.ensures c.in-Next-eat.is in v)).next ∙ ap (λ (z : Parser). moved_to z (z.at + 1)) ((let v : Past c.args.s.now c.args.p 76 c.in-Next.behind = ate _ _ 76 c.eat.ensures c.in-Next.is in v)).next in v))),
-  (
-    _,
-    lit_name_ready c.requires.1 ((let v : Past c.args.s.now c.args.p 76 c.in-Next.behind = ate _ _ 76 c.eat.ensures c.in-Next.is in v)).ahead
-        ((let v : starts (drop (c.args.p.at + 1) c.args.s.now) (95 ∷ []) ≡ true = ap (λ (i : ℕ). starts (drop i c.args.s.now) (95 ∷ [])) (sym (ap (λ (z : Parser). z.at) ((let v : Past c.args.s.now c.args.p 76 c.in-Next.behind = ate _ _ 76 c.eat.ensures c.in-Next.is in v)).next)) ∙ ((let v : Past c.args.s.now c.in-Next.behind 95 c.in-Next-eat.mangled = ate _ _ 95 c.eat-2.ensures c.in-Next-eat.is in v)).ahead in v)) ((let v : c.in-Next-eat.mangled ≡ moved_to c.args.p (c.args.p.at + 1 + 1) = ((let v : Past c.args.s.now c.in-Next.behind 95 c.in-Next-eat.mangled = ate _ _ 95 c.eat-2.ensures c.in-Next-eat.is in v)).next ∙ ap (λ (z : Parser). moved_to z (z.at + 1)) ((let v : Past c.args.s.now c.args.p 76 c.in-Next.behind = ate _ _ 76 c.eat.ensures c.in-Next.is in v)).next in v)),
-  ),
-)
+lit-name-got-requires t c =
+    let passed : Past c.args.s.now c.in-Next.behind 95 c.in-Next-eat.mangled = ate _ _ 95 c.eat-2.ensures c.in-Next-eat.is in
+    let passed2 : Past c.args.s.now c.args.p 76 c.in-Next.behind = ate _ _ 76 c.eat.ensures c.in-Next.is in
+    let same : c.in-Next-eat.mangled ≡ moved_to c.args.p (c.args.p.at + 1 + 1) = passed.next ∙ ap (λ (z : Parser). moved_to z (z.at + 1)) passed2.next in
+    let unread : starts (drop (c.args.p.at + 1) c.args.s.now) (95 ∷ []) ≡ true = ap (λ (i : ℕ). starts (drop i c.args.s.now) (95 ∷ [])) (sym (ap (λ (z : Parser). z.at) passed2.next)) ∙ passed.ahead in (
+      omega (arith, c.decreases, ap (λ (z : Parser). z.at) same),
+      (
+        _,
+        lit_name_ready c.requires.1 passed2.ahead
+            unread same,
+      ),
+    )
 
 pub lit-returns-in_default-got : goal.lit-returns-in_default-got
 lit-returns-in_default-got t c =
-    λ σ h. lit_name_refused h ((let v : Past c.args.s.now c.args.p 76 c.in-Next.behind = ate _ _ 76 c.eat.ensures c.in-Next.is in v)).ahead ((let v : starts (drop (c.args.p.at + 1) c.args.s.now) (95 ∷ []) ≡ true = ap (λ (i : ℕ). starts (drop i c.args.s.now) (95 ∷ [])) (sym (ap (λ (z : Parser). z.at) ((let v : Past c.args.s.now c.args.p 76 c.in-Next.behind = ate _ _ 76 c.eat.ensures c.in-Next.is in v)).next)) ∙ ((let v : Past c.args.s.now c.in-Next.behind 95 c.in-Next-eat.mangled = ate _ _ 95 c.eat-2.ensures c.in-Next-eat.is in v)).ahead in v)) ((let v : c.in-Next-eat.mangled ≡ moved_to c.args.p (c.args.p.at + 1 + 1) = ((let v : Past c.args.s.now c.in-Next.behind 95 c.in-Next-eat.mangled = ate _ _ 95 c.eat-2.ensures c.in-Next-eat.is in v)).next ∙ ap (λ (z : Parser). moved_to z (z.at + 1)) ((let v : Past c.args.s.now c.args.p 76 c.in-Next.behind = ate _ _ 76 c.eat.ensures c.in-Next.is in v)).next in v)) c.name-got.ensures c.in_default-got.is
+    let passed : Past c.args.s.now c.args.p 76 c.in-Next.behind = ate _ _ 76 c.eat.ensures c.in-Next.is in
+    let passed2 : Past c.args.s.now c.in-Next.behind 95 c.in-Next-eat.mangled = ate _ _ 95 c.eat-2.ensures c.in-Next-eat.is in
+    let unread : starts (drop (c.args.p.at + 1) c.args.s.now) (95 ∷ []) ≡ true = ap (λ (i : ℕ). starts (drop i c.args.s.now) (95 ∷ [])) (sym (ap (λ (z : Parser). z.at) passed.next)) ∙ passed2.ahead in
+    let same : c.in-Next-eat.mangled ≡ moved_to c.args.p (c.args.p.at + 1 + 1) = passed2.next ∙ ap (λ (z : Parser). moved_to z (z.at + 1)) passed.next in
+    λ σ h. lit_name_refused h passed.ahead unread same c.name-got.ensures c.in_default-got.is
 
 pub lit-eat-requires-in-Next-eat : goal.lit-eat-requires-in-Next-eat
 lit-eat-requires-in-Next-eat t c =
@@ -647,32 +734,51 @@ lit-eat-requires-in-Next-eat t c =
 
 pub lit-returns-in_default-eat-2 : goal.lit-returns-in_default-eat-2
 lit-returns-in_default-eat-2 t c =
-    λ σ h. lit_name_open h ((let v : Past c.args.s.now c.args.p 76 c.in-Next.behind = ate _ _ 76 c.eat.ensures c.in-Next.is in v)).ahead ((let v : starts (drop (c.args.p.at + 1) c.args.s.now) (95 ∷ []) ≡ true = ap (λ (i : ℕ). starts (drop i c.args.s.now) (95 ∷ [])) (sym (ap (λ (z : Parser). z.at) ((let v : Past c.args.s.now c.args.p 76 c.in-Next.behind = ate _ _ 76 c.eat.ensures c.in-Next.is in v)).next)) ∙ ((let v : Past c.args.s.now c.in-Next.behind 95 c.in-Next-eat.mangled = ate _ _ 95 c.eat-2.ensures c.in-Next-eat.is in v)).ahead in v))
-    ((let v : c.in-Next-eat.mangled ≡ moved_to c.args.p (c.args.p.at + 1 + 1) = ((let v : Past c.args.s.now c.in-Next.behind 95 c.in-Next-eat.mangled = ate _ _ 95 c.eat-2.ensures c.in-Next-eat.is in v)).next ∙ ap (λ (z : Parser). moved_to z (z.at + 1)) ((let v : Past c.args.s.now c.args.p 76 c.in-Next.behind = ate _ _ 76 c.eat.ensures c.in-Next.is in v)).next in v)) c.name-got.ensures c.in-Text.is ((let v : starts (drop c.in-Text.next.at c.args.s.now) (69 ∷ []) ≡ false = ate_none c.args.s.now c.in-Text.next 69 c.eat-in-Next-eat.ensures c.in_default-eat-2.is in v))
+    let passed : Past c.args.s.now c.args.p 76 c.in-Next.behind = ate _ _ 76 c.eat.ensures c.in-Next.is in
+    let passed2 : Past c.args.s.now c.in-Next.behind 95 c.in-Next-eat.mangled = ate _ _ 95 c.eat-2.ensures c.in-Next-eat.is in
+    let unread : starts (drop c.in-Text.next.at c.args.s.now) (69 ∷ []) ≡ false = ate_none c.args.s.now c.in-Text.next 69 c.eat-in-Next-eat.ensures c.in_default-eat-2.is in
+    let unread2 : starts (drop (c.args.p.at + 1) c.args.s.now) (95 ∷ []) ≡ true =
+    ap (λ (i : ℕ). starts (drop i c.args.s.now) (95 ∷ [])) (sym (ap (λ (z : Parser). z.at) passed.next)) ∙ passed2.ahead in
+    let same : c.in-Next-eat.mangled ≡ moved_to c.args.p (c.args.p.at + 1 + 1) = passed2.next ∙ ap (λ (z : Parser). moved_to z (z.at + 1)) passed.next in
+    λ σ h. lit_name_open h passed.ahead unread2
+    same c.name-got.ensures c.in-Text.is unread
 
 pub lit-returns-in-Next-eat : goal.lit-returns-in-Next-eat
 lit-returns-in-Next-eat t c =
-    λ σ h. lit_name_E h ((let v : Past c.args.s.now c.args.p 76 c.in-Next.behind = ate _ _ 76 c.eat.ensures c.in-Next.is in v)).ahead ((let v : starts (drop (c.args.p.at + 1) c.args.s.now) (95 ∷ []) ≡ true = ap (λ (i : ℕ). starts (drop i c.args.s.now) (95 ∷ [])) (sym (ap (λ (z : Parser). z.at) ((let v : Past c.args.s.now c.args.p 76 c.in-Next.behind = ate _ _ 76 c.eat.ensures c.in-Next.is in v)).next)) ∙ ((let v : Past c.args.s.now c.in-Next.behind 95 c.in-Next-eat.mangled = ate _ _ 95 c.eat-2.ensures c.in-Next-eat.is in v)).ahead in v))
-    ((let v : c.in-Next-eat.mangled ≡ moved_to c.args.p (c.args.p.at + 1 + 1) = ((let v : Past c.args.s.now c.in-Next.behind 95 c.in-Next-eat.mangled = ate _ _ 95 c.eat-2.ensures c.in-Next-eat.is in v)).next ∙ ap (λ (z : Parser). moved_to z (z.at + 1)) ((let v : Past c.args.s.now c.args.p 76 c.in-Next.behind = ate _ _ 76 c.eat.ensures c.in-Next.is in v)).next in v)) c.name-got.ensures c.in-Text.is ((let v : Past c.args.s.now c.in-Text.next 69 c.in-Next-eat-2.last = ate _ _ 69 c.eat-in-Next-eat.ensures c.in-Next-eat-2.is in v)).ahead
-    ((let v : Past c.args.s.now c.in-Text.next 69 c.in-Next-eat-2.last = ate _ _ 69 c.eat-in-Next-eat.ensures c.in-Next-eat-2.is in v)).next
+    let passed : Past c.args.s.now c.args.p 76 c.in-Next.behind = ate _ _ 76 c.eat.ensures c.in-Next.is in
+    let passed2 : Past c.args.s.now c.in-Next.behind 95 c.in-Next-eat.mangled = ate _ _ 95 c.eat-2.ensures c.in-Next-eat.is in
+    let passed3 : Past c.args.s.now c.in-Text.next 69 c.in-Next-eat-2.last = ate _ _ 69 c.eat-in-Next-eat.ensures c.in-Next-eat-2.is in
+    let unread : starts (drop (c.args.p.at + 1) c.args.s.now) (95 ∷ []) ≡ true = ap (λ (i : ℕ). starts (drop i c.args.s.now) (95 ∷ [])) (sym (ap (λ (z : Parser). z.at) passed.next)) ∙ passed2.ahead in
+    let same : c.in-Next-eat.mangled ≡ moved_to c.args.p (c.args.p.at + 1 + 1) = passed2.next ∙ ap (λ (z : Parser). moved_to z (z.at + 1)) passed.next in
+    λ σ h. lit_name_E h passed.ahead unread
+    same c.name-got.ensures c.in-Text.is passed3.ahead
+    passed3.next
 
 pub lit-ty-got-requires : goal.lit-ty-got-requires
-lit-ty-got-requires t c = (
-  omega (arith, c.decreases, ap (λ (z : Parser). z.at) ((let v : Past c.args.s.now c.args.p 76 c.in-Next.behind = ate _ _ 76 c.eat.ensures c.in-Next.is in v)).next),
-  (
-    _,
-    lit_type_ready c.requires.1 ((let v : Past c.args.s.now c.args.p 76 c.in-Next.behind = ate _ _ 76 c.eat.ensures c.in-Next.is in v)).ahead
-        ((let v : starts (drop (c.args.p.at + 1) c.args.s.now) (95 ∷ []) ≡ false = ap (λ (i : ℕ). starts (drop i c.args.s.now) (95 ∷ [])) (sym (ap (λ (z : Parser). z.at) ((let v : Past c.args.s.now c.args.p 76 c.in-Next.behind = ate _ _ 76 c.eat.ensures c.in-Next.is in v)).next)) ∙ (ate_none c.args.s.now c.in-Next.behind 95 c.eat-2.ensures c.in_default-eat.is) in v)) ((let v : Past c.args.s.now c.args.p 76 c.in-Next.behind = ate _ _ 76 c.eat.ensures c.in-Next.is in v)).next,
-  ),
-)
+lit-ty-got-requires t c =
+    let passed : Past c.args.s.now c.args.p 76 c.in-Next.behind = ate _ _ 76 c.eat.ensures c.in-Next.is in
+    let unread : starts (drop (c.args.p.at + 1) c.args.s.now) (95 ∷ []) ≡ false = ap (λ (i : ℕ). starts (drop i c.args.s.now) (95 ∷ [])) (sym (ap (λ (z : Parser). z.at) passed.next)) ∙ (ate_none c.args.s.now c.in-Next.behind 95 c.eat-2.ensures c.in_default-eat.is) in (
+      omega (arith, c.decreases, ap (λ (z : Parser). z.at) passed.next),
+      (
+        _,
+        lit_type_ready c.requires.1 passed.ahead
+            unread passed.next,
+      ),
+    )
 
 pub lit-returns-in_default-got-2 : goal.lit-returns-in_default-got-2
 lit-returns-in_default-got-2 t c =
-    λ σ h. lit_type_refused h ((let v : Past c.args.s.now c.args.p 76 c.in-Next.behind = ate _ _ 76 c.eat.ensures c.in-Next.is in v)).ahead ((let v : starts (drop (c.args.p.at + 1) c.args.s.now) (95 ∷ []) ≡ false = ap (λ (i : ℕ). starts (drop i c.args.s.now) (95 ∷ [])) (sym (ap (λ (z : Parser). z.at) ((let v : Past c.args.s.now c.args.p 76 c.in-Next.behind = ate _ _ 76 c.eat.ensures c.in-Next.is in v)).next)) ∙ (ate_none c.args.s.now c.in-Next.behind 95 c.eat-2.ensures c.in_default-eat.is) in v)) ((let v : Past c.args.s.now c.args.p 76 c.in-Next.behind = ate _ _ 76 c.eat.ensures c.in-Next.is in v)).next c.ty-got.ensures c.in_default-got-2.is
+    let passed : Past c.args.s.now c.args.p 76 c.in-Next.behind = ate _ _ 76 c.eat.ensures c.in-Next.is in
+    let unread : starts (drop (c.args.p.at + 1) c.args.s.now) (95 ∷ []) ≡ false =
+    ap (λ (i : ℕ). starts (drop i c.args.s.now) (95 ∷ [])) (sym (ap (λ (z : Parser). z.at) passed.next)) ∙ (ate_none c.args.s.now c.in-Next.behind 95 c.eat-2.ensures c.in_default-eat.is) in
+    λ σ h. lit_type_refused h passed.ahead unread passed.next c.ty-got.ensures c.in_default-got-2.is
 
 pub lit-before-to-requires : goal.lit-before-to-requires
 lit-before-to-requires t c =
-    (lit_type_got c.requires.1 ((let v : Past c.args.s.now c.args.p 76 c.in-Next.behind = ate _ _ 76 c.eat.ensures c.in-Next.is in v)).ahead ((let v : starts (drop (c.args.p.at + 1) c.args.s.now) (95 ∷ []) ≡ false = ap (λ (i : ℕ). starts (drop i c.args.s.now) (95 ∷ [])) (sym (ap (λ (z : Parser). z.at) ((let v : Past c.args.s.now c.args.p 76 c.in-Next.behind = ate _ _ 76 c.eat.ensures c.in-Next.is in v)).next)) ∙ (ate_none c.args.s.now c.in-Next.behind 95 c.eat-2.ensures c.in_default-eat.is) in v)) ((let v : Past c.args.s.now c.args.p 76 c.in-Next.behind = ate _ _ 76 c.eat.ensures c.in-Next.is in v)).next c.ty-got.ensures c.in-Text-got.is).wrote.holds.place
+    let passed : Past c.args.s.now c.args.p 76 c.in-Next.behind = ate _ _ 76 c.eat.ensures c.in-Next.is in
+    let unread : starts (drop (c.args.p.at + 1) c.args.s.now) (95 ∷ []) ≡ false =
+    ap (λ (i : ℕ). starts (drop i c.args.s.now) (95 ∷ [])) (sym (ap (λ (z : Parser). z.at) passed.next)) ∙ (ate_none c.args.s.now c.in-Next.behind 95 c.eat-2.ensures c.in_default-eat.is) in
+    (lit_type_got c.requires.1 passed.ahead unread passed.next c.ty-got.ensures c.in-Text-got.is).wrote.holds.place
 
 pub lit-moved-requires : goal.lit-moved-requires
 lit-moved-requires t c =
@@ -684,20 +790,35 @@ lit-eat-requires-3 t c =
 
 pub lit-returns-in_default-eat-3 : goal.lit-returns-in_default-eat-3
 lit-returns-in_default-eat-3 t c =
-    λ σ h. lit_open h ((let v : Past c.args.s.now c.args.p 76 c.in-Next.behind = ate _ _ 76 c.eat.ensures c.in-Next.is in v)).ahead ((let v : starts (drop (c.args.p.at + 1) c.args.s.now) (95 ∷ []) ≡ false = ap (λ (i : ℕ). starts (drop i c.args.s.now) (95 ∷ [])) (sym (ap (λ (z : Parser). z.at) ((let v : Past c.args.s.now c.args.p 76 c.in-Next.behind = ate _ _ 76 c.eat.ensures c.in-Next.is in v)).next)) ∙ (ate_none c.args.s.now c.in-Next.behind 95 c.eat-2.ensures c.in_default-eat.is) in v))
-    ((let v : Past c.args.s.now c.args.p 76 c.in-Next.behind = ate _ _ 76 c.eat.ensures c.in-Next.is in v)).next c.ty-got.ensures c.in-Text-got.is c.before-to.ensures ((let v : starts (drop c.before-to.result c.args.s.now) (69 ∷ []) ≡ false = let s = c.args.s.now in none_from s 69 c.moved.ensures (ate_none s c.moved.result 69 c.eat-3.ensures c.in_default-eat-3.is) in v))
+    let unread : starts (drop c.before-to.result c.args.s.now) (69 ∷ []) ≡ false =
+    let s = c.args.s.now in none_from s 69 c.moved.ensures (ate_none s c.moved.result 69 c.eat-3.ensures c.in_default-eat-3.is) in
+    let passed : Past c.args.s.now c.args.p 76 c.in-Next.behind = ate _ _ 76 c.eat.ensures c.in-Next.is in
+    let unread2 : starts (drop (c.args.p.at + 1) c.args.s.now) (95 ∷ []) ≡ false =
+    ap (λ (i : ℕ). starts (drop i c.args.s.now) (95 ∷ [])) (sym (ap (λ (z : Parser). z.at) passed.next)) ∙ (ate_none c.args.s.now c.in-Next.behind 95 c.eat-2.ensures c.in_default-eat.is) in
+    λ σ h. lit_open h passed.ahead unread2
+    passed.next c.ty-got.ensures c.in-Text-got.is c.before-to.ensures unread
 
 pub lit-literal-requires : goal.lit-literal-requires
 lit-literal-requires t c =
-    lit_ready c.requires.1 ((let v : Past c.args.s.now c.args.p 76 c.in-Next.behind = ate _ _ 76 c.eat.ensures c.in-Next.is in v)).ahead
-    ((let v : starts (drop (c.args.p.at + 1) c.args.s.now) (95 ∷ []) ≡ false = ap (λ (i : ℕ). starts (drop i c.args.s.now) (95 ∷ [])) (sym (ap (λ (z : Parser). z.at) ((let v : Past c.args.s.now c.args.p 76 c.in-Next.behind = ate _ _ 76 c.eat.ensures c.in-Next.is in v)).next)) ∙ (ate_none c.args.s.now c.in-Next.behind 95 c.eat-2.ensures c.in_default-eat.is) in v)) ((let v : Past c.args.s.now c.args.p 76 c.in-Next.behind = ate _ _ 76 c.eat.ensures c.in-Next.is in v)).next c.ty-got.ensures c.in-Text-got.is
-    c.before-to.ensures ((let v : c.in-Next-eat-3.last ≡ moved_to c.in-Text-got.next (c.before-to.result + 1) = ((let v : Past c.args.s.now (moved_to c.in-Text-got.next c.before-to.result) 69 c.in-Next-eat-3.last = past_from c.moved.ensures (ate _ _ 69 c.eat-3.ensures c.in-Next-eat-3.is) in v)).next in v))
+    let passed : Past c.args.s.now c.args.p 76 c.in-Next.behind = ate _ _ 76 c.eat.ensures c.in-Next.is in
+    let passed2 : Past c.args.s.now (moved_to c.in-Text-got.next c.before-to.result) 69 c.in-Next-eat-3.last = past_from c.moved.ensures (ate _ _ 69 c.eat-3.ensures c.in-Next-eat-3.is) in
+    let same : c.in-Next-eat-3.last ≡ moved_to c.in-Text-got.next (c.before-to.result + 1) = passed2.next in
+    let unread : starts (drop (c.args.p.at + 1) c.args.s.now) (95 ∷ []) ≡ false =
+    ap (λ (i : ℕ). starts (drop i c.args.s.now) (95 ∷ [])) (sym (ap (λ (z : Parser). z.at) passed.next)) ∙ (ate_none c.args.s.now c.in-Next.behind 95 c.eat-2.ensures c.in_default-eat.is) in
+    lit_ready c.requires.1 passed.ahead
+    unread passed.next c.ty-got.ensures c.in-Text-got.is
+    c.before-to.ensures same
 
 pub lit-returns : goal.lit-returns
 lit-returns t c =
-    λ σ h. lit_given h ((let v : Past c.args.s.now c.args.p 76 c.in-Next.behind = ate _ _ 76 c.eat.ensures c.in-Next.is in v)).ahead ((let v : starts (drop (c.args.p.at + 1) c.args.s.now) (95 ∷ []) ≡ false = ap (λ (i : ℕ). starts (drop i c.args.s.now) (95 ∷ [])) (sym (ap (λ (z : Parser). z.at) ((let v : Past c.args.s.now c.args.p 76 c.in-Next.behind = ate _ _ 76 c.eat.ensures c.in-Next.is in v)).next)) ∙ (ate_none c.args.s.now c.in-Next.behind 95 c.eat-2.ensures c.in_default-eat.is) in v))
-    ((let v : Past c.args.s.now c.args.p 76 c.in-Next.behind = ate _ _ 76 c.eat.ensures c.in-Next.is in v)).next c.ty-got.ensures c.in-Text-got.is
-    c.before-to.ensures ((let v : Past c.args.s.now (moved_to c.in-Text-got.next c.before-to.result) 69 c.in-Next-eat-3.last = past_from c.moved.ensures (ate _ _ 69 c.eat-3.ensures c.in-Next-eat-3.is) in v)).ahead ((let v : c.in-Next-eat-3.last ≡ moved_to c.in-Text-got.next (c.before-to.result + 1) = ((let v : Past c.args.s.now (moved_to c.in-Text-got.next c.before-to.result) 69 c.in-Next-eat-3.last = past_from c.moved.ensures (ate _ _ 69 c.eat-3.ensures c.in-Next-eat-3.is) in v)).next in v)) c.literal.ensures
+    let passed : Past c.args.s.now c.args.p 76 c.in-Next.behind = ate _ _ 76 c.eat.ensures c.in-Next.is in
+    let passed2 : Past c.args.s.now (moved_to c.in-Text-got.next c.before-to.result) 69 c.in-Next-eat-3.last = past_from c.moved.ensures (ate _ _ 69 c.eat-3.ensures c.in-Next-eat-3.is) in
+    let same : c.in-Next-eat-3.last ≡ moved_to c.in-Text-got.next (c.before-to.result + 1) = passed2.next in
+    let unread : starts (drop (c.args.p.at + 1) c.args.s.now) (95 ∷ []) ≡ false =
+    ap (λ (i : ℕ). starts (drop i c.args.s.now) (95 ∷ [])) (sym (ap (λ (z : Parser). z.at) passed.next)) ∙ (ate_none c.args.s.now c.in-Next.behind 95 c.eat-2.ensures c.in_default-eat.is) in
+    λ σ h. lit_given h passed.ahead unread
+    passed.next c.ty-got.ensures c.in-Text-got.is
+    c.before-to.ensures passed2.ahead same c.literal.ensures
 
 -- ---------------------------------------------------------------- loc_fn
 
@@ -716,7 +837,8 @@ loc_fn-eat-requires t c =
 pub loc_fn-returns-in-Next : goal.loc_fn-returns-in-Next
 unfolding b
 loc_fn-returns-in-Next t c =
-    λ σ h. fn_bare h c.name-got.ensures c.in-Text.is ((let v : Past c.args.s.now c.in-Text.named 69 c.in-Next.bare = ate _ _ 69 c.eat.ensures c.in-Next.is in v)).ahead ((let v : Past c.args.s.now c.in-Text.named 69 c.in-Next.bare = ate _ _ 69 c.eat.ensures c.in-Next.is in v)).next
+    let passed : Past c.args.s.now c.in-Text.named 69 c.in-Next.bare = ate _ _ 69 c.eat.ensures c.in-Next.is in
+    λ σ h. fn_bare h c.name-got.ensures c.in-Text.is passed.ahead passed.next
 
 pub loc_fn-put-open-requires : goal.loc_fn-put-open-requires
 unfolding b
@@ -726,12 +848,13 @@ loc_fn-put-open-requires t c =
 pub loc_fn-items-list-requires : goal.loc_fn-items-list-requires
 unfolding b
 loc_fn-items-list-requires t c =
+    let unread : starts (drop c.in-Text.named.at c.args.s.now) (69 ∷ []) ≡ false = ate_none c.args.s.now c.in-Text.named 69 c.eat.ensures c.in_default-eat.is in
     let w = (fn_got c.requires.1 c.name-got.ensures c.in-Text.is).wrote in (
       omega (arith, c.decreases, ap (λ (z : Parser). z.at) c.put-open.ensures.same, w.more, w.holds.place),
       (
         _,
         fn_items_ready c.requires.1 c.name-got.ensures c.in-Text.is
-            ((let v : starts (drop c.in-Text.named.at c.args.s.now) (69 ∷ []) ≡ false = ate_none c.args.s.now c.in-Text.named 69 c.eat.ensures c.in_default-eat.is in v)) c.put-open.ensures,
+            unread c.put-open.ensures,
       ),
     )
 
@@ -742,15 +865,17 @@ loc_fn-refused-requires t c =
 pub loc_fn-returns-in_default-list : goal.loc_fn-returns-in_default-list
 unfolding b
 loc_fn-returns-in_default-list t c =
+    let unread : starts (drop c.in-Text.named.at c.args.s.now) (69 ∷ []) ≡ false = ate_none c.args.s.now c.in-Text.named 69 c.eat.ensures c.in_default-eat.is in
     λ σ h. fn_items_refused h c.name-got.ensures c.in-Text.is
-    ((let v : starts (drop c.in-Text.named.at c.args.s.now) (69 ∷ []) ≡ false = ate_none c.args.s.now c.in-Text.named 69 c.eat.ensures c.in_default-eat.is in v)) c.put-open.ensures c.items-list.ensures
+    unread c.put-open.ensures c.items-list.ensures
     c.in_default-list.is c.refused.ensures
 
 pub loc_fn-returns-then-m-gt-TEXT : goal.loc_fn-returns-then-m-gt-TEXT
 unfolding b
 loc_fn-returns-then-m-gt-TEXT t c =
+    let unread : starts (drop c.in-Text.named.at c.args.s.now) (69 ∷ []) ≡ false = ate_none c.args.s.now c.in-Text.named 69 c.eat.ensures c.in_default-eat.is in
     λ σ h. fn_long h c.name-got.ensures c.in-Text.is
-    ((let v : starts (drop c.in-Text.named.at c.args.s.now) (69 ∷ []) ≡ false = ate_none c.args.s.now c.in-Text.named 69 c.eat.ensures c.in_default-eat.is in v)) c.put-open.ensures c.items-list.ensures
+    unread c.put-open.ensures c.items-list.ensures
     c.in-Listed.is c.if-m-gt-TEXT.true
 
 pub loc_fn-eat-requires-2 : goal.loc_fn-eat-requires-2
@@ -760,19 +885,23 @@ loc_fn-eat-requires-2 t c =
 pub loc_fn-returns-in_default-eat-2 : goal.loc_fn-returns-in_default-eat-2
 unfolding b
 loc_fn-returns-in_default-eat-2 t c =
+    let unread : starts (drop c.in-Text.named.at c.args.s.now) (69 ∷ []) ≡ false = ate_none c.args.s.now c.in-Text.named 69 c.eat.ensures c.in_default-eat.is in
+    let unread2 : starts (drop c.in-Listed.last.at c.args.s.now) (69 ∷ []) ≡ false = ate_none c.args.s.now c.in-Listed.last 69 c.eat-2.ensures c.in_default-eat-2.is in
     λ σ h. fn_open h c.name-got.ensures c.in-Text.is
-    ((let v : starts (drop c.in-Text.named.at c.args.s.now) (69 ∷ []) ≡ false = ate_none c.args.s.now c.in-Text.named 69 c.eat.ensures c.in_default-eat.is in v)) c.put-open.ensures c.items-list.ensures
-    c.in-Listed.is c.if-m-gt-TEXT.false ((let v : starts (drop c.in-Listed.last.at c.args.s.now) (69 ∷ []) ≡ false = ate_none c.args.s.now c.in-Listed.last 69 c.eat-2.ensures c.in_default-eat-2.is in v))
+    unread c.put-open.ensures c.items-list.ensures
+    c.in-Listed.is c.if-m-gt-TEXT.false unread2
 
 pub loc_fn-put-close-requires : goal.loc_fn-put-close-requires
 unfolding b
-loc_fn-put-close-requires t c = (
-  stack_by ((let v : Past c.args.s.now c.in-Listed.last 69 c.in-Next-eat.closed = ate _ _ 69 c.eat-2.ensures c.in-Next-eat.is in v)).next
-      (fn_listing c.requires.1 c.name-got.ensures c.in-Text.is
-      ((let v : starts (drop c.in-Text.named.at c.args.s.now) (69 ∷ []) ≡ false = ate_none c.args.s.now c.in-Text.named 69 c.eat.ensures c.in_default-eat.is in v)) c.put-open.ensures c.items-list.ensures
-      c.in-Listed.is).stands.holds.text,
-  omega arith,
-)
+loc_fn-put-close-requires t c =
+    let passed : Past c.args.s.now c.in-Listed.last 69 c.in-Next-eat.closed = ate _ _ 69 c.eat-2.ensures c.in-Next-eat.is in
+    let unread : starts (drop c.in-Text.named.at c.args.s.now) (69 ∷ []) ≡ false = ate_none c.args.s.now c.in-Text.named 69 c.eat.ensures c.in_default-eat.is in (
+      stack_by passed.next
+          (fn_listing c.requires.1 c.name-got.ensures c.in-Text.is
+          unread c.put-open.ensures c.items-list.ensures
+          c.in-Listed.is).stands.holds.text,
+      omega arith,
+    )
 
 pub loc_fn-overflow_add-n : goal.loc_fn-overflow_add-n
 unfolding b
@@ -793,11 +922,13 @@ loc_fn-given-requires t c =
 pub loc_fn-returns : goal.loc_fn-returns
 unfolding b
 loc_fn-returns t c =
+    let unread : starts (drop c.in-Text.named.at c.args.s.now) (69 ∷ []) ≡ false = ate_none c.args.s.now c.in-Text.named 69 c.eat.ensures c.in_default-eat.is in
+    let passed : Past c.args.s.now c.in-Listed.last 69 c.in-Next-eat.closed = ate _ _ 69 c.eat-2.ensures c.in-Next-eat.is in
     λ σ h. fn_given h c.name-got.ensures c.in-Text.is
-    ((let v : starts (drop c.in-Text.named.at c.args.s.now) (69 ∷ []) ≡ false = ate_none c.args.s.now c.in-Text.named 69 c.eat.ensures c.in_default-eat.is in v)) c.put-open.ensures c.items-list.ensures
+    unread c.put-open.ensures c.items-list.ensures
     c.in-Listed.is c.if-m-gt-TEXT.false
-    ((let v : Past c.args.s.now c.in-Listed.last 69 c.in-Next-eat.closed = ate _ _ 69 c.eat-2.ensures c.in-Next-eat.is in v)).ahead
-    ((let v : Past c.args.s.now c.in-Listed.last 69 c.in-Next-eat.closed = ate _ _ 69 c.eat-2.ensures c.in-Next-eat.is in v)).next c.put-close.ensures c.given.ensures
+    passed.ahead
+    passed.next c.put-close.ensures c.given.ensures
 
 -- ---------------------------------------------------------------- local_name
 
@@ -810,19 +941,21 @@ local_name-returns-in_default t c =
     λ σ h. by (local_none c.args.s.now c.args.p.at σ h.rest (ate_none c.args.s.now c.args.p 90 c.eat.ensures c.in_default.is)) refuses
 
 pub local_name-loc_fn-got-requires : goal.local_name-loc_fn-got-requires
-local_name-loc_fn-got-requires t c = (
-  omega (
-    arith,
-    c.decreases,
-    ap (λ (z : Parser). z.at) ((let v : Past c.args.s.now c.args.p 90 c.in-Next.behind = ate _ _ 90 c.eat.ensures c.in-Next.is in v)).next,
-    ((let v : Past c.args.s.now c.args.p 90 c.in-Next.behind = ate _ _ 90 c.eat.ensures c.in-Next.is in v)).inside,
-  ),
-  (_, local_ready c.requires.1 ((let v : Past c.args.s.now c.args.p 90 c.in-Next.behind = ate _ _ 90 c.eat.ensures c.in-Next.is in v)).ahead ((let v : Past c.args.s.now c.args.p 90 c.in-Next.behind = ate _ _ 90 c.eat.ensures c.in-Next.is in v)).next),
-)
+local_name-loc_fn-got-requires t c =
+    let passed : Past c.args.s.now c.args.p 90 c.in-Next.behind = ate _ _ 90 c.eat.ensures c.in-Next.is in (
+      omega (
+        arith,
+        c.decreases,
+        ap (λ (z : Parser). z.at) passed.next,
+        passed.inside,
+      ),
+      (_, local_ready c.requires.1 passed.ahead passed.next),
+    )
 
 pub local_name-returns-in_default-got : goal.local_name-returns-in_default-got
 local_name-returns-in_default-got t c =
-    λ σ h. local_refused h ((let v : Past c.args.s.now c.args.p 90 c.in-Next.behind = ate _ _ 90 c.eat.ensures c.in-Next.is in v)).ahead ((let v : Past c.args.s.now c.args.p 90 c.in-Next.behind = ate _ _ 90 c.eat.ensures c.in-Next.is in v)).next c.loc_fn-got.ensures c.in_default-got.is
+    let passed : Past c.args.s.now c.args.p 90 c.in-Next.behind = ate _ _ 90 c.eat.ensures c.in-Next.is in
+    λ σ h. local_refused h passed.ahead passed.next c.loc_fn-got.ensures c.in_default-got.is
 
 pub local_name-eat-requires-2 : goal.local_name-eat-requires-2
 local_name-eat-requires-2 t c =
@@ -831,11 +964,14 @@ local_name-eat-requires-2 t c =
 pub local_name-put-next-requires : goal.local_name-put-next-requires
 unfolding b
 local_name-put-next-requires t c =
-    (stack_by ((let v : Past c.args.s.now c.in-Text.outer 115 c.in-Next-eat.last = ate _ _ 115 c.eat-2.ensures c.in-Next-eat.is in v)).next (local_got c.requires.1 ((let v : Past c.args.s.now c.args.p 90 c.in-Next.behind = ate _ _ 90 c.eat.ensures c.in-Next.is in v)).ahead ((let v : Past c.args.s.now c.args.p 90 c.in-Next.behind = ate _ _ 90 c.eat.ensures c.in-Next.is in v)).next c.loc_fn-got.ensures c.in-Text.is).wrote.holds.text, omega arith)
+    let passed : Past c.args.s.now c.in-Text.outer 115 c.in-Next-eat.last = ate _ _ 115 c.eat-2.ensures c.in-Next-eat.is in
+    let passed2 : Past c.args.s.now c.args.p 90 c.in-Next.behind = ate _ _ 90 c.eat.ensures c.in-Next.is in
+    (stack_by passed.next (local_got c.requires.1 passed2.ahead passed2.next c.loc_fn-got.ensures c.in-Text.is).wrote.holds.text, omega arith)
 
 pub local_name-overflow_add-n : goal.local_name-overflow_add-n
 local_name-overflow_add-n t c =
-    let w = (local_got c.requires.1 ((let v : Past c.args.s.now c.args.p 90 c.in-Next.behind = ate _ _ 90 c.eat.ensures c.in-Next.is in v)).ahead ((let v : Past c.args.s.now c.args.p 90 c.in-Next.behind = ate _ _ 90 c.eat.ensures c.in-Next.is in v)).next c.loc_fn-got.ensures c.in-Text.is).wrote in
+    let passed : Past c.args.s.now c.args.p 90 c.in-Next.behind = ate _ _ 90 c.eat.ensures c.in-Next.is in
+    let w = (local_got c.requires.1 passed.ahead passed.next c.loc_fn-got.ensures c.in-Text.is).wrote in
     omega (arith, w.size, w.short)
 
 pub local_name-given-requires : goal.local_name-given-requires
@@ -845,49 +981,60 @@ local_name-given-requires t c =
 pub local_name-returns-in-Next-eat : goal.local_name-returns-in-Next-eat
 unfolding b
 local_name-returns-in-Next-eat t c =
-    λ σ h. local_string h ((let v : Past c.args.s.now c.args.p 90 c.in-Next.behind = ate _ _ 90 c.eat.ensures c.in-Next.is in v)).ahead ((let v : Past c.args.s.now c.args.p 90 c.in-Next.behind = ate _ _ 90 c.eat.ensures c.in-Next.is in v)).next c.loc_fn-got.ensures
-    c.in-Text.is ((let v : Past c.args.s.now c.in-Text.outer 115 c.in-Next-eat.last = ate _ _ 115 c.eat-2.ensures c.in-Next-eat.is in v)).ahead
-    ((let v : Past c.args.s.now c.in-Text.outer 115 c.in-Next-eat.last = ate _ _ 115 c.eat-2.ensures c.in-Next-eat.is in v)).next c.put-next.ensures c.given.ensures
+    let passed : Past c.args.s.now c.args.p 90 c.in-Next.behind = ate _ _ 90 c.eat.ensures c.in-Next.is in
+    let passed2 : Past c.args.s.now c.in-Text.outer 115 c.in-Next-eat.last = ate _ _ 115 c.eat-2.ensures c.in-Next-eat.is in
+    λ σ h. local_string h passed.ahead passed.next c.loc_fn-got.ensures
+    c.in-Text.is passed2.ahead
+    passed2.next c.put-next.ensures c.given.ensures
 
 pub local_name-put-colons-requires : goal.local_name-put-colons-requires
 unfolding b
 local_name-put-colons-requires t c =
-    ((local_got c.requires.1 ((let v : Past c.args.s.now c.args.p 90 c.in-Next.behind = ate _ _ 90 c.eat.ensures c.in-Next.is in v)).ahead ((let v : Past c.args.s.now c.args.p 90 c.in-Next.behind = ate _ _ 90 c.eat.ensures c.in-Next.is in v)).next c.loc_fn-got.ensures c.in-Text.is).wrote.holds.text, omega arith)
+    let passed : Past c.args.s.now c.args.p 90 c.in-Next.behind = ate _ _ 90 c.eat.ensures c.in-Next.is in
+    ((local_got c.requires.1 passed.ahead passed.next c.loc_fn-got.ensures c.in-Text.is).wrote.holds.text, omega arith)
 
 pub local_name-name-inner-requires : goal.local_name-name-inner-requires
 unfolding b
 local_name-name-inner-requires t c =
-    let y = (local_got c.requires.1 ((let v : Past c.args.s.now c.args.p 90 c.in-Next.behind = ate _ _ 90 c.eat.ensures c.in-Next.is in v)).ahead ((let v : Past c.args.s.now c.args.p 90 c.in-Next.behind = ate _ _ 90 c.eat.ensures c.in-Next.is in v)).next c.loc_fn-got.ensures c.in-Text.is).wrote in (
+    let passed : Past c.args.s.now c.args.p 90 c.in-Next.behind = ate _ _ 90 c.eat.ensures c.in-Next.is in
+    let unread : starts (drop c.in-Text.outer.at c.args.s.now) (115 ∷ []) ≡ false = ate_none c.args.s.now c.in-Text.outer 115 c.eat-2.ensures c.in_default-eat.is in
+    let y = (local_got c.requires.1 passed.ahead passed.next c.loc_fn-got.ensures c.in-Text.is).wrote in (
       omega (arith, c.decreases, ap (λ (z : Parser). z.at) c.put-colons.ensures.same, y.more, y.holds.place),
       (
         _,
-        local_name_ready c.requires.1 ((let v : Past c.args.s.now c.args.p 90 c.in-Next.behind = ate _ _ 90 c.eat.ensures c.in-Next.is in v)).ahead ((let v : Past c.args.s.now c.args.p 90 c.in-Next.behind = ate _ _ 90 c.eat.ensures c.in-Next.is in v)).next
-            c.loc_fn-got.ensures c.in-Text.is ((let v : starts (drop c.in-Text.outer.at c.args.s.now) (115 ∷ []) ≡ false = ate_none c.args.s.now c.in-Text.outer 115 c.eat-2.ensures c.in_default-eat.is in v)) c.put-colons.ensures,
+        local_name_ready c.requires.1 passed.ahead passed.next
+            c.loc_fn-got.ensures c.in-Text.is unread c.put-colons.ensures,
       ),
     )
 
 pub local_name-returns-in_default-inner : goal.local_name-returns-in_default-inner
 unfolding b
 local_name-returns-in_default-inner t c =
-    λ σ h. local_name_refused h ((let v : Past c.args.s.now c.args.p 90 c.in-Next.behind = ate _ _ 90 c.eat.ensures c.in-Next.is in v)).ahead ((let v : Past c.args.s.now c.args.p 90 c.in-Next.behind = ate _ _ 90 c.eat.ensures c.in-Next.is in v)).next c.loc_fn-got.ensures
-    c.in-Text.is ((let v : starts (drop c.in-Text.outer.at c.args.s.now) (115 ∷ []) ≡ false = ate_none c.args.s.now c.in-Text.outer 115 c.eat-2.ensures c.in_default-eat.is in v)) c.put-colons.ensures c.name-inner.ensures
+    let passed : Past c.args.s.now c.args.p 90 c.in-Next.behind = ate _ _ 90 c.eat.ensures c.in-Next.is in
+    let unread : starts (drop c.in-Text.outer.at c.args.s.now) (115 ∷ []) ≡ false = ate_none c.args.s.now c.in-Text.outer 115 c.eat-2.ensures c.in_default-eat.is in
+    λ σ h. local_name_refused h passed.ahead passed.next c.loc_fn-got.ensures
+    c.in-Text.is unread c.put-colons.ensures c.name-inner.ensures
     c.in_default-inner.is
 
 pub local_name-overflow_add-n-2 : goal.local_name-overflow_add-n-2
 unfolding b
 local_name-overflow_add-n-2 t c =
-    let y = (local_got c.requires.1 ((let v : Past c.args.s.now c.args.p 90 c.in-Next.behind = ate _ _ 90 c.eat.ensures c.in-Next.is in v)).ahead ((let v : Past c.args.s.now c.args.p 90 c.in-Next.behind = ate _ _ 90 c.eat.ensures c.in-Next.is in v)).next c.loc_fn-got.ensures c.in-Text.is).wrote in
-    let z = (local_name_got c.requires.1 ((let v : Past c.args.s.now c.args.p 90 c.in-Next.behind = ate _ _ 90 c.eat.ensures c.in-Next.is in v)).ahead ((let v : Past c.args.s.now c.args.p 90 c.in-Next.behind = ate _ _ 90 c.eat.ensures c.in-Next.is in v)).next
-    c.loc_fn-got.ensures c.in-Text.is ((let v : starts (drop c.in-Text.outer.at c.args.s.now) (115 ∷ []) ≡ false = ate_none c.args.s.now c.in-Text.outer 115 c.eat-2.ensures c.in_default-eat.is in v)) c.put-colons.ensures
+    let passed : Past c.args.s.now c.args.p 90 c.in-Next.behind = ate _ _ 90 c.eat.ensures c.in-Next.is in
+    let unread : starts (drop c.in-Text.outer.at c.args.s.now) (115 ∷ []) ≡ false = ate_none c.args.s.now c.in-Text.outer 115 c.eat-2.ensures c.in_default-eat.is in
+    let y = (local_got c.requires.1 passed.ahead passed.next c.loc_fn-got.ensures c.in-Text.is).wrote in
+    let z = (local_name_got c.requires.1 passed.ahead passed.next
+    c.loc_fn-got.ensures c.in-Text.is unread c.put-colons.ensures
     c.name-inner.ensures c.in-Text-inner.is).wrote in
     omega (arith, y.size, y.short, z.size, z.short)
 
 pub local_name-overflow_add-n-3 : goal.local_name-overflow_add-n-3
 unfolding b
 local_name-overflow_add-n-3 t c =
-    let y = (local_got c.requires.1 ((let v : Past c.args.s.now c.args.p 90 c.in-Next.behind = ate _ _ 90 c.eat.ensures c.in-Next.is in v)).ahead ((let v : Past c.args.s.now c.args.p 90 c.in-Next.behind = ate _ _ 90 c.eat.ensures c.in-Next.is in v)).next c.loc_fn-got.ensures c.in-Text.is).wrote in
-    let z = (local_name_got c.requires.1 ((let v : Past c.args.s.now c.args.p 90 c.in-Next.behind = ate _ _ 90 c.eat.ensures c.in-Next.is in v)).ahead ((let v : Past c.args.s.now c.args.p 90 c.in-Next.behind = ate _ _ 90 c.eat.ensures c.in-Next.is in v)).next
-    c.loc_fn-got.ensures c.in-Text.is ((let v : starts (drop c.in-Text.outer.at c.args.s.now) (115 ∷ []) ≡ false = ate_none c.args.s.now c.in-Text.outer 115 c.eat-2.ensures c.in_default-eat.is in v)) c.put-colons.ensures
+    let passed : Past c.args.s.now c.args.p 90 c.in-Next.behind = ate _ _ 90 c.eat.ensures c.in-Next.is in
+    let unread : starts (drop c.in-Text.outer.at c.args.s.now) (115 ∷ []) ≡ false = ate_none c.args.s.now c.in-Text.outer 115 c.eat-2.ensures c.in_default-eat.is in
+    let y = (local_got c.requires.1 passed.ahead passed.next c.loc_fn-got.ensures c.in-Text.is).wrote in
+    let z = (local_name_got c.requires.1 passed.ahead passed.next
+    c.loc_fn-got.ensures c.in-Text.is unread c.put-colons.ensures
     c.name-inner.ensures c.in-Text-inner.is).wrote in
     omega (arith, y.size, y.short, z.size, z.short)
 
@@ -898,8 +1045,10 @@ local_name-given-requires-2 t c =
 pub local_name-returns : goal.local_name-returns
 unfolding b
 local_name-returns t c =
-    λ σ h. local_given h ((let v : Past c.args.s.now c.args.p 90 c.in-Next.behind = ate _ _ 90 c.eat.ensures c.in-Next.is in v)).ahead ((let v : Past c.args.s.now c.args.p 90 c.in-Next.behind = ate _ _ 90 c.eat.ensures c.in-Next.is in v)).next c.loc_fn-got.ensures
-    c.in-Text.is ((let v : starts (drop c.in-Text.outer.at c.args.s.now) (115 ∷ []) ≡ false = ate_none c.args.s.now c.in-Text.outer 115 c.eat-2.ensures c.in_default-eat.is in v)) c.put-colons.ensures c.name-inner.ensures
+    let passed : Past c.args.s.now c.args.p 90 c.in-Next.behind = ate _ _ 90 c.eat.ensures c.in-Next.is in
+    let unread : starts (drop c.in-Text.outer.at c.args.s.now) (115 ∷ []) ≡ false = ate_none c.args.s.now c.in-Text.outer 115 c.eat-2.ensures c.in_default-eat.is in
+    λ σ h. local_given h passed.ahead passed.next c.loc_fn-got.ensures
+    c.in-Text.is unread c.put-colons.ensures c.name-inner.ensures
     c.in-Text-inner.is c.given-2.ensures
 
 -- ---------------------------------------------------------------- member
@@ -955,11 +1104,13 @@ name-returns-in_default t c =
 
 pub name-name_inner-got-requires : goal.name-name_inner-got-requires
 name-name_inner-got-requires t c =
-    (omega (arith, at_of ((let v : (c.args.p.depth < most_open) × (c.in-Text.open ≡ deeper c.args.p) = went_in c.args.p c.enter-entered.ensures c.in-Text.is in v)).1, c.decreases), ready_entered c.enter-entered.ensures c.in-Text.is c.requires)
+    let inside : (c.args.p.depth < most_open) × (c.in-Text.open ≡ deeper c.args.p) = went_in c.args.p c.enter-entered.ensures c.in-Text.is in
+    (omega (arith, at_of inside.1, c.decreases), ready_entered c.enter-entered.ensures c.in-Text.is c.requires)
 
 pub name-returns-in_default-got : goal.name-returns-in_default-got
 name-returns-in_default-got t c =
-    still_refused ⟨name⟩ (name_inner reading) name_opens ((let v : (c.args.p.depth < most_open) × (c.in-Text.open ≡ deeper c.args.p) = went_in c.args.p c.enter-entered.ensures c.in-Text.is in v)).0 ((let v : (c.args.p.depth < most_open) × (c.in-Text.open ≡ deeper c.args.p) = went_in c.args.p c.enter-entered.ensures c.in-Text.is in v)).1 c.name_inner-got.ensures c.in_default-got.is
+    let inside : (c.args.p.depth < most_open) × (c.in-Text.open ≡ deeper c.args.p) = went_in c.args.p c.enter-entered.ensures c.in-Text.is in
+    still_refused ⟨name⟩ (name_inner reading) name_opens inside.0 inside.1 c.name_inner-got.ensures c.in_default-got.is
 
 pub name-leave-requires : goal.name-leave-requires
 name-leave-requires t c =
@@ -967,7 +1118,8 @@ name-leave-requires t c =
 
 pub name-returns : goal.name-returns
 name-returns t c =
-    left_again ⟨name⟩ (name_inner reading) name_opens ((let v : (c.args.p.depth < most_open) × (c.in-Text.open ≡ deeper c.args.p) = went_in c.args.p c.enter-entered.ensures c.in-Text.is in v)).0 ((let v : (c.args.p.depth < most_open) × (c.in-Text.open ≡ deeper c.args.p) = went_in c.args.p c.enter-entered.ensures c.in-Text.is in v)).1 c.name_inner-got.ensures c.in-Text-got.is c.leave.ensures
+    let inside : (c.args.p.depth < most_open) × (c.in-Text.open ≡ deeper c.args.p) = went_in c.args.p c.enter-entered.ensures c.in-Text.is in
+    left_again ⟨name⟩ (name_inner reading) name_opens inside.0 inside.1 c.name_inner-got.ensures c.in-Text-got.is c.leave.ensures
 
 -- ---------------------------------------------------------------- name_inner
 
@@ -977,7 +1129,8 @@ name_inner-take-requires t c =
 
 pub name_inner-returns-in_default : goal.name_inner-returns-in_default
 name_inner-returns-in_default t c =
-    λ σ h. by (from_text (name_inner reading) σ (no_byte h refl (ap peeked ((let v : drop c.args.p.at c.args.s.now ≡ [] = took_none c.args.s.now c.args.p c.take.ensures c.in_default.is in v)))) (name_end [] σ)) refuses
+    let same : drop c.args.p.at c.args.s.now ≡ [] = took_none c.args.s.now c.args.p c.take.ensures c.in_default.is in
+    λ σ h. by (from_text (name_inner reading) σ (no_byte h refl (ap peeked same)) (name_end [] σ)) refuses
 
 pub name_inner-nested_name-requires : goal.name_inner-nested_name-requires
 name_inner-nested_name-requires t c =
@@ -989,8 +1142,9 @@ name_inner-at_s-requires t c =
 
 pub name_inner-name-requires : goal.name_inner-name-requires
 name_inner-name-requires t c =
-    let l = byte_inside c.requires.1 refl (ap peeked ((let v : Past c.args.s.now c.args.p c.in-Byte.c c.in-Byte.behind = took _ _ c.take.ensures c.in-Byte.is in v)).there) in
-    (omega (arith, at_of ((let v : Past c.args.s.now c.args.p c.in-Byte.c c.in-Byte.behind = took _ _ c.take.ensures c.in-Byte.is in v)).next, c.decreases, l), ready_moved _ ((let v : Past c.args.s.now c.args.p c.in-Byte.c c.in-Byte.behind = took _ _ c.take.ensures c.in-Byte.is in v)).next c.requires.1 (omega (arith, l)))
+    let passed : Past c.args.s.now c.args.p c.in-Byte.c c.in-Byte.behind = took _ _ c.take.ensures c.in-Byte.is in
+    let l = byte_inside c.requires.1 refl (ap peeked passed.there) in
+    (omega (arith, at_of passed.next, c.decreases, l), ready_moved _ passed.next c.requires.1 (omega (arith, l)))
 
 pub name_inner-local_name-requires : goal.name_inner-local_name-requires
 name_inner-local_name-requires t c =
@@ -1002,32 +1156,37 @@ name_inner-plain-requires t c =
 
 pub name_inner-returns-in-78 : goal.name_inner-returns-in-78
 name_inner-returns-in-78 t c =
+    let passed : Past c.args.s.now c.args.p c.in-Byte.c c.in-Byte.behind = took _ _ c.take.ensures c.in-Byte.is in
     λ σ h. by (same_from (name_inner reading) (reading ⟨nested-name⟩) σ
-    (byte_is h refl 78 (ap peeked ((let v : Past c.args.s.now c.args.p c.in-Byte.c c.in-Byte.behind = took _ _ c.take.ensures c.in-Byte.is in v)).there) c.in-78.is)
+    (byte_is h refl 78 (ap peeked passed.there) c.in-78.is)
     (name_N _ σ)) (c.nested_name.ensures σ h)
 
 pub name_inner-returns-in-83 : goal.name_inner-returns-in-83
 name_inner-returns-in-83 t c =
+    let passed : Past c.args.s.now c.args.p c.in-Byte.c c.in-Byte.behind = took _ _ c.take.ensures c.in-Byte.is in
     λ σ h. by (same_from (name_inner reading) (s_name reading) σ
-    (byte_is h refl 83 (ap peeked ((let v : Past c.args.s.now c.args.p c.in-Byte.c c.in-Byte.behind = took _ _ c.take.ensures c.in-Byte.is in v)).there) c.in-83.is)
+    (byte_is h refl 83 (ap peeked passed.there) c.in-83.is)
     (name_S _ σ)) (c.at_s.ensures σ h)
 
 pub name_inner-returns-in-76 : goal.name_inner-returns-in-76
 name_inner-returns-in-76 t c =
+    let passed : Past c.args.s.now c.args.p c.in-Byte.c c.in-Byte.behind = took _ _ c.take.ensures c.in-Byte.is in
     λ σ h.
-    let l = byte_inside h refl (ap peeked ((let v : Past c.args.s.now c.args.p c.in-Byte.c c.in-Byte.behind = took _ _ c.take.ensures c.in-Byte.is in v)).there) in
-    by (from_text (name_inner reading) σ (byte_is h refl 76 (ap peeked ((let v : Past c.args.s.now c.args.p c.in-Byte.c c.in-Byte.behind = took _ _ c.take.ensures c.in-Byte.is in v)).there) c.in-76.is) (name_L _ σ))
-    (less (omega arith) (sooner (omega arith) (call_moved (λ d. keep (d + 1)) ((let v : Past c.args.s.now c.args.p c.in-Byte.c c.in-Byte.behind = took _ _ c.take.ensures c.in-Byte.is in v)).next c.name.ensures h (omega (arith, l)))))
+    let l = byte_inside h refl (ap peeked passed.there) in
+    by (from_text (name_inner reading) σ (byte_is h refl 76 (ap peeked passed.there) c.in-76.is) (name_L _ σ))
+    (less (omega arith) (sooner (omega arith) (call_moved (λ d. keep (d + 1)) passed.next c.name.ensures h (omega (arith, l)))))
 
 pub name_inner-returns-in-90 : goal.name_inner-returns-in-90
 name_inner-returns-in-90 t c =
+    let passed : Past c.args.s.now c.args.p c.in-Byte.c c.in-Byte.behind = took _ _ c.take.ensures c.in-Byte.is in
     λ σ h. by (same_from (name_inner reading) (local_name reading) σ
-    (byte_is h refl 90 (ap peeked ((let v : Past c.args.s.now c.args.p c.in-Byte.c c.in-Byte.behind = took _ _ c.take.ensures c.in-Byte.is in v)).there) c.in-90.is)
+    (byte_is h refl 90 (ap peeked passed.there) c.in-90.is)
     (name_Z _ σ)) (c.local_name.ensures σ h)
 
 pub name_inner-returns-in_default-c : goal.name_inner-returns-in_default-c
 name_inner-returns-in_default-c t c =
-    λ σ h. by (same_from (name_inner reading) (unscoped_name reading) σ (byte_at h refl (ap peeked ((let v : Past c.args.s.now c.args.p c.in-Byte.c c.in-Byte.behind = took _ _ c.take.ensures c.in-Byte.is in v)).there))
+    let passed : Past c.args.s.now c.args.p c.in-Byte.c c.in-Byte.behind = took _ _ c.take.ensures c.in-Byte.is in
+    λ σ h. by (same_from (name_inner reading) (unscoped_name reading) σ (byte_at h refl (ap peeked passed.there))
     (name_other _ σ _ (no_name_code _ c.in_default-c.in_default-c-own.rest.0.0.0.1
     c.in_default-c.in_default-c-own.rest.0.0.1
     c.in_default-c.in_default-c-own.rest.0.1
@@ -1086,7 +1245,8 @@ nested_name-returns-in_default t c =
 
 pub nested_name-qualifiers-to-requires : goal.nested_name-qualifiers-to-requires
 nested_name-qualifiers-to-requires t c =
-    omega (arith, ((let v : Past c.args.s.now c.args.p 78 c.in-Next.behind = ate _ _ 78 c.eat.ensures c.in-Next.is in v)).inside, ap (λ (z : Parser). z.at) ((let v : Past c.args.s.now c.args.p 78 c.in-Next.behind = ate _ _ 78 c.eat.ensures c.in-Next.is in v)).next)
+    let passed : Past c.args.s.now c.args.p 78 c.in-Next.behind = ate _ _ 78 c.eat.ensures c.in-Next.is in
+    omega (arith, passed.inside, ap (λ (z : Parser). z.at) passed.next)
 
 pub nested_name-moved-next-requires : goal.nested_name-moved-next-requires
 nested_name-moved-next-requires t c =
@@ -1102,7 +1262,11 @@ nested_name-take-requires t c =
 
 pub nested_name-returns-in_default-take : goal.nested_name-returns-in_default-take
 nested_name-returns-in_default-take t c =
-    λ σ h. by ((nested_open c.args.s.now c.args.p.at σ h.rest ((let v : Past c.args.s.now c.args.p 78 c.in-Next.behind = ate _ _ 78 c.eat.ensures c.in-Next.is in v)).ahead ((let v : (c.qualifiers-to.result ≡ c.args.p.at + 1 + length (run qualifies (drop (c.args.p.at + 1) c.args.s.now))) × (c.qualifiers-to.result ≤ length c.args.s.now) = subst (λ (i : ℕ). (c.qualifiers-to.result ≡ i + length (run qualifies (drop i c.args.s.now))) × (c.qualifiers-to.result ≤ length c.args.s.now)) (ap (λ (z : Parser). z.at) ((let v : Past c.args.s.now c.args.p 78 c.in-Next.behind = ate _ _ 78 c.eat.ensures c.in-Next.is in v)).next) c.qualifiers-to.ensures in v)).0) ∙ prefixed_4 (c.loop-c.invariant.so_far _ ((by_state ((let v : c.moved-next.result ≡ moved_to c.args.p c.qualifiers-to.result = c.moved-next.ensures ∙ ap (λ (z : Parser). moved_to z c.qualifiers-to.result) ((let v : Past c.args.s.now c.args.p 78 c.in-Next.behind = ate _ _ 78 c.eat.ensures c.in-Next.is in v)).next in v)) (holds_moved h c.qualifiers-to.result ((let v : (c.qualifiers-to.result ≡ c.args.p.at + 1 + length (run qualifies (drop (c.args.p.at + 1) c.args.s.now))) × (c.qualifiers-to.result ≤ length c.args.s.now) = subst (λ (i : ℕ). (c.qualifiers-to.result ≡ i + length (run qualifies (drop i c.args.s.now))) × (c.qualifiers-to.result ≤ length c.args.s.now)) (ap (λ (z : Parser). z.at) ((let v : Past c.args.s.now c.args.p 78 c.in-Next.behind = ate _ _ 78 c.eat.ensures c.in-Next.is in v)).next) c.qualifiers-to.ensures in v)).1)))) _
+    let passed : Past c.args.s.now c.args.p 78 c.in-Next.behind = ate _ _ 78 c.eat.ensures c.in-Next.is in
+    let both_are : (c.qualifiers-to.result ≡ c.args.p.at + 1 + length (run qualifies (drop (c.args.p.at + 1) c.args.s.now))) × (c.qualifiers-to.result ≤ length c.args.s.now) =
+    subst (λ (i : ℕ). (c.qualifiers-to.result ≡ i + length (run qualifies (drop i c.args.s.now))) × (c.qualifiers-to.result ≤ length c.args.s.now)) (ap (λ (z : Parser). z.at) passed.next) c.qualifiers-to.ensures in
+    let same : c.moved-next.result ≡ moved_to c.args.p c.qualifiers-to.result = c.moved-next.ensures ∙ ap (λ (z : Parser). moved_to z c.qualifiers-to.result) passed.next in
+    λ σ h. by ((nested_open c.args.s.now c.args.p.at σ h.rest passed.ahead both_are.0) ∙ prefixed_4 (c.loop-c.invariant.so_far _ ((by_state same (holds_moved h c.qualifiers-to.result both_are.1)))) _
     (ap peeked (took_none c.args.s.now
     c.loop-c.next c.take.ensures c.in_default-take.is))) refuses
 
@@ -1120,16 +1284,23 @@ nested_name-given-requires t c =
 
 pub nested_name-returns-then-parts : goal.nested_name-returns-then-parts
 nested_name-returns-then-parts t c =
+    let passed : Past c.args.s.now c.args.p 78 c.in-Next.behind = ate _ _ 78 c.eat.ensures c.in-Next.is in
+    let passed2 : Past c.args.s.now c.loop-c.next c.in-Byte.c c.in-Byte.last = took _ _ c.take.ensures c.in-Byte.is in
+    let same : c.moved-next.result ≡ moved_to c.args.p c.qualifiers-to.result = c.moved-next.ensures ∙ ap (λ (z : Parser). moved_to z c.qualifiers-to.result) passed.next in
+    let both_are : (c.qualifiers-to.result ≡ c.args.p.at + 1 + length (run qualifies (drop (c.args.p.at + 1) c.args.s.now))) × (c.qualifiers-to.result ≤ length c.args.s.now) =
+    subst (λ (i : ℕ). (c.qualifiers-to.result ≡ i + length (run qualifies (drop i c.args.s.now))) × (c.qualifiers-to.result ≤ length c.args.s.now)) (ap (λ (z : Parser). z.at) passed.next) c.qualifiers-to.ensures in
+    let same2 : c.with_cv-named.result ≡ cv_to (moved_to c.loop-c.next (c.loop-c.next.at + 1)) (c.args.p.at + 1) c.qualifiers-to.result =
+    c.with_cv-named.ensures ∙ ap (λ (i : ℕ). cv_to c.in-Byte.last i c.qualifiers-to.result) (ap (λ (z : Parser). z.at) passed.next) ∙ ap (λ (z : Parser). cv_to z (c.args.p.at + 1) c.qualifiers-to.result) passed2.next in
     λ σ h.
-    from_start (mem c.args.text.now c.args.store.now c.args.ends.now) c.args.p ((let v : c.moved-next.result ≡ moved_to c.args.p c.qualifiers-to.result = c.moved-next.ensures ∙ ap (λ (z : Parser). moved_to z c.qualifiers-to.result) ((let v : Past c.args.s.now c.args.p 78 c.in-Next.behind = ate _ _ 78 c.eat.ensures c.in-Next.is in v)).next in v)) (omega (arith, ((let v : (c.qualifiers-to.result ≡ c.args.p.at + 1 + length (run qualifies (drop (c.args.p.at + 1) c.args.s.now))) × (c.qualifiers-to.result ≤ length c.args.s.now) = subst (λ (i : ℕ). (c.qualifiers-to.result ≡ i + length (run qualifies (drop i c.args.s.now))) × (c.qualifiers-to.result ≤ length c.args.s.now)) (ap (λ (z : Parser). z.at) ((let v : Past c.args.s.now c.args.p 78 c.in-Next.behind = ate _ _ 78 c.eat.ensures c.in-Next.is in v)).next) c.qualifiers-to.ensures in v)).0))
-    (by ((nested_open c.args.s.now c.args.p.at σ h.rest ((let v : Past c.args.s.now c.args.p 78 c.in-Next.behind = ate _ _ 78 c.eat.ensures c.in-Next.is in v)).ahead ((let v : (c.qualifiers-to.result ≡ c.args.p.at + 1 + length (run qualifies (drop (c.args.p.at + 1) c.args.s.now))) × (c.qualifiers-to.result ≤ length c.args.s.now) = subst (λ (i : ℕ). (c.qualifiers-to.result ≡ i + length (run qualifies (drop i c.args.s.now))) × (c.qualifiers-to.result ≤ length c.args.s.now)) (ap (λ (z : Parser). z.at) ((let v : Past c.args.s.now c.args.p 78 c.in-Next.behind = ate _ _ 78 c.eat.ensures c.in-Next.is in v)).next) c.qualifiers-to.ensures in v)).0))
-    (prefixed_E (c.loop-c.invariant.so_far _ ((by_state ((let v : c.moved-next.result ≡ moved_to c.args.p c.qualifiers-to.result = c.moved-next.ensures ∙ ap (λ (z : Parser). moved_to z c.qualifiers-to.result) ((let v : Past c.args.s.now c.args.p 78 c.in-Next.behind = ate _ _ 78 c.eat.ensures c.in-Next.is in v)).next in v)) (holds_moved h c.qualifiers-to.result ((let v : (c.qualifiers-to.result ≡ c.args.p.at + 1 + length (run qualifies (drop (c.args.p.at + 1) c.args.s.now))) × (c.qualifiers-to.result ≤ length c.args.s.now) = subst (λ (i : ℕ). (c.qualifiers-to.result ≡ i + length (run qualifies (drop i c.args.s.now))) × (c.qualifiers-to.result ≤ length c.args.s.now)) (ap (λ (z : Parser). z.at) ((let v : Past c.args.s.now c.args.p 78 c.in-Next.behind = ate _ _ 78 c.eat.ensures c.in-Next.is in v)).next) c.qualifiers-to.ensures in v)).1)))) (c.args.p.at + 1)
-    c.qualifiers-to.result (omega (arith, ((let v : (c.qualifiers-to.result ≡ c.args.p.at + 1 + length (run qualifies (drop (c.args.p.at + 1) c.args.s.now))) × (c.qualifiers-to.result ≤ length c.args.s.now) = subst (λ (i : ℕ). (c.qualifiers-to.result ≡ i + length (run qualifies (drop i c.args.s.now))) × (c.qualifiers-to.result ≤ length c.args.s.now)) (ap (λ (z : Parser). z.at) ((let v : Past c.args.s.now c.args.p 78 c.in-Next.behind = ate _ _ 78 c.eat.ensures c.in-Next.is in v)).next) c.qualifiers-to.ensures in v)).0))
-    ((let v : (c.qualifiers-to.result ≡ c.args.p.at + 1 + length (run qualifies (drop (c.args.p.at + 1) c.args.s.now))) × (c.qualifiers-to.result ≤ length c.args.s.now) = subst (λ (i : ℕ). (c.qualifiers-to.result ≡ i + length (run qualifies (drop i c.args.s.now))) × (c.qualifiers-to.result ≤ length c.args.s.now)) (ap (λ (z : Parser). z.at) ((let v : Past c.args.s.now c.args.p 78 c.in-Next.behind = ate _ _ 78 c.eat.ensures c.in-Next.is in v)).next) c.qualifiers-to.ensures in v)).1
-    (ap peeked ((let v : Past c.args.s.now c.loop-c.next c.in-Byte.c c.in-Byte.last = took _ _ c.take.ensures c.in-Byte.is in v)).there) c.if-c-eq69.true c.if-parts.true
+    from_start (mem c.args.text.now c.args.store.now c.args.ends.now) c.args.p same (omega (arith, both_are.0))
+    (by ((nested_open c.args.s.now c.args.p.at σ h.rest passed.ahead both_are.0))
+    (prefixed_E (c.loop-c.invariant.so_far _ ((by_state same (holds_moved h c.qualifiers-to.result both_are.1)))) (c.args.p.at + 1)
+    c.qualifiers-to.result (omega (arith, both_are.0))
+    both_are.1
+    (ap peeked passed2.there) c.if-c-eq69.true c.if-parts.true
     (c.given.ensures ∙ ap (λ (p : Parser). given_of p c.loop-c.parts.n)
     (c.with_templated.ensures ∙ ap (λ (p : Parser). templated_to p false)
-    ((let v : c.with_cv-named.result ≡ cv_to (moved_to c.loop-c.next (c.loop-c.next.at + 1)) (c.args.p.at + 1) c.qualifiers-to.result = c.with_cv-named.ensures ∙ ap (λ (i : ℕ). cv_to c.in-Byte.last i c.qualifiers-to.result) (ap (λ (z : Parser). z.at) ((let v : Past c.args.s.now c.args.p 78 c.in-Next.behind = ate _ _ 78 c.eat.ensures c.in-Next.is in v)).next) ∙ ap (λ (z : Parser). cv_to z (c.args.p.at + 1) c.qualifiers-to.result) ((let v : Past c.args.s.now c.loop-c.next c.in-Byte.c c.in-Byte.last = took _ _ c.take.ensures c.in-Byte.is in v)).next in v))))))
+    same2))))
 
 pub nested_name-given-requires-then-c-eq69 : goal.nested_name-given-requires-then-c-eq69
 nested_name-given-requires-then-c-eq69 t c =
@@ -1137,20 +1308,31 @@ nested_name-given-requires-then-c-eq69 t c =
 
 pub nested_name-returns-then-c-eq69 : goal.nested_name-returns-then-c-eq69
 nested_name-returns-then-c-eq69 t c =
+    let passed : Past c.args.s.now c.args.p 78 c.in-Next.behind = ate _ _ 78 c.eat.ensures c.in-Next.is in
+    let passed2 : Past c.args.s.now c.loop-c.next c.in-Byte.c c.in-Byte.last = took _ _ c.take.ensures c.in-Byte.is in
+    let same : c.moved-next.result ≡ moved_to c.args.p c.qualifiers-to.result = c.moved-next.ensures ∙ ap (λ (z : Parser). moved_to z c.qualifiers-to.result) passed.next in
+    let both_are : (c.qualifiers-to.result ≡ c.args.p.at + 1 + length (run qualifies (drop (c.args.p.at + 1) c.args.s.now))) × (c.qualifiers-to.result ≤ length c.args.s.now) =
+    subst (λ (i : ℕ). (c.qualifiers-to.result ≡ i + length (run qualifies (drop i c.args.s.now))) × (c.qualifiers-to.result ≤ length c.args.s.now)) (ap (λ (z : Parser). z.at) passed.next) c.qualifiers-to.ensures in
+    let same2 : c.with_cv-named.result ≡ cv_to (moved_to c.loop-c.next (c.loop-c.next.at + 1)) (c.args.p.at + 1) c.qualifiers-to.result =
+    c.with_cv-named.ensures ∙ ap (λ (i : ℕ). cv_to c.in-Byte.last i c.qualifiers-to.result) (ap (λ (z : Parser). z.at) passed.next) ∙ ap (λ (z : Parser). cv_to z (c.args.p.at + 1) c.qualifiers-to.result) passed2.next in
     λ σ h.
-    from_start (mem c.args.text.now c.args.store.now c.args.ends.now) c.args.p ((let v : c.moved-next.result ≡ moved_to c.args.p c.qualifiers-to.result = c.moved-next.ensures ∙ ap (λ (z : Parser). moved_to z c.qualifiers-to.result) ((let v : Past c.args.s.now c.args.p 78 c.in-Next.behind = ate _ _ 78 c.eat.ensures c.in-Next.is in v)).next in v)) (omega (arith, ((let v : (c.qualifiers-to.result ≡ c.args.p.at + 1 + length (run qualifies (drop (c.args.p.at + 1) c.args.s.now))) × (c.qualifiers-to.result ≤ length c.args.s.now) = subst (λ (i : ℕ). (c.qualifiers-to.result ≡ i + length (run qualifies (drop i c.args.s.now))) × (c.qualifiers-to.result ≤ length c.args.s.now)) (ap (λ (z : Parser). z.at) ((let v : Past c.args.s.now c.args.p 78 c.in-Next.behind = ate _ _ 78 c.eat.ensures c.in-Next.is in v)).next) c.qualifiers-to.ensures in v)).0))
-    (by ((nested_open c.args.s.now c.args.p.at σ h.rest ((let v : Past c.args.s.now c.args.p 78 c.in-Next.behind = ate _ _ 78 c.eat.ensures c.in-Next.is in v)).ahead ((let v : (c.qualifiers-to.result ≡ c.args.p.at + 1 + length (run qualifies (drop (c.args.p.at + 1) c.args.s.now))) × (c.qualifiers-to.result ≤ length c.args.s.now) = subst (λ (i : ℕ). (c.qualifiers-to.result ≡ i + length (run qualifies (drop i c.args.s.now))) × (c.qualifiers-to.result ≤ length c.args.s.now)) (ap (λ (z : Parser). z.at) ((let v : Past c.args.s.now c.args.p 78 c.in-Next.behind = ate _ _ 78 c.eat.ensures c.in-Next.is in v)).next) c.qualifiers-to.ensures in v)).0))
-    (prefixed_E (c.loop-c.invariant.so_far _ ((by_state ((let v : c.moved-next.result ≡ moved_to c.args.p c.qualifiers-to.result = c.moved-next.ensures ∙ ap (λ (z : Parser). moved_to z c.qualifiers-to.result) ((let v : Past c.args.s.now c.args.p 78 c.in-Next.behind = ate _ _ 78 c.eat.ensures c.in-Next.is in v)).next in v)) (holds_moved h c.qualifiers-to.result ((let v : (c.qualifiers-to.result ≡ c.args.p.at + 1 + length (run qualifies (drop (c.args.p.at + 1) c.args.s.now))) × (c.qualifiers-to.result ≤ length c.args.s.now) = subst (λ (i : ℕ). (c.qualifiers-to.result ≡ i + length (run qualifies (drop i c.args.s.now))) × (c.qualifiers-to.result ≤ length c.args.s.now)) (ap (λ (z : Parser). z.at) ((let v : Past c.args.s.now c.args.p 78 c.in-Next.behind = ate _ _ 78 c.eat.ensures c.in-Next.is in v)).next) c.qualifiers-to.ensures in v)).1)))) (c.args.p.at + 1)
-    c.qualifiers-to.result (omega (arith, ((let v : (c.qualifiers-to.result ≡ c.args.p.at + 1 + length (run qualifies (drop (c.args.p.at + 1) c.args.s.now))) × (c.qualifiers-to.result ≤ length c.args.s.now) = subst (λ (i : ℕ). (c.qualifiers-to.result ≡ i + length (run qualifies (drop i c.args.s.now))) × (c.qualifiers-to.result ≤ length c.args.s.now)) (ap (λ (z : Parser). z.at) ((let v : Past c.args.s.now c.args.p 78 c.in-Next.behind = ate _ _ 78 c.eat.ensures c.in-Next.is in v)).next) c.qualifiers-to.ensures in v)).0))
-    ((let v : (c.qualifiers-to.result ≡ c.args.p.at + 1 + length (run qualifies (drop (c.args.p.at + 1) c.args.s.now))) × (c.qualifiers-to.result ≤ length c.args.s.now) = subst (λ (i : ℕ). (c.qualifiers-to.result ≡ i + length (run qualifies (drop i c.args.s.now))) × (c.qualifiers-to.result ≤ length c.args.s.now)) (ap (λ (z : Parser). z.at) ((let v : Past c.args.s.now c.args.p 78 c.in-Next.behind = ate _ _ 78 c.eat.ensures c.in-Next.is in v)).next) c.qualifiers-to.ensures in v)).1
-    (ap peeked ((let v : Past c.args.s.now c.loop-c.next c.in-Byte.c c.in-Byte.last = took _ _ c.take.ensures c.in-Byte.is in v)).there) c.if-c-eq69.true c.if-parts.false
+    from_start (mem c.args.text.now c.args.store.now c.args.ends.now) c.args.p same (omega (arith, both_are.0))
+    (by ((nested_open c.args.s.now c.args.p.at σ h.rest passed.ahead both_are.0))
+    (prefixed_E (c.loop-c.invariant.so_far _ ((by_state same (holds_moved h c.qualifiers-to.result both_are.1)))) (c.args.p.at + 1)
+    c.qualifiers-to.result (omega (arith, both_are.0))
+    both_are.1
+    (ap peeked passed2.there) c.if-c-eq69.true c.if-parts.false
     (c.given-then-c-eq69.ensures ∙ ap (λ (p : Parser). given_of p c.loop-c.parts.n)
-    ((let v : c.with_cv-named.result ≡ cv_to (moved_to c.loop-c.next (c.loop-c.next.at + 1)) (c.args.p.at + 1) c.qualifiers-to.result = c.with_cv-named.ensures ∙ ap (λ (i : ℕ). cv_to c.in-Byte.last i c.qualifiers-to.result) (ap (λ (z : Parser). z.at) ((let v : Past c.args.s.now c.args.p 78 c.in-Next.behind = ate _ _ 78 c.eat.ensures c.in-Next.is in v)).next) ∙ ap (λ (z : Parser). cv_to z (c.args.p.at + 1) c.qualifiers-to.result) ((let v : Past c.args.s.now c.loop-c.next c.in-Byte.c c.in-Byte.last = took _ _ c.take.ensures c.in-Byte.is in v)).next in v)))))
+    same2)))
 
 pub nested_name-px-got-requires : goal.nested_name-px-got-requires
 nested_name-px-got-requires t c =
-    let l = c.loop-c.invariant.so_far _ ((by_state ((let v : c.moved-next.result ≡ moved_to c.args.p c.qualifiers-to.result = c.moved-next.ensures ∙ ap (λ (z : Parser). moved_to z c.qualifiers-to.result) ((let v : Past c.args.s.now c.args.p 78 c.in-Next.behind = ate _ _ 78 c.eat.ensures c.in-Next.is in v)).next in v)) (holds_moved c.requires.1 c.qualifiers-to.result ((let v : (c.qualifiers-to.result ≡ c.args.p.at + 1 + length (run qualifies (drop (c.args.p.at + 1) c.args.s.now))) × (c.qualifiers-to.result ≤ length c.args.s.now) = subst (λ (i : ℕ). (c.qualifiers-to.result ≡ i + length (run qualifies (drop i c.args.s.now))) × (c.qualifiers-to.result ≤ length c.args.s.now)) (ap (λ (z : Parser). z.at) ((let v : Past c.args.s.now c.args.p 78 c.in-Next.behind = ate _ _ 78 c.eat.ensures c.in-Next.is in v)).next) c.qualifiers-to.ensures in v)).1))) in
-    (omega (arith, c.decreases, l.here.stands.more, l.here.stands.holds.place, ap (λ (p : Parser). p.at) ((let v : c.moved-next.result ≡ moved_to c.args.p c.qualifiers-to.result = c.moved-next.ensures ∙ ap (λ (z : Parser). moved_to z c.qualifiers-to.result) ((let v : Past c.args.s.now c.args.p 78 c.in-Next.behind = ate _ _ 78 c.eat.ensures c.in-Next.is in v)).next in v)), ((let v : (c.qualifiers-to.result ≡ c.args.p.at + 1 + length (run qualifies (drop (c.args.p.at + 1) c.args.s.now))) × (c.qualifiers-to.result ≤ length c.args.s.now) = subst (λ (i : ℕ). (c.qualifiers-to.result ≡ i + length (run qualifies (drop i c.args.s.now))) × (c.qualifiers-to.result ≤ length c.args.s.now)) (ap (λ (z : Parser). z.at) ((let v : Past c.args.s.now c.args.p 78 c.in-Next.behind = ate _ _ 78 c.eat.ensures c.in-Next.is in v)).next) c.qualifiers-to.ensures in v)).0), ((l.state, l.here.stands.holds), ready_for l))
+    let passed : Past c.args.s.now c.args.p 78 c.in-Next.behind = ate _ _ 78 c.eat.ensures c.in-Next.is in
+    let same : c.moved-next.result ≡ moved_to c.args.p c.qualifiers-to.result = c.moved-next.ensures ∙ ap (λ (z : Parser). moved_to z c.qualifiers-to.result) passed.next in
+    let both_are : (c.qualifiers-to.result ≡ c.args.p.at + 1 + length (run qualifies (drop (c.args.p.at + 1) c.args.s.now))) × (c.qualifiers-to.result ≤ length c.args.s.now) =
+    subst (λ (i : ℕ). (c.qualifiers-to.result ≡ i + length (run qualifies (drop i c.args.s.now))) × (c.qualifiers-to.result ≤ length c.args.s.now)) (ap (λ (z : Parser). z.at) passed.next) c.qualifiers-to.ensures in
+    let l = c.loop-c.invariant.so_far _ ((by_state same (holds_moved c.requires.1 c.qualifiers-to.result both_are.1))) in
+    (omega (arith, c.decreases, l.here.stands.more, l.here.stands.holds.place, ap (λ (p : Parser). p.at) same, both_are.0), ((l.state, l.here.stands.holds), ready_for l))
 
 pub nested_name-unprefixed-requires : goal.nested_name-unprefixed-requires
 nested_name-unprefixed-requires t c =
@@ -1158,16 +1340,26 @@ nested_name-unprefixed-requires t c =
 
 pub nested_name-returns-in_default-got : goal.nested_name-returns-in_default-got
 nested_name-returns-in_default-got t c =
+    let passed : Past c.args.s.now c.args.p 78 c.in-Next.behind = ate _ _ 78 c.eat.ensures c.in-Next.is in
+    let passed2 : Past c.args.s.now c.loop-c.next c.in-Byte.c c.in-Byte.last = took _ _ c.take.ensures c.in-Byte.is in
+    let both_are : (c.qualifiers-to.result ≡ c.args.p.at + 1 + length (run qualifies (drop (c.args.p.at + 1) c.args.s.now))) × (c.qualifiers-to.result ≤ length c.args.s.now) =
+    subst (λ (i : ℕ). (c.qualifiers-to.result ≡ i + length (run qualifies (drop i c.args.s.now))) × (c.qualifiers-to.result ≤ length c.args.s.now)) (ap (λ (z : Parser). z.at) passed.next) c.qualifiers-to.ensures in
+    let same : c.moved-next.result ≡ moved_to c.args.p c.qualifiers-to.result = c.moved-next.ensures ∙ ap (λ (z : Parser). moved_to z c.qualifiers-to.result) passed.next in
     λ σ h.
-    by ((nested_open c.args.s.now c.args.p.at σ h.rest ((let v : Past c.args.s.now c.args.p 78 c.in-Next.behind = ate _ _ 78 c.eat.ensures c.in-Next.is in v)).ahead ((let v : (c.qualifiers-to.result ≡ c.args.p.at + 1 + length (run qualifies (drop (c.args.p.at + 1) c.args.s.now))) × (c.qualifiers-to.result ≤ length c.args.s.now) = subst (λ (i : ℕ). (c.qualifiers-to.result ≡ i + length (run qualifies (drop i c.args.s.now))) × (c.qualifiers-to.result ≤ length c.args.s.now)) (ap (λ (z : Parser). z.at) ((let v : Past c.args.s.now c.args.p 78 c.in-Next.behind = ate _ _ 78 c.eat.ensures c.in-Next.is in v)).next) c.qualifiers-to.ensures in v)).0))
-    (prefixed_refuses (c.loop-c.invariant.so_far _ ((by_state ((let v : c.moved-next.result ≡ moved_to c.args.p c.qualifiers-to.result = c.moved-next.ensures ∙ ap (λ (z : Parser). moved_to z c.qualifiers-to.result) ((let v : Past c.args.s.now c.args.p 78 c.in-Next.behind = ate _ _ 78 c.eat.ensures c.in-Next.is in v)).next in v)) (holds_moved h c.qualifiers-to.result ((let v : (c.qualifiers-to.result ≡ c.args.p.at + 1 + length (run qualifies (drop (c.args.p.at + 1) c.args.s.now))) × (c.qualifiers-to.result ≤ length c.args.s.now) = subst (λ (i : ℕ). (c.qualifiers-to.result ≡ i + length (run qualifies (drop i c.args.s.now))) × (c.qualifiers-to.result ≤ length c.args.s.now)) (ap (λ (z : Parser). z.at) ((let v : Past c.args.s.now c.args.p 78 c.in-Next.behind = ate _ _ 78 c.eat.ensures c.in-Next.is in v)).next) c.qualifiers-to.ensures in v)).1))))
-    (ap peeked ((let v : Past c.args.s.now c.loop-c.next c.in-Byte.c c.in-Byte.last = took _ _ c.take.ensures c.in-Byte.is in v)).there) (λ e. omega (arith, e, c.if-c-eq69.false)) c.px-got.ensures _ c.in_default-got.is
+    by ((nested_open c.args.s.now c.args.p.at σ h.rest passed.ahead both_are.0))
+    (prefixed_refuses (c.loop-c.invariant.so_far _ ((by_state same (holds_moved h c.qualifiers-to.result both_are.1))))
+    (ap peeked passed2.there) (λ e. omega (arith, e, c.if-c-eq69.false)) c.px-got.ensures _ c.in_default-got.is
     c.unprefixed.ensures)
 
 pub nested_name-loop-c-smaller : goal.nested_name-loop-c-smaller
 nested_name-loop-c-smaller t c =
-    let l = c.loop-c.invariant.so_far _ ((by_state ((let v : c.moved-next.result ≡ moved_to c.args.p c.qualifiers-to.result = c.moved-next.ensures ∙ ap (λ (z : Parser). moved_to z c.qualifiers-to.result) ((let v : Past c.args.s.now c.args.p 78 c.in-Next.behind = ate _ _ 78 c.eat.ensures c.in-Next.is in v)).next in v)) (holds_moved c.requires.1 c.qualifiers-to.result ((let v : (c.qualifiers-to.result ≡ c.args.p.at + 1 + length (run qualifies (drop (c.args.p.at + 1) c.args.s.now))) × (c.qualifiers-to.result ≤ length c.args.s.now) = subst (λ (i : ℕ). (c.qualifiers-to.result ≡ i + length (run qualifies (drop i c.args.s.now))) × (c.qualifiers-to.result ≤ length c.args.s.now)) (ap (λ (z : Parser). z.at) ((let v : Past c.args.s.now c.args.p 78 c.in-Next.behind = ate _ _ 78 c.eat.ensures c.in-Next.is in v)).next) c.qualifiers-to.ensures in v)).1))) in
-    let e = ap peeked ((let v : Past c.args.s.now c.loop-c.next c.in-Byte.c c.in-Byte.last = took _ _ c.take.ensures c.in-Byte.is in v)).there in
+    let passed : Past c.args.s.now c.args.p 78 c.in-Next.behind = ate _ _ 78 c.eat.ensures c.in-Next.is in
+    let passed2 : Past c.args.s.now c.loop-c.next c.in-Byte.c c.in-Byte.last = took _ _ c.take.ensures c.in-Byte.is in
+    let same : c.moved-next.result ≡ moved_to c.args.p c.qualifiers-to.result = c.moved-next.ensures ∙ ap (λ (z : Parser). moved_to z c.qualifiers-to.result) passed.next in
+    let both_are : (c.qualifiers-to.result ≡ c.args.p.at + 1 + length (run qualifies (drop (c.args.p.at + 1) c.args.s.now))) × (c.qualifiers-to.result ≤ length c.args.s.now) =
+    subst (λ (i : ℕ). (c.qualifiers-to.result ≡ i + length (run qualifies (drop i c.args.s.now))) × (c.qualifiers-to.result ≤ length c.args.s.now)) (ap (λ (z : Parser). z.at) passed.next) c.qualifiers-to.ensures in
+    let l = c.loop-c.invariant.so_far _ ((by_state same (holds_moved c.requires.1 c.qualifiers-to.result both_are.1))) in
+    let e = ap peeked passed2.there in
     omega (
       arith,
       further l e (λ (e : c.in-Byte.c ≡ 69). omega (arith, e, c.if-c-eq69.false)) c.px-got.ensures c.in-Parts.is,
@@ -1176,7 +1368,12 @@ nested_name-loop-c-smaller t c =
 
 pub nested_name-loop-c-preserved : goal.nested_name-loop-c-preserved
 nested_name-loop-c-preserved t c =
-    prefixing_more c.loop-c.invariant ((by_state ((let v : c.moved-next.result ≡ moved_to c.args.p c.qualifiers-to.result = c.moved-next.ensures ∙ ap (λ (z : Parser). moved_to z c.qualifiers-to.result) ((let v : Past c.args.s.now c.args.p 78 c.in-Next.behind = ate _ _ 78 c.eat.ensures c.in-Next.is in v)).next in v)) (holds_moved c.requires.1 c.qualifiers-to.result ((let v : (c.qualifiers-to.result ≡ c.args.p.at + 1 + length (run qualifies (drop (c.args.p.at + 1) c.args.s.now))) × (c.qualifiers-to.result ≤ length c.args.s.now) = subst (λ (i : ℕ). (c.qualifiers-to.result ≡ i + length (run qualifies (drop i c.args.s.now))) × (c.qualifiers-to.result ≤ length c.args.s.now)) (ap (λ (z : Parser). z.at) ((let v : Past c.args.s.now c.args.p 78 c.in-Next.behind = ate _ _ 78 c.eat.ensures c.in-Next.is in v)).next) c.qualifiers-to.ensures in v)).1))) (ap peeked ((let v : Past c.args.s.now c.loop-c.next c.in-Byte.c c.in-Byte.last = took _ _ c.take.ensures c.in-Byte.is in v)).there) (λ e. omega (arith, e, c.if-c-eq69.false)) c.px-got.ensures c.in-Parts.is
+    let passed : Past c.args.s.now c.args.p 78 c.in-Next.behind = ate _ _ 78 c.eat.ensures c.in-Next.is in
+    let passed2 : Past c.args.s.now c.loop-c.next c.in-Byte.c c.in-Byte.last = took _ _ c.take.ensures c.in-Byte.is in
+    let same : c.moved-next.result ≡ moved_to c.args.p c.qualifiers-to.result = c.moved-next.ensures ∙ ap (λ (z : Parser). moved_to z c.qualifiers-to.result) passed.next in
+    let both_are : (c.qualifiers-to.result ≡ c.args.p.at + 1 + length (run qualifies (drop (c.args.p.at + 1) c.args.s.now))) × (c.qualifiers-to.result ≤ length c.args.s.now) =
+    subst (λ (i : ℕ). (c.qualifiers-to.result ≡ i + length (run qualifies (drop i c.args.s.now))) × (c.qualifiers-to.result ≤ length c.args.s.now)) (ap (λ (z : Parser). z.at) passed.next) c.qualifiers-to.ensures in
+    prefixing_more c.loop-c.invariant ((by_state same (holds_moved c.requires.1 c.qualifiers-to.result both_are.1))) (ap peeked passed2.there) (λ e. omega (arith, e, c.if-c-eq69.false)) c.px-got.ensures c.in-Parts.is
 
 -- ---------------------------------------------------------------- operator
 
@@ -1301,8 +1498,10 @@ pack-given-requires t c =
 
 pub pack-returns-then-pack_ends : goal.pack-returns-then-pack_ends
 pack-returns-then-pack_ends t c =
-    λ σ h. packed_ends (c.loop-c.invariant.so_far σ h) ((let v : peeked (drop c.loop-c.next.at c.args.s.now) ≡ peeked_as.Byte c.in-Byte.c = ap peeked ((let v : Past c.args.s.now c.loop-c.next c.in-Byte.c c.in-Byte.behind = took _ _ c.take.ensures c.in-Byte.is in v)).there in v)) c.if-c-eq69.true
-    (sym c.pack_ends.ensures ∙ c.if-pack_ends.true) ((let v : Past c.args.s.now c.loop-c.next c.in-Byte.c c.in-Byte.behind = took _ _ c.take.ensures c.in-Byte.is in v)).next c.joined_size.ensures
+    let passed : Past c.args.s.now c.loop-c.next c.in-Byte.c c.in-Byte.behind = took _ _ c.take.ensures c.in-Byte.is in
+    let same : peeked (drop c.loop-c.next.at c.args.s.now) ≡ peeked_as.Byte c.in-Byte.c = ap peeked passed.there in
+    λ σ h. packed_ends (c.loop-c.invariant.so_far σ h) same c.if-c-eq69.true
+    (sym c.pack_ends.ensures ∙ c.if-pack_ends.true) passed.next c.joined_size.ensures
     c.given.ensures
 
 pub pack-overflow_sub-level : goal.pack-overflow_sub-level
@@ -1327,21 +1526,27 @@ pack-overflow_add-joined_size t c =
 
 pub pack-sum-n-requires : goal.pack-sum-n-requires
 pack-sum-n-requires t c =
+    let passed : Past c.args.s.now c.loop-c.next c.in-Byte.c c.in-Byte.behind = took _ _ c.take.ensures c.in-Byte.is in
+    let same : peeked (drop c.loop-c.next.at c.args.s.now) ≡ peeked_as.Byte c.in-Byte.c = ap peeked passed.there in
     let f = inner_E c.loop-c.level c.loop-c.n (sym c.pack_ends.ensures ∙ c.if-pack_ends.false) in (
-      outer_small (c.loop-c.invariant.so_far _ c.requires.1) ((let v : peeked (drop c.loop-c.next.at c.args.s.now) ≡ peeked_as.Byte c.in-Byte.c = ap peeked ((let v : Past c.args.s.now c.loop-c.next c.in-Byte.c c.in-Byte.behind = took _ _ c.take.ensures c.in-Byte.is in v)).there in v)) c.if-c-eq69.true f.0,
+      outer_small (c.loop-c.invariant.so_far _ c.requires.1) same c.if-c-eq69.true f.0,
       omega
           (arith, c.joined_size-then-c-eq69.ensures, f.1),
     )
 
 pub pack-loop-c-smaller-then-c-eq69 : goal.pack-loop-c-smaller-then-c-eq69
 pack-loop-c-smaller-then-c-eq69 t c =
-    omega (arith, inside (c.loop-c.invariant.so_far _ c.requires.1) ((let v : peeked (drop c.loop-c.next.at c.args.s.now) ≡ peeked_as.Byte c.in-Byte.c = ap peeked ((let v : Past c.args.s.now c.loop-c.next c.in-Byte.c c.in-Byte.behind = took _ _ c.take.ensures c.in-Byte.is in v)).there in v)), ap (λ (z : Parser). z.at) ((let v : Past c.args.s.now c.loop-c.next c.in-Byte.c c.in-Byte.behind = took _ _ c.take.ensures c.in-Byte.is in v)).next)
+    let passed : Past c.args.s.now c.loop-c.next c.in-Byte.c c.in-Byte.behind = took _ _ c.take.ensures c.in-Byte.is in
+    let same : peeked (drop c.loop-c.next.at c.args.s.now) ≡ peeked_as.Byte c.in-Byte.c = ap peeked passed.there in
+    omega (arith, inside (c.loop-c.invariant.so_far _ c.requires.1) same, ap (λ (z : Parser). z.at) passed.next)
 
 pub pack-loop-c-preserved-then-c-eq69 : goal.pack-loop-c-preserved-then-c-eq69
 pack-loop-c-preserved-then-c-eq69 t c =
+    let passed : Past c.args.s.now c.loop-c.next c.in-Byte.c c.in-Byte.behind = took _ _ c.take.ensures c.in-Byte.is in
+    let same : peeked (drop c.loop-c.next.at c.args.s.now) ≡ peeked_as.Byte c.in-Byte.c = ap peeked passed.there in
     packing c.requires.1 c.loop-c.invariant.room (omega (arith, c.loop-c.invariant.deep))
-    (λ σ h. packed_closes (c.loop-c.invariant.so_far σ h) ((let v : peeked (drop c.loop-c.next.at c.args.s.now) ≡ peeked_as.Byte c.in-Byte.c = ap peeked ((let v : Past c.args.s.now c.loop-c.next c.in-Byte.c c.in-Byte.behind = took _ _ c.take.ensures c.in-Byte.is in v)).there in v)) c.if-c-eq69.true
-    (sym c.pack_ends.ensures ∙ c.if-pack_ends.false) ((let v : Past c.args.s.now c.loop-c.next c.in-Byte.c c.in-Byte.behind = took _ _ c.take.ensures c.in-Byte.is in v)).next
+    (λ σ h. packed_closes (c.loop-c.invariant.so_far σ h) same c.if-c-eq69.true
+    (sym c.pack_ends.ensures ∙ c.if-pack_ends.false) passed.next
     (c.sum-n.ensures ∙ ap (λ (x : ℕ). min (get_or c.loop-c.outer (c.loop-c.level - 1) 0 + (x + 2)) most_length) c.joined_size-then-c-eq69.ensures))
 
 pub pack-pack_opens-requires : goal.pack-pack_opens-requires
@@ -1350,7 +1555,8 @@ pack-pack_opens-requires t c =
 
 pub pack-comma-next-requires : goal.pack-comma-next-requires
 pack-comma-next-requires t c =
-    stack_by ((let v : Past c.args.s.now c.loop-c.next c.in-Byte.c c.in-Byte.behind = took _ _ c.take.ensures c.in-Byte.is in v)).next (c.loop-c.invariant.so_far _ c.requires.1).holds.text
+    let passed : Past c.args.s.now c.loop-c.next c.in-Byte.c c.in-Byte.behind = took _ _ c.take.ensures c.in-Byte.is in
+    stack_by passed.next (c.loop-c.invariant.so_far _ c.requires.1).holds.text
 
 pub pack-offset_bounds-outer-level-then-pack_opens : goal.pack-offset_bounds-outer-level-then-pack_opens
 pack-offset_bounds-outer-level-then-pack_opens t c =
@@ -1366,13 +1572,17 @@ pack-overflow_add-level t c =
 
 pub pack-loop-c-smaller-then-pack_opens : goal.pack-loop-c-smaller-then-pack_opens
 pack-loop-c-smaller-then-pack_opens t c =
-    omega (arith, inside (c.loop-c.invariant.so_far _ c.requires.1) ((let v : peeked (drop c.loop-c.next.at c.args.s.now) ≡ peeked_as.Byte c.in-Byte.c = ap peeked ((let v : Past c.args.s.now c.loop-c.next c.in-Byte.c c.in-Byte.behind = took _ _ c.take.ensures c.in-Byte.is in v)).there in v)), ap (λ (z : Parser). z.at) c.comma-next.ensures.same, ap (λ (z : Parser). z.at) ((let v : Past c.args.s.now c.loop-c.next c.in-Byte.c c.in-Byte.behind = took _ _ c.take.ensures c.in-Byte.is in v)).next)
+    let passed : Past c.args.s.now c.loop-c.next c.in-Byte.c c.in-Byte.behind = took _ _ c.take.ensures c.in-Byte.is in
+    let same : peeked (drop c.loop-c.next.at c.args.s.now) ≡ peeked_as.Byte c.in-Byte.c = ap peeked passed.there in
+    omega (arith, inside (c.loop-c.invariant.so_far _ c.requires.1) same, ap (λ (z : Parser). z.at) c.comma-next.ensures.same, ap (λ (z : Parser). z.at) passed.next)
 
 pub pack-loop-c-preserved-then-pack_opens : goal.pack-loop-c-preserved-then-pack_opens
 pack-loop-c-preserved-then-pack_opens t c =
+    let passed : Past c.args.s.now c.loop-c.next c.in-Byte.c c.in-Byte.behind = took _ _ c.take.ensures c.in-Byte.is in
+    let same : peeked (drop c.loop-c.next.at c.args.s.now) ≡ peeked_as.Byte c.in-Byte.c = ap peeked passed.there in
     packing c.requires.1 (length-set c.loop-c.outer c.loop-c.level c.loop-c.n ∙ c.loop-c.invariant.room)
     (omega (arith, (opens_J c.loop-c.level c.in-Byte.c (sym c.pack_opens.ensures ∙ c.if-pack_opens.true)).1))
-    (λ σ h. packed_opens (c.loop-c.invariant.so_far σ h) ((let v : peeked (drop c.loop-c.next.at c.args.s.now) ≡ peeked_as.Byte c.in-Byte.c = ap peeked ((let v : Past c.args.s.now c.loop-c.next c.in-Byte.c c.in-Byte.behind = took _ _ c.take.ensures c.in-Byte.is in v)).there in v)) ((let v : Past c.args.s.now c.loop-c.next c.in-Byte.c c.in-Byte.behind = took _ _ c.take.ensures c.in-Byte.is in v)).next c.comma-next.ensures
+    (λ σ h. packed_opens (c.loop-c.invariant.so_far σ h) same passed.next c.comma-next.ensures
     (sym c.pack_opens.ensures ∙ c.if-pack_opens.true) c.loop-c.invariant.room)
 
 pub pack-comma-next-requires-in-loop-c : goal.pack-comma-next-requires-in-loop-c
@@ -1385,29 +1595,39 @@ pack-arg-got-requires t c =
 
 pub pack-returns-in_default-got : goal.pack-returns-in_default-got
 pack-returns-in_default-got t c =
-    λ σ h. packed_refuses (c.loop-c.invariant.so_far σ h) ((let v : peeked (drop c.loop-c.next.at c.args.s.now) ≡ peeked_as.Byte c.in-Byte.c = ap peeked ((let v : Past c.args.s.now c.loop-c.next c.in-Byte.c c.in-Byte.behind = took _ _ c.take.ensures c.in-Byte.is in v)).there in v)) (λ e. omega (arith, e, c.if-c-eq69.false)) c.comma-next-in-loop-c.ensures c.arg-got.ensures c.in_default-got.is
+    let passed : Past c.args.s.now c.loop-c.next c.in-Byte.c c.in-Byte.behind = took _ _ c.take.ensures c.in-Byte.is in
+    let same : peeked (drop c.loop-c.next.at c.args.s.now) ≡ peeked_as.Byte c.in-Byte.c = ap peeked passed.there in
+    λ σ h. packed_refuses (c.loop-c.invariant.so_far σ h) same (λ e. omega (arith, e, c.if-c-eq69.false)) c.comma-next-in-loop-c.ensures c.arg-got.ensures c.in_default-got.is
 
 pub pack-overflow_add-m : goal.pack-overflow_add-m
 pack-overflow_add-m t c =
-    omega (arith, text_short (c.loop-c.invariant.so_far _ c.requires.1) ((let v : peeked (drop c.loop-c.next.at c.args.s.now) ≡ peeked_as.Byte c.in-Byte.c = ap peeked ((let v : Past c.args.s.now c.loop-c.next c.in-Byte.c c.in-Byte.behind = took _ _ c.take.ensures c.in-Byte.is in v)).there in v)) (λ e. omega (arith, e, c.if-c-eq69.false)) c.comma-next-in-loop-c.ensures c.arg-got.ensures c.in-Text.is)
+    let passed : Past c.args.s.now c.loop-c.next c.in-Byte.c c.in-Byte.behind = took _ _ c.take.ensures c.in-Byte.is in
+    let same : peeked (drop c.loop-c.next.at c.args.s.now) ≡ peeked_as.Byte c.in-Byte.c = ap peeked passed.there in
+    omega (arith, text_short (c.loop-c.invariant.so_far _ c.requires.1) same (λ e. omega (arith, e, c.if-c-eq69.false)) c.comma-next-in-loop-c.ensures c.arg-got.ensures c.in-Text.is)
 
 pub pack-sum-n-requires-in-loop-c : goal.pack-sum-n-requires-in-loop-c
 pack-sum-n-requires-in-loop-c t c =
-    let l = c.loop-c.invariant.so_far _ c.requires.1 in (omega (arith, l.size), omega (arith, text_short l ((let v : peeked (drop c.loop-c.next.at c.args.s.now) ≡ peeked_as.Byte c.in-Byte.c = ap peeked ((let v : Past c.args.s.now c.loop-c.next c.in-Byte.c c.in-Byte.behind = took _ _ c.take.ensures c.in-Byte.is in v)).there in v)) (λ e. omega (arith, e, c.if-c-eq69.false)) c.comma-next-in-loop-c.ensures c.arg-got.ensures c.in-Text.is))
+    let passed : Past c.args.s.now c.loop-c.next c.in-Byte.c c.in-Byte.behind = took _ _ c.take.ensures c.in-Byte.is in
+    let same : peeked (drop c.loop-c.next.at c.args.s.now) ≡ peeked_as.Byte c.in-Byte.c = ap peeked passed.there in
+    let l = c.loop-c.invariant.so_far _ c.requires.1 in (omega (arith, l.size), omega (arith, text_short l same (λ e. omega (arith, e, c.if-c-eq69.false)) c.comma-next-in-loop-c.ensures c.arg-got.ensures c.in-Text.is))
 
 pub pack-loop-c-smaller : goal.pack-loop-c-smaller
 pack-loop-c-smaller t c =
+    let passed : Past c.args.s.now c.loop-c.next c.in-Byte.c c.in-Byte.behind = took _ _ c.take.ensures c.in-Byte.is in
+    let same : peeked (drop c.loop-c.next.at c.args.s.now) ≡ peeked_as.Byte c.in-Byte.c = ap peeked passed.there in
     let l = c.loop-c.invariant.so_far _ c.requires.1 in omega (
       arith,
-      inside l ((let v : peeked (drop c.loop-c.next.at c.args.s.now) ≡ peeked_as.Byte c.in-Byte.c = ap peeked ((let v : Past c.args.s.now c.loop-c.next c.in-Byte.c c.in-Byte.behind = took _ _ c.take.ensures c.in-Byte.is in v)).there in v)),
-      text_further l ((let v : peeked (drop c.loop-c.next.at c.args.s.now) ≡ peeked_as.Byte c.in-Byte.c = ap peeked ((let v : Past c.args.s.now c.loop-c.next c.in-Byte.c c.in-Byte.behind = took _ _ c.take.ensures c.in-Byte.is in v)).there in v)) (λ e. omega (arith, e, c.if-c-eq69.false)) c.comma-next-in-loop-c.ensures
+      inside l same,
+      text_further l same (λ e. omega (arith, e, c.if-c-eq69.false)) c.comma-next-in-loop-c.ensures
           c.arg-got.ensures c.in-Text.is,
     )
 
 pub pack-loop-c-preserved : goal.pack-loop-c-preserved
 pack-loop-c-preserved t c =
+    let passed : Past c.args.s.now c.loop-c.next c.in-Byte.c c.in-Byte.behind = took _ _ c.take.ensures c.in-Byte.is in
+    let same : peeked (drop c.loop-c.next.at c.args.s.now) ≡ peeked_as.Byte c.in-Byte.c = ap peeked passed.there in
     packing c.requires.1 c.loop-c.invariant.room c.loop-c.invariant.deep
-    (λ σ h. packed_more (c.loop-c.invariant.so_far σ h) ((let v : peeked (drop c.loop-c.next.at c.args.s.now) ≡ peeked_as.Byte c.in-Byte.c = ap peeked ((let v : Past c.args.s.now c.loop-c.next c.in-Byte.c c.in-Byte.behind = took _ _ c.take.ensures c.in-Byte.is in v)).there in v)) (λ e. omega (arith, e, c.if-c-eq69.false)) c.comma-next-in-loop-c.ensures
+    (λ σ h. packed_more (c.loop-c.invariant.so_far σ h) same (λ e. omega (arith, e, c.if-c-eq69.false)) c.comma-next-in-loop-c.ensures
     c.arg-got.ensures c.in-Text.is c.sum-n-in-loop-c.ensures)
 
 -- ---------------------------------------------------------------- part
@@ -1817,11 +2037,13 @@ ty-returns-in_default t c =
 
 pub ty-ty_inner-got-requires : goal.ty-ty_inner-got-requires
 ty-ty_inner-got-requires t c =
-    (omega (arith, at_of ((let v : (c.args.p.depth < most_open) × (c.in-Text.open ≡ deeper c.args.p) = went_in c.args.p c.enter-entered.ensures c.in-Text.is in v)).1, c.decreases), ready_entered c.enter-entered.ensures c.in-Text.is c.requires)
+    let inside : (c.args.p.depth < most_open) × (c.in-Text.open ≡ deeper c.args.p) = went_in c.args.p c.enter-entered.ensures c.in-Text.is in
+    (omega (arith, at_of inside.1, c.decreases), ready_entered c.enter-entered.ensures c.in-Text.is c.requires)
 
 pub ty-returns-in_default-got : goal.ty-returns-in_default-got
 ty-returns-in_default-got t c =
-    still_refused ⟨type⟩ (type_inner reading) type_opens ((let v : (c.args.p.depth < most_open) × (c.in-Text.open ≡ deeper c.args.p) = went_in c.args.p c.enter-entered.ensures c.in-Text.is in v)).0 ((let v : (c.args.p.depth < most_open) × (c.in-Text.open ≡ deeper c.args.p) = went_in c.args.p c.enter-entered.ensures c.in-Text.is in v)).1 c.ty_inner-got.ensures c.in_default-got.is
+    let inside : (c.args.p.depth < most_open) × (c.in-Text.open ≡ deeper c.args.p) = went_in c.args.p c.enter-entered.ensures c.in-Text.is in
+    still_refused ⟨type⟩ (type_inner reading) type_opens inside.0 inside.1 c.ty_inner-got.ensures c.in_default-got.is
 
 pub ty-leave-requires : goal.ty-leave-requires
 ty-leave-requires t c =
@@ -1829,7 +2051,8 @@ ty-leave-requires t c =
 
 pub ty-returns : goal.ty-returns
 ty-returns t c =
-    left_again ⟨type⟩ (type_inner reading) type_opens ((let v : (c.args.p.depth < most_open) × (c.in-Text.open ≡ deeper c.args.p) = went_in c.args.p c.enter-entered.ensures c.in-Text.is in v)).0 ((let v : (c.args.p.depth < most_open) × (c.in-Text.open ≡ deeper c.args.p) = went_in c.args.p c.enter-entered.ensures c.in-Text.is in v)).1 c.ty_inner-got.ensures c.in-Text-got.is c.leave.ensures
+    let inside : (c.args.p.depth < most_open) × (c.in-Text.open ≡ deeper c.args.p) = went_in c.args.p c.enter-entered.ensures c.in-Text.is in
+    left_again ⟨type⟩ (type_inner reading) type_opens inside.0 inside.1 c.ty_inner-got.ensures c.in-Text-got.is c.leave.ensures
 
 -- ---------------------------------------------------------------- ty_inner
 
@@ -1839,7 +2062,8 @@ ty_inner-take-requires t c =
 
 pub ty_inner-returns-in_default : goal.ty_inner-returns-in_default
 ty_inner-returns-in_default t c =
-    λ σ h. by (from_text (type_inner reading) σ (no_byte h refl (ap peeked ((let v : drop c.args.p.at c.args.s.now ≡ [] = took_none c.args.s.now c.args.p c.take.ensures c.in_default.is in v)))) (inner_end [] σ)) refuses
+    let same : drop c.args.p.at c.args.s.now ≡ [] = took_none c.args.s.now c.args.p c.take.ensures c.in_default.is in
+    λ σ h. by (from_text (type_inner reading) σ (no_byte h refl (ap peeked same)) (inner_end [] σ)) refuses
 
 pub ty_inner-builtin-requires : goal.ty_inner-builtin-requires
 ty_inner-builtin-requires t c =
@@ -1847,29 +2071,34 @@ ty_inner-builtin-requires t c =
 
 pub ty_inner-word-requires : goal.ty_inner-word-requires
 ty_inner-word-requires t c =
-    (stack_by ((let v : Past c.args.s.now c.args.p c.in-Byte.c c.in-Byte.behind = took _ _ c.take.ensures c.in-Byte.is in v)).next c.requires.1.text, (spelled_at c.builtin.ensures c.in-Bytes.is).1)
+    let passed : Past c.args.s.now c.args.p c.in-Byte.c c.in-Byte.behind = took _ _ c.take.ensures c.in-Byte.is in
+    (stack_by passed.next c.requires.1.text, (spelled_at c.builtin.ensures c.in-Bytes.is).1)
 
 pub ty_inner-returns-in-Bytes : goal.ty_inner-returns-in-Bytes
 ty_inner-returns-in-Bytes t c =
+    let passed : Past c.args.s.now c.args.p c.in-Byte.c c.in-Byte.behind = took _ _ c.take.ensures c.in-Byte.is in
     λ σ h.
-    let l = byte_inside h refl (ap peeked ((let v : Past c.args.s.now c.args.p c.in-Byte.c c.in-Byte.behind = took _ _ c.take.ensures c.in-Byte.is in v)).there) in
-    by (from_text (type_inner reading) σ (byte_at h refl (ap peeked ((let v : Past c.args.s.now c.args.p c.in-Byte.c c.in-Byte.behind = took _ _ c.take.ensures c.in-Byte.is in v)).there)) (inner_letter _ _ σ _ (spelled_at c.builtin.ensures c.in-Bytes.is).0.0))
-    (less (omega (arith, h.deep)) (reads_moved ((let v : Past c.args.s.now c.args.p c.in-Byte.c c.in-Byte.behind = took _ _ c.take.ensures c.in-Byte.is in v)).next (c.word.ensures _ _ _) h (omega (arith, l)) (omega arith)))
+    let l = byte_inside h refl (ap peeked passed.there) in
+    by (from_text (type_inner reading) σ (byte_at h refl (ap peeked passed.there)) (inner_letter _ _ σ _ (spelled_at c.builtin.ensures c.in-Bytes.is).0.0))
+    (less (omega (arith, h.deep)) (reads_moved passed.next (c.word.ensures _ _ _) h (omega (arith, l)) (omega arith)))
 
 pub ty_inner-array-requires : goal.ty_inner-array-requires
 ty_inner-array-requires t c =
-    let l = byte_inside c.requires.1 refl (ap peeked ((let v : Past c.args.s.now c.args.p c.in-Byte.c c.in-Byte.behind = took _ _ c.take.ensures c.in-Byte.is in v)).there) in
-    (omega (arith, at_of ((let v : Past c.args.s.now c.args.p c.in-Byte.c c.in-Byte.behind = took _ _ c.take.ensures c.in-Byte.is in v)).next, c.decreases, l), ready_moved _ ((let v : Past c.args.s.now c.args.p c.in-Byte.c c.in-Byte.behind = took _ _ c.take.ensures c.in-Byte.is in v)).next c.requires.1 (omega (arith, l)))
+    let passed : Past c.args.s.now c.args.p c.in-Byte.c c.in-Byte.behind = took _ _ c.take.ensures c.in-Byte.is in
+    let l = byte_inside c.requires.1 refl (ap peeked passed.there) in
+    (omega (arith, at_of passed.next, c.decreases, l), ready_moved _ passed.next c.requires.1 (omega (arith, l)))
 
 pub ty_inner-func-requires : goal.ty_inner-func-requires
 ty_inner-func-requires t c =
-    let l = byte_inside c.requires.1 refl (ap peeked ((let v : Past c.args.s.now c.args.p c.in-Byte.c c.in-Byte.behind = took _ _ c.take.ensures c.in-Byte.is in v)).there) in
-    (omega (arith, at_of ((let v : Past c.args.s.now c.args.p c.in-Byte.c c.in-Byte.behind = took _ _ c.take.ensures c.in-Byte.is in v)).next, c.decreases, l), ready_moved _ ((let v : Past c.args.s.now c.args.p c.in-Byte.c c.in-Byte.behind = took _ _ c.take.ensures c.in-Byte.is in v)).next c.requires.1 (omega (arith, l)))
+    let passed : Past c.args.s.now c.args.p c.in-Byte.c c.in-Byte.behind = took _ _ c.take.ensures c.in-Byte.is in
+    let l = byte_inside c.requires.1 refl (ap peeked passed.there) in
+    (omega (arith, at_of passed.next, c.decreases, l), ready_moved _ passed.next c.requires.1 (omega (arith, l)))
 
 pub ty_inner-member-requires : goal.ty_inner-member-requires
 ty_inner-member-requires t c =
-    let l = byte_inside c.requires.1 refl (ap peeked ((let v : Past c.args.s.now c.args.p c.in-Byte.c c.in-Byte.behind = took _ _ c.take.ensures c.in-Byte.is in v)).there) in
-    (omega (arith, at_of ((let v : Past c.args.s.now c.args.p c.in-Byte.c c.in-Byte.behind = took _ _ c.take.ensures c.in-Byte.is in v)).next, c.decreases, l), ready_moved _ ((let v : Past c.args.s.now c.args.p c.in-Byte.c c.in-Byte.behind = took _ _ c.take.ensures c.in-Byte.is in v)).next c.requires.1 (omega (arith, l)))
+    let passed : Past c.args.s.now c.args.p c.in-Byte.c c.in-Byte.behind = took _ _ c.take.ensures c.in-Byte.is in
+    let l = byte_inside c.requires.1 refl (ap peeked passed.there) in
+    (omega (arith, at_of passed.next, c.decreases, l), ready_moved _ passed.next c.requires.1 (omega (arith, l)))
 
 pub ty_inner-builtin_d-requires : goal.ty_inner-builtin_d-requires
 ty_inner-builtin_d-requires t c =
@@ -1877,8 +2106,9 @@ ty_inner-builtin_d-requires t c =
 
 pub ty_inner-source_name-requires : goal.ty_inner-source_name-requires
 ty_inner-source_name-requires t c =
-    let l = byte_inside c.requires.1 refl (ap peeked ((let v : Past c.args.s.now c.args.p c.in-Byte.c c.in-Byte.behind = took _ _ c.take.ensures c.in-Byte.is in v)).there) in
-    (omega (arith, at_of ((let v : Past c.args.s.now c.args.p c.in-Byte.c c.in-Byte.behind = took _ _ c.take.ensures c.in-Byte.is in v)).next, l), (c.requires.1.source, stack_by ((let v : Past c.args.s.now c.args.p c.in-Byte.c c.in-Byte.behind = took _ _ c.take.ensures c.in-Byte.is in v)).next c.requires.1.text))
+    let passed : Past c.args.s.now c.args.p c.in-Byte.c c.in-Byte.behind = took _ _ c.take.ensures c.in-Byte.is in
+    let l = byte_inside c.requires.1 refl (ap peeked passed.there) in
+    (omega (arith, at_of passed.next, l), (c.requires.1.source, stack_by passed.next c.requires.1.text))
 
 pub ty_inner-nest_ty-requires : goal.ty_inner-nest_ty-requires
 ty_inner-nest_ty-requires t c =
@@ -1898,29 +2128,33 @@ ty_inner-class-requires t c =
 
 pub ty_inner-wrap-requires : goal.ty_inner-wrap-requires
 ty_inner-wrap-requires t c =
-    let l = byte_inside c.requires.1 refl (ap peeked ((let v : Past c.args.s.now c.args.p c.in-Byte.c c.in-Byte.behind = took _ _ c.take.ensures c.in-Byte.is in v)).there) in
-    (omega (arith, at_of ((let v : Past c.args.s.now c.args.p c.in-Byte.c c.in-Byte.behind = took _ _ c.take.ensures c.in-Byte.is in v)).next, c.decreases, l), ready_moved _ ((let v : Past c.args.s.now c.args.p c.in-Byte.c c.in-Byte.behind = took _ _ c.take.ensures c.in-Byte.is in v)).next c.requires.1 (omega (arith, l)))
+    let passed : Past c.args.s.now c.args.p c.in-Byte.c c.in-Byte.behind = took _ _ c.take.ensures c.in-Byte.is in
+    let l = byte_inside c.requires.1 refl (ap peeked passed.there) in
+    (omega (arith, at_of passed.next, c.decreases, l), ready_moved _ passed.next c.requires.1 (omega (arith, l)))
 
 pub ty_inner-returns-in-65 : goal.ty_inner-returns-in-65
 ty_inner-returns-in-65 t c =
+    let passed : Past c.args.s.now c.args.p c.in-Byte.c c.in-Byte.behind = took _ _ c.take.ensures c.in-Byte.is in
     λ σ h.
-    let l = byte_inside h refl (ap peeked ((let v : Past c.args.s.now c.args.p c.in-Byte.c c.in-Byte.behind = took _ _ c.take.ensures c.in-Byte.is in v)).there) in
-    by (from_text (type_inner reading) σ (byte_is h refl 65 (ap peeked ((let v : Past c.args.s.now c.args.p c.in-Byte.c c.in-Byte.behind = took _ _ c.take.ensures c.in-Byte.is in v)).there) c.in-65.is) (inner_A _ σ))
-    (sooner (omega arith) (call_moved keep ((let v : Past c.args.s.now c.args.p c.in-Byte.c c.in-Byte.behind = took _ _ c.take.ensures c.in-Byte.is in v)).next c.array.ensures h (omega (arith, l))))
+    let l = byte_inside h refl (ap peeked passed.there) in
+    by (from_text (type_inner reading) σ (byte_is h refl 65 (ap peeked passed.there) c.in-65.is) (inner_A _ σ))
+    (sooner (omega arith) (call_moved keep passed.next c.array.ensures h (omega (arith, l))))
 
 pub ty_inner-returns-in-70 : goal.ty_inner-returns-in-70
 ty_inner-returns-in-70 t c =
+    let passed : Past c.args.s.now c.args.p c.in-Byte.c c.in-Byte.behind = took _ _ c.take.ensures c.in-Byte.is in
     λ σ h.
-    let l = byte_inside h refl (ap peeked ((let v : Past c.args.s.now c.args.p c.in-Byte.c c.in-Byte.behind = took _ _ c.take.ensures c.in-Byte.is in v)).there) in
-    by (from_text (type_inner reading) σ (byte_is h refl 70 (ap peeked ((let v : Past c.args.s.now c.args.p c.in-Byte.c c.in-Byte.behind = took _ _ c.take.ensures c.in-Byte.is in v)).there) c.in-70.is) (inner_F _ σ))
-    (sooner (omega arith) (call_moved keep ((let v : Past c.args.s.now c.args.p c.in-Byte.c c.in-Byte.behind = took _ _ c.take.ensures c.in-Byte.is in v)).next c.func.ensures h (omega (arith, l))))
+    let l = byte_inside h refl (ap peeked passed.there) in
+    by (from_text (type_inner reading) σ (byte_is h refl 70 (ap peeked passed.there) c.in-70.is) (inner_F _ σ))
+    (sooner (omega arith) (call_moved keep passed.next c.func.ensures h (omega (arith, l))))
 
 pub ty_inner-returns-in-77 : goal.ty_inner-returns-in-77
 ty_inner-returns-in-77 t c =
+    let passed : Past c.args.s.now c.args.p c.in-Byte.c c.in-Byte.behind = took _ _ c.take.ensures c.in-Byte.is in
     λ σ h.
-    let l = byte_inside h refl (ap peeked ((let v : Past c.args.s.now c.args.p c.in-Byte.c c.in-Byte.behind = took _ _ c.take.ensures c.in-Byte.is in v)).there) in
-    by (from_text (type_inner reading) σ (byte_is h refl 77 (ap peeked ((let v : Past c.args.s.now c.args.p c.in-Byte.c c.in-Byte.behind = took _ _ c.take.ensures c.in-Byte.is in v)).there) c.in-77.is) (inner_M _ σ))
-    (sooner (omega arith) (call_moved keep ((let v : Past c.args.s.now c.args.p c.in-Byte.c c.in-Byte.behind = took _ _ c.take.ensures c.in-Byte.is in v)).next c.member.ensures h (omega (arith, l))))
+    let l = byte_inside h refl (ap peeked passed.there) in
+    by (from_text (type_inner reading) σ (byte_is h refl 77 (ap peeked passed.there) c.in-77.is) (inner_M _ σ))
+    (sooner (omega arith) (call_moved keep passed.next c.member.ensures h (omega (arith, l))))
 
 pub ty_inner-returns-in-68 : goal.ty_inner-returns-in-68
 ty_inner-returns-in-68 t c =
@@ -1938,28 +2172,32 @@ ty_inner-returns-in-117 t c =
 
 pub ty_inner-returns-in-78 : goal.ty_inner-returns-in-78
 ty_inner-returns-in-78 t c =
+    let passed : Past c.args.s.now c.args.p c.in-Byte.c c.in-Byte.behind = took _ _ c.take.ensures c.in-Byte.is in
     λ σ h. by (same_from (type_inner reading) (nested_type reading) σ
-    (byte_is h refl 78 (ap peeked ((let v : Past c.args.s.now c.args.p c.in-Byte.c c.in-Byte.behind = took _ _ c.take.ensures c.in-Byte.is in v)).there)
+    (byte_is h refl 78 (ap peeked passed.there)
     c.in-78.is) (inner_N _ σ))
     (c.nest_ty.ensures σ h)
 
 pub ty_inner-returns-in-84 : goal.ty_inner-returns-in-84
 ty_inner-returns-in-84 t c =
+    let passed : Past c.args.s.now c.args.p c.in-Byte.c c.in-Byte.behind = took _ _ c.take.ensures c.in-Byte.is in
     λ σ h. by (same_from (type_inner reading) (reading ⟨template-param⟩) σ
-    (byte_is h refl 84 (ap peeked ((let v : Past c.args.s.now c.args.p c.in-Byte.c c.in-Byte.behind = took _ _ c.take.ensures c.in-Byte.is in v)).there)
+    (byte_is h refl 84 (ap peeked passed.there)
     c.in-84.is) (inner_T _ σ)) (less (omega (arith, h.deep)) (c.template_param.ensures σ h))
 
 pub ty_inner-returns-in-83 : goal.ty_inner-returns-in-83
 ty_inner-returns-in-83 t c =
+    let passed : Past c.args.s.now c.args.p c.in-Byte.c c.in-Byte.behind = took _ _ c.take.ensures c.in-Byte.is in
     λ σ h. by (same_from (type_inner reading) (s_type reading) σ
-    (byte_is h refl 83 (ap peeked ((let v : Past c.args.s.now c.args.p c.in-Byte.c c.in-Byte.behind = took _ _ c.take.ensures c.in-Byte.is in v)).there)
+    (byte_is h refl 83 (ap peeked passed.there)
     c.in-83.is) (inner_S _ σ))
     (c.at_s.ensures σ h)
 
 pub ty_inner-returns-in-48-to-57 : goal.ty_inner-returns-in-48-to-57
 ty_inner-returns-in-48-to-57 t c =
+    let passed : Past c.args.s.now c.args.p c.in-Byte.c c.in-Byte.behind = took _ _ c.take.ensures c.in-Byte.is in
     λ σ h. by (same_from (type_inner reading) (class_type reading) σ
-    (byte_at h refl (ap peeked ((let v : Past c.args.s.now c.args.p c.in-Byte.c c.in-Byte.behind = took _ _ c.take.ensures c.in-Byte.is in v)).there))
+    (byte_at h refl (ap peeked passed.there))
     (inner_class _ _ σ (no_letter _ _ c.builtin.ensures c.in_default-builtin.is)
     (no_head _ c.in-48-to-57.in_default-own.rest
     (λ e. omega (arith, e, c.in-48-to-57.if-c-lt58-own.true))
@@ -1968,33 +2206,38 @@ ty_inner-returns-in-48-to-57 t c =
 
 pub ty_inner-returns-in_default-c : goal.ty_inner-returns-in_default-c
 ty_inner-returns-in_default-c t c =
-    λ σ h. by (from_text (type_inner reading) σ (byte_at h refl (ap peeked ((let v : Past c.args.s.now c.args.p c.in-Byte.c c.in-Byte.behind = took _ _ c.take.ensures c.in-Byte.is in v)).there))
+    let passed : Past c.args.s.now c.args.p c.in-Byte.c c.in-Byte.behind = took _ _ c.take.ensures c.in-Byte.is in
+    λ σ h. by (from_text (type_inner reading) σ (byte_at h refl (ap peeked passed.there))
     (inner_4 _ _ σ (no_letter _ _ c.builtin.ensures c.in_default-builtin.is)
     (no_head _ c.in_default-c.in_default-own.rest (λ e. omega (arith, e, c.in_default-c.if-c-lt48-own.true)) (λ e. omega (arith, e, c.in_default-c.if-c-lt48-own.true)))
     (digit_not _ (λ i. absurd (omega (arith, i, c.in_default-c.if-c-lt48-own.true)))))) refuses
 
 pub ty_inner-returns-in_default-c-2 : goal.ty_inner-returns-in_default-c-2
 ty_inner-returns-in_default-c-2 t c =
-    λ σ h. by (from_text (type_inner reading) σ (byte_at h refl (ap peeked ((let v : Past c.args.s.now c.args.p c.in-Byte.c c.in-Byte.behind = took _ _ c.take.ensures c.in-Byte.is in v)).there))
+    let passed : Past c.args.s.now c.args.p c.in-Byte.c c.in-Byte.behind = took _ _ c.take.ensures c.in-Byte.is in
+    λ σ h. by (from_text (type_inner reading) σ (byte_at h refl (ap peeked passed.there))
     (inner_4 _ _ σ (no_letter _ _ c.builtin.ensures c.in_default-builtin.is)
     (no_head _ c.in_default-c.in_default-own.rest (λ e. omega (arith, e, c.in_default-c.if-c-lt77-own.true)) (λ e. omega (arith, e, c.in_default-c.if-c-lt77-own.true)))
     (digit_not _ (λ i. c.in_default-c.if-c-lt58-own.false)))) refuses
 
 pub ty_inner-returns-in_default-c-3 : goal.ty_inner-returns-in_default-c-3
 ty_inner-returns-in_default-c-3 t c =
-    λ σ h. by (from_text (type_inner reading) σ (byte_at h refl (ap peeked ((let v : Past c.args.s.now c.args.p c.in-Byte.c c.in-Byte.behind = took _ _ c.take.ensures c.in-Byte.is in v)).there))
+    let passed : Past c.args.s.now c.args.p c.in-Byte.c c.in-Byte.behind = took _ _ c.take.ensures c.in-Byte.is in
+    λ σ h. by (from_text (type_inner reading) σ (byte_at h refl (ap peeked passed.there))
     (inner_4 _ _ σ (no_letter _ _ c.builtin.ensures c.in_default-builtin.is)
     (no_head _ c.in_default-c.in_default-own.rest (λ e. omega (arith, e, c.in_default-c.if-c-lt81-own.false)) (λ e. omega (arith, e, c.in_default-c.if-c-lt81-own.false)))
     (digit_not _ (λ i. c.in_default-c.if-c-lt58-own.false)))) refuses
 
 pub ty_inner-returns-in-80 : goal.ty_inner-returns-in-80
 ty_inner-returns-in-80 t c =
+    let passed : Past c.args.s.now c.args.p c.in-Byte.c c.in-Byte.behind = took _ _ c.take.ensures c.in-Byte.is in
     λ σ h.
-    let l = byte_inside h refl (ap peeked ((let v : Past c.args.s.now c.args.p c.in-Byte.c c.in-Byte.behind = took _ _ c.take.ensures c.in-Byte.is in v)).there) in
-    let v : Row_of c.in-Byte.c = elim c.in-80-1.branch [ ty_inner-in-67-1 x ↦ lettered_row _ x.in-67-1.keys1 | ty_inner-in_default+else-c-lt48+else-c-lt58+else-c-lt77+then-c-lt81 y ↦ between_row _ y.in_default-1.rest.0.0.0.0.0.1 y.in_default-1.rest.0.0.1 y.if-c-lt77-1.false y.if-c-lt81-1.true ] in
-    by (from_text (type_inner reading) σ (byte_at h refl (ap peeked ((let v : Past c.args.s.now c.args.p c.in-Byte.c c.in-Byte.behind = took _ _ c.take.ensures c.in-Byte.is in v)).there))
+    let l = byte_inside h refl (ap peeked passed.there) in
+    let v : Row_of c.in-Byte.c =
+    elim c.in-80-1.branch [ ty_inner-in-67-1 x ↦ lettered_row _ x.in-67-1.keys1 | ty_inner-in_default+else-c-lt48+else-c-lt58+else-c-lt77+then-c-lt81 y ↦ between_row _ y.in_default-1.rest.0.0.0.0.0.1 y.in_default-1.rest.0.0.1 y.if-c-lt77-1.false y.if-c-lt81-1.true ] in
+    by (from_text (type_inner reading) σ (byte_at h refl (ap peeked passed.there))
     (inner_wrapper _ _ σ v.0 (no_letter _ _ c.builtin.ensures c.in_default-builtin.is) v.1.1 (v.1.0 _)))
-    (sooner (omega arith) (call_moved keep ((let v : Past c.args.s.now c.args.p c.in-Byte.c c.in-Byte.behind = took _ _ c.take.ensures c.in-Byte.is in v)).next (c.wrap.ensures v.0 v.1.0) h (omega (arith, l))))
+    (sooner (omega arith) (call_moved keep passed.next (c.wrap.ensures v.0 v.1.0) h (omega (arith, l))))
 
 -- ---------------------------------------------------------------- unq
 
@@ -2012,7 +2255,8 @@ unq-take-requires t c =
 
 pub unq-returns-in_default : goal.unq-returns-in_default
 unq-returns-in_default t c =
-    λ σ h. unq_end h c.behind-at.ensures c.moved-q.ensures refl (ap peeked ((let v : drop c.moved-q.result.at c.args.s.now ≡ [] = took_none c.args.s.now c.moved-q.result c.take.ensures c.in_default.is in v)))
+    let same : drop c.moved-q.result.at c.args.s.now ≡ [] = took_none c.args.s.now c.moved-q.result c.take.ensures c.in_default.is in
+    λ σ h. unq_end h c.behind-at.ensures c.moved-q.ensures refl (ap peeked same)
 
 pub unq-take-requires-in-67 : goal.unq-take-requires-in-67
 unq-take-requires-in-67 t c =
@@ -2020,12 +2264,19 @@ unq-take-requires-in-67 t c =
 
 pub unq-returns-in_default-take : goal.unq-returns-in_default-take
 unq-returns-in_default-take t c =
-    λ σ h. unq_short h c.behind-at.ensures c.moved-q.ensures refl (ap peeked ((let v : Past c.args.s.now c.moved-q.result c.in-Byte.c c.in-Byte.behind = took _ _ c.take.ensures c.in-Byte.is in v)).there) 67 (unqualified_C_4 σ) c.in-67.is ((let v : length c.args.s.now ≤ c.behind-at.result + 1 = none_behind ((let v : c.moved-q.result.at ≡ c.behind-at.result = ap (λ (z : Parser). z.at) c.moved-q.ensures in v)) ((let v : Past c.args.s.now c.moved-q.result c.in-Byte.c c.in-Byte.behind = took _ _ c.take.ensures c.in-Byte.is in v)) (took_none c.args.s.now c.in-Byte.behind c.take-in-67.ensures c.in_default-take.is) in v))
+    let same : c.moved-q.result.at ≡ c.behind-at.result = ap (λ (z : Parser). z.at) c.moved-q.ensures in
+    let passed : Past c.args.s.now c.moved-q.result c.in-Byte.c c.in-Byte.behind = took _ _ c.take.ensures c.in-Byte.is in
+    let below : length c.args.s.now ≤ c.behind-at.result + 1 = none_behind same passed (took_none c.args.s.now c.in-Byte.behind c.take-in-67.ensures c.in_default-take.is) in
+    λ σ h. unq_short h c.behind-at.ensures c.moved-q.ensures refl (ap peeked passed.there) 67 (unqualified_C_4 σ) c.in-67.is below
 
 pub unq-put-requires : goal.unq-put-requires
 unfolding b
 unq-put-requires t c =
-    (stack_by ((let v : (c.behind-at.result + 1 < length c.args.s.now) × (c.in-Byte-take.next ≡ moved_to c.moved-q.result (c.behind-at.result + 2)) = two_behind ((let v : c.moved-q.result.at ≡ c.behind-at.result = ap (λ (z : Parser). z.at) c.moved-q.ensures in v)) ((let v : Past c.args.s.now c.moved-q.result c.in-Byte.c c.in-Byte.behind = took _ _ c.take.ensures c.in-Byte.is in v)) (took c.args.s.now c.in-Byte.behind c.take-in-67.ensures c.in-Byte-take.is) in v)).1 (stack_by c.moved-q.ensures c.requires.1.text), omega arith)
+    let same : c.moved-q.result.at ≡ c.behind-at.result = ap (λ (z : Parser). z.at) c.moved-q.ensures in
+    let passed : Past c.args.s.now c.moved-q.result c.in-Byte.c c.in-Byte.behind = took _ _ c.take.ensures c.in-Byte.is in
+    let inside : (c.behind-at.result + 1 < length c.args.s.now) × (c.in-Byte-take.next ≡ moved_to c.moved-q.result (c.behind-at.result + 2)) =
+    two_behind same passed (took c.args.s.now c.in-Byte.behind c.take-in-67.ensures c.in-Byte-take.is) in
+    (stack_by inside.1 (stack_by c.moved-q.ensures c.requires.1.text), omega arith)
 
 pub unq-take-requires-in-68 : goal.unq-take-requires-in-68
 unq-take-requires-in-68 t c =
@@ -2033,16 +2284,24 @@ unq-take-requires-in-68 t c =
 
 pub unq-returns-in_default-take-2 : goal.unq-returns-in_default-take-2
 unq-returns-in_default-take-2 t c =
-    λ σ h. unq_short h c.behind-at.ensures c.moved-q.ensures refl (ap peeked ((let v : Past c.args.s.now c.moved-q.result c.in-Byte.c c.in-Byte.behind = took _ _ c.take.ensures c.in-Byte.is in v)).there) 68 (unqualified_D_4 σ) c.in-68.is ((let v : length c.args.s.now ≤ c.behind-at.result + 1 = none_behind ((let v : c.moved-q.result.at ≡ c.behind-at.result = ap (λ (z : Parser). z.at) c.moved-q.ensures in v)) ((let v : Past c.args.s.now c.moved-q.result c.in-Byte.c c.in-Byte.behind = took _ _ c.take.ensures c.in-Byte.is in v)) (took_none c.args.s.now c.in-Byte.behind c.take-in-68.ensures c.in_default-take-2.is) in v))
+    let same : c.moved-q.result.at ≡ c.behind-at.result = ap (λ (z : Parser). z.at) c.moved-q.ensures in
+    let passed : Past c.args.s.now c.moved-q.result c.in-Byte.c c.in-Byte.behind = took _ _ c.take.ensures c.in-Byte.is in
+    let below : length c.args.s.now ≤ c.behind-at.result + 1 = none_behind same passed (took_none c.args.s.now c.in-Byte.behind c.take-in-68.ensures c.in_default-take-2.is) in
+    λ σ h. unq_short h c.behind-at.ensures c.moved-q.ensures refl (ap peeked passed.there) 68 (unqualified_D_4 σ) c.in-68.is below
 
 pub unq-put-requires-in-68 : goal.unq-put-requires-in-68
 unfolding b
 unq-put-requires-in-68 t c =
-    (stack_by ((let v : (c.behind-at.result + 1 < length c.args.s.now) × (c.in-Byte-take-2.next ≡ moved_to c.moved-q.result (c.behind-at.result + 2)) = two_behind ((let v : c.moved-q.result.at ≡ c.behind-at.result = ap (λ (z : Parser). z.at) c.moved-q.ensures in v)) ((let v : Past c.args.s.now c.moved-q.result c.in-Byte.c c.in-Byte.behind = took _ _ c.take.ensures c.in-Byte.is in v)) (took c.args.s.now c.in-Byte.behind c.take-in-68.ensures c.in-Byte-take-2.is) in v)).1 (stack_by c.moved-q.ensures c.requires.1.text), omega arith)
+    let same : c.moved-q.result.at ≡ c.behind-at.result = ap (λ (z : Parser). z.at) c.moved-q.ensures in
+    let passed : Past c.args.s.now c.moved-q.result c.in-Byte.c c.in-Byte.behind = took _ _ c.take.ensures c.in-Byte.is in
+    let inside : (c.behind-at.result + 1 < length c.args.s.now) × (c.in-Byte-take-2.next ≡ moved_to c.moved-q.result (c.behind-at.result + 2)) =
+    two_behind same passed (took c.args.s.now c.in-Byte.behind c.take-in-68.ensures c.in-Byte-take-2.is) in
+    (stack_by inside.1 (stack_by c.moved-q.ensures c.requires.1.text), omega arith)
 
 pub unq-unnamed_type_name-requires : goal.unq-unnamed_type_name-requires
 unq-unnamed_type_name-requires t c =
-    stack_by ((let v : Past c.args.s.now c.moved-q.result c.in-Byte.c c.in-Byte.behind = took _ _ c.take.ensures c.in-Byte.is in v)).next (stack_by c.moved-q.ensures c.requires.1.text)
+    let passed : Past c.args.s.now c.moved-q.result c.in-Byte.c c.in-Byte.behind = took _ _ c.take.ensures c.in-Byte.is in
+    stack_by passed.next (stack_by c.moved-q.ensures c.requires.1.text)
 
 pub unq-source_name-requires : goal.unq-source_name-requires
 unq-source_name-requires t c =
@@ -2058,29 +2317,41 @@ unq-operator-requires t c = (
 pub unq-returns-in-Byte-take : goal.unq-returns-in-Byte-take
 unfolding b
 unq-returns-in-Byte-take t c =
-    λ σ h. unq_structor h c.behind-at.ensures c.moved-q.ensures refl (ap peeked ((let v : Past c.args.s.now c.moved-q.result c.in-Byte.c c.in-Byte.behind = took _ _ c.take.ensures c.in-Byte.is in v)).there) ((let v : (c.behind-at.result + 1 < length c.args.s.now) × (c.in-Byte-take.next ≡ moved_to c.moved-q.result (c.behind-at.result + 2)) = two_behind ((let v : c.moved-q.result.at ≡ c.behind-at.result = ap (λ (z : Parser). z.at) c.moved-q.ensures in v)) ((let v : Past c.args.s.now c.moved-q.result c.in-Byte.c c.in-Byte.behind = took _ _ c.take.ensures c.in-Byte.is in v)) (took c.args.s.now c.in-Byte.behind c.take-in-67.ensures c.in-Byte-take.is) in v)).0 ((let v : (c.behind-at.result + 1 < length c.args.s.now) × (c.in-Byte-take.next ≡ moved_to c.moved-q.result (c.behind-at.result + 2)) = two_behind ((let v : c.moved-q.result.at ≡ c.behind-at.result = ap (λ (z : Parser). z.at) c.moved-q.ensures in v)) ((let v : Past c.args.s.now c.moved-q.result c.in-Byte.c c.in-Byte.behind = took _ _ c.take.ensures c.in-Byte.is in v)) (took c.args.s.now c.in-Byte.behind c.take-in-67.ensures c.in-Byte-take.is) in v)).1 67 refl (λ u. unqualified_C u σ)
+    let same : c.moved-q.result.at ≡ c.behind-at.result = ap (λ (z : Parser). z.at) c.moved-q.ensures in
+    let passed : Past c.args.s.now c.moved-q.result c.in-Byte.c c.in-Byte.behind = took _ _ c.take.ensures c.in-Byte.is in
+    let inside : (c.behind-at.result + 1 < length c.args.s.now) × (c.in-Byte-take.next ≡ moved_to c.moved-q.result (c.behind-at.result + 2)) =
+    two_behind same passed (took c.args.s.now c.in-Byte.behind c.take-in-67.ensures c.in-Byte-take.is) in
+    λ σ h. unq_structor h c.behind-at.ensures c.moved-q.ensures refl (ap peeked passed.there) inside.0 inside.1 67 refl (λ u. unqualified_C u σ)
     c.in-67.is c.put.ensures
 
 pub unq-returns-in-Byte-take-2 : goal.unq-returns-in-Byte-take-2
 unfolding b
 unq-returns-in-Byte-take-2 t c =
-    λ σ h. unq_structor h c.behind-at.ensures c.moved-q.ensures refl (ap peeked ((let v : Past c.args.s.now c.moved-q.result c.in-Byte.c c.in-Byte.behind = took _ _ c.take.ensures c.in-Byte.is in v)).there) ((let v : (c.behind-at.result + 1 < length c.args.s.now) × (c.in-Byte-take-2.next ≡ moved_to c.moved-q.result (c.behind-at.result + 2)) = two_behind ((let v : c.moved-q.result.at ≡ c.behind-at.result = ap (λ (z : Parser). z.at) c.moved-q.ensures in v)) ((let v : Past c.args.s.now c.moved-q.result c.in-Byte.c c.in-Byte.behind = took _ _ c.take.ensures c.in-Byte.is in v)) (took c.args.s.now c.in-Byte.behind c.take-in-68.ensures c.in-Byte-take-2.is) in v)).0 ((let v : (c.behind-at.result + 1 < length c.args.s.now) × (c.in-Byte-take-2.next ≡ moved_to c.moved-q.result (c.behind-at.result + 2)) = two_behind ((let v : c.moved-q.result.at ≡ c.behind-at.result = ap (λ (z : Parser). z.at) c.moved-q.ensures in v)) ((let v : Past c.args.s.now c.moved-q.result c.in-Byte.c c.in-Byte.behind = took _ _ c.take.ensures c.in-Byte.is in v)) (took c.args.s.now c.in-Byte.behind c.take-in-68.ensures c.in-Byte-take-2.is) in v)).1 68 refl (λ u. unqualified_D u σ)
+    let same : c.moved-q.result.at ≡ c.behind-at.result = ap (λ (z : Parser). z.at) c.moved-q.ensures in
+    let passed : Past c.args.s.now c.moved-q.result c.in-Byte.c c.in-Byte.behind = took _ _ c.take.ensures c.in-Byte.is in
+    let inside : (c.behind-at.result + 1 < length c.args.s.now) × (c.in-Byte-take-2.next ≡ moved_to c.moved-q.result (c.behind-at.result + 2)) =
+    two_behind same passed (took c.args.s.now c.in-Byte.behind c.take-in-68.ensures c.in-Byte-take-2.is) in
+    λ σ h. unq_structor h c.behind-at.ensures c.moved-q.ensures refl (ap peeked passed.there) inside.0 inside.1 68 refl (λ u. unqualified_D u σ)
     c.in-68.is c.put-in-68.ensures
 
 pub unq-returns-in-85 : goal.unq-returns-in-85
 unq-returns-in-85 t c =
-    λ σ h. unq_U h c.behind-at.ensures c.moved-q.ensures refl (ap peeked ((let v : Past c.args.s.now c.moved-q.result c.in-Byte.c c.in-Byte.behind = took _ _ c.take.ensures c.in-Byte.is in v)).there)
-    c.in-85.is (((let v : Past c.args.s.now c.moved-q.result c.in-Byte.c c.in-Byte.behind = took _ _ c.take.ensures c.in-Byte.is in v)).next ∙ ap (λ (i : ℕ). moved_to c.moved-q.result (i + 1)) ((let v : c.moved-q.result.at ≡ c.behind-at.result = ap (λ (z : Parser). z.at) c.moved-q.ensures in v))) (c.unnamed_type_name.ensures _ _)
+    let same : c.moved-q.result.at ≡ c.behind-at.result = ap (λ (z : Parser). z.at) c.moved-q.ensures in
+    let passed : Past c.args.s.now c.moved-q.result c.in-Byte.c c.in-Byte.behind = took _ _ c.take.ensures c.in-Byte.is in
+    λ σ h. unq_U h c.behind-at.ensures c.moved-q.ensures refl (ap peeked passed.there)
+    c.in-85.is (passed.next ∙ ap (λ (i : ℕ). moved_to c.moved-q.result (i + 1)) same) (c.unnamed_type_name.ensures _ _)
 
 pub unq-returns-in-48-to-57 : goal.unq-returns-in-48-to-57
 unq-returns-in-48-to-57 t c =
-    λ σ h. unq_digit h c.behind-at.ensures c.moved-q.ensures refl (ap peeked ((let v : Past c.args.s.now c.moved-q.result c.in-Byte.c c.in-Byte.behind = took _ _ c.take.ensures c.in-Byte.is in v)).there) c.in-48-to-57.in_default-own.rest.0.0.1 c.in-48-to-57.in_default-own.rest.0.1
+    let passed : Past c.args.s.now c.moved-q.result c.in-Byte.c c.in-Byte.behind = took _ _ c.take.ensures c.in-Byte.is in
+    λ σ h. unq_digit h c.behind-at.ensures c.moved-q.ensures refl (ap peeked passed.there) c.in-48-to-57.in_default-own.rest.0.0.1 c.in-48-to-57.in_default-own.rest.0.1
     c.in-48-to-57.in_default-own.rest.1
     (digit_in _ c.in-48-to-57.if-c-lt48-own.false c.in-48-to-57.if-c-lt58-own.true) (c.source_name.ensures _ _)
 
 pub unq-returns-in_default-c : goal.unq-returns-in_default-c
 unq-returns-in_default-c t c =
-    λ σ h. unq_operator h c.behind-at.ensures c.moved-q.ensures refl (ap peeked ((let v : Past c.args.s.now c.moved-q.result c.in-Byte.c c.in-Byte.behind = took _ _ c.take.ensures c.in-Byte.is in v)).there) c.in_default-1.rest.0.0.1
+    let passed : Past c.args.s.now c.moved-q.result c.in-Byte.c c.in-Byte.behind = took _ _ c.take.ensures c.in-Byte.is in
+    λ σ h. unq_operator h c.behind-at.ensures c.moved-q.ensures refl (ap peeked passed.there) c.in_default-1.rest.0.0.1
     c.in_default-1.rest.0.1
     c.in_default-1.rest.1
     (elim c.in_default-c.branch [ unq-in_default-c-via-then-c-lt48 x ↦ digit_not _ (λ i. omega arith) | unq-in_default-c-via-else-c-lt48+else-c-lt58 x ↦ digit_not _ (λ i. omega arith) ]) c.operator.ensures

@@ -29,15 +29,25 @@ overflow_sub-size-2 c =
 
 pub overflow_add-class : goal.overflow_add-class
 overflow_add-class c =
-    search (rules, (let v : c.class_of-class.result.back ≤ most_entry_bytes = omega (arith, c.class_of-class.ensures.inside, c.requires.1, c.if-n-gt-BYTES.false) in v), (let v : c.longer-more.result.n - c.args.parts.n - c.shorter-m.result ≡ 2 * min c.args.parts.count 1 + c.tilde_size.result = between c.args.parts.count (ap (λ (q : Parts). q.n) c.longer-more.ensures) c.if-n-gt-BYTES.false (omega (arith, c.shorter-m.ensures)) (omega (arith, c.tilde_size.ensures, tilde_size c.args.c)) in v), (let v : 2 * min c.args.parts.count 1 + c.tilde_size.result ≤ 3 = omega (arith, c.tilde_size.ensures, tilde_size c.args.c) in v))
+    let same : c.longer-more.result.n - c.args.parts.n - c.shorter-m.result ≡ 2 * min c.args.parts.count 1 + c.tilde_size.result =
+    between c.args.parts.count (ap (λ (q : Parts). q.n) c.longer-more.ensures) c.if-n-gt-BYTES.false (omega (arith, c.shorter-m.ensures)) (omega (arith, c.tilde_size.ensures, tilde_size c.args.c)) in
+    let below : c.class_of-class.result.back ≤ most_entry_bytes = omega (arith, c.class_of-class.ensures.inside, c.requires.1, c.if-n-gt-BYTES.false) in
+    let below2 : 2 * min c.args.parts.count 1 + c.tilde_size.result ≤ 3 = omega (arith, c.tilde_size.ensures, tilde_size c.args.c) in
+    search (rules, below, same, below2)
 
 pub again-next-requires : goal.again-next-requires
-again-next-requires c = (
-  c.tilde-named.ensures.put.stack,
-  again_room ((let v : c.longer-more.result.n - c.args.parts.n - c.shorter-m.result ≡ 2 * min c.args.parts.count 1 + c.tilde_size.result = between c.args.parts.count (ap (λ (q : Parts). q.n) c.longer-more.ensures) c.if-n-gt-BYTES.false (omega (arith, c.shorter-m.ensures)) (omega (arith, c.tilde_size.ensures, tilde_size c.args.c)) in v))
-      (omega (arith, c.class_of-class.ensures.inside, c.shorter-m.ensures)) ((let v : c.class_of-class.result.back + (2 * min c.args.parts.count 1 + c.tilde_size.result) ≤ c.tilde-named.result.top = let a = puts_top c.class_of-class.result.back c.requires.0.3.1.text c.separated-colons.ensures (omega (arith, c.class_of-class.ensures.inside, c.requires.1, c.if-n-gt-BYTES.false)) (omega (arith, (let v : c.class_of-class.result.back ≤ most_entry_bytes = omega (arith, c.class_of-class.ensures.inside, c.requires.1, c.if-n-gt-BYTES.false) in v))) in let e = puts_top (c.class_of-class.result.back + length (before_part c.args.parts.count)) c.separated-colons.ensures.put.stack c.tilde-named.ensures a (omega (arith, (let v : c.class_of-class.result.back ≤ most_entry_bytes = omega (arith, c.class_of-class.ensures.inside, c.requires.1, c.if-n-gt-BYTES.false) in v), colons_size c.args.parts.count)) in omega (arith, e, colons_size c.args.parts.count, c.tilde_size.ensures) in v)) ((let v : 2 * min c.args.parts.count 1 + c.tilde_size.result ≤ 3 = omega (arith, c.tilde_size.ensures, tilde_size c.args.c) in v)) ((let v : c.class_of-class.result.back ≤ most_entry_bytes = omega (arith, c.class_of-class.ensures.inside, c.requires.1, c.if-n-gt-BYTES.false) in v))
-      (omega (arith, c.shorter-m.ensures)),
-)
+again-next-requires c =
+    let same : c.longer-more.result.n - c.args.parts.n - c.shorter-m.result ≡ 2 * min c.args.parts.count 1 + c.tilde_size.result =
+    between c.args.parts.count (ap (λ (q : Parts). q.n) c.longer-more.ensures) c.if-n-gt-BYTES.false (omega (arith, c.shorter-m.ensures)) (omega (arith, c.tilde_size.ensures, tilde_size c.args.c)) in
+    let below : c.class_of-class.result.back ≤ most_entry_bytes = omega (arith, c.class_of-class.ensures.inside, c.requires.1, c.if-n-gt-BYTES.false) in
+    let below2 : c.class_of-class.result.back + (2 * min c.args.parts.count 1 + c.tilde_size.result) ≤ c.tilde-named.result.top =
+    let a = puts_top c.class_of-class.result.back c.requires.0.3.1.text c.separated-colons.ensures (omega (arith, c.class_of-class.ensures.inside, c.requires.1, c.if-n-gt-BYTES.false)) (omega (arith, below)) in let e = puts_top (c.class_of-class.result.back + length (before_part c.args.parts.count)) c.separated-colons.ensures.put.stack c.tilde-named.ensures a (omega (arith, below, colons_size c.args.parts.count)) in omega (arith, e, colons_size c.args.parts.count, c.tilde_size.ensures) in
+    let below3 : 2 * min c.args.parts.count 1 + c.tilde_size.result ≤ 3 = omega (arith, c.tilde_size.ensures, tilde_size c.args.c) in (
+      c.tilde-named.ensures.put.stack,
+      again_room same
+          (omega (arith, c.class_of-class.ensures.inside, c.shorter-m.ensures)) below2 below3 below
+          (omega (arith, c.shorter-m.ensures)),
+    )
 
 pub overflow_add-at-2 : goal.overflow_add-at-2
 overflow_add-at-2 c =
