@@ -1,64 +1,58 @@
--- Laws of texts: a step along a text and a word, and bytes copied in blocks. Assumes nothing.
-use Rattle.std.proofs.Common.{◌≡◌, ℕ, ◌+◌, ◌<◌, ◌≤◌, false, ◌++◌, length, get_or, take, drop, sym, ap, ◌∙◌, ap₂, append_assoc, append-nil, arith, length-append, length-drop, take-append-drop, drop_of_length-le, length-take-le, take-take, drop-drop, take_at, take-add, eq-eqb, ne_eqb}
-use lib.Seq.{paste, take-paste, take-length, take-append-add, take-append-le, drop-append-le}
-use Rattle.grammar.specs.Text.{Text, starts}
-use Rattle.grammar.specs.Laws.Places.{rest_some, rest_none}
+-- What the library's methods tell of texts. Assumes nothing.
+use Rattle.std.proofs.Common.{◌≡◌, ℕ, ◌+◌, ◌-◌, ◌<◌, ◌≤◌, Bool, true, false, eqb, ◌&&◌, [], ◌∷◌, length, take, drop, refl, sym, ap, ap₂, ◌∙◌, arith, tests, drop_of_length-le}
+use denote.Ref.{Bor}
+use mathlib.Core.Logic.{◌⊎◌, ⊎_elim}
+use Rattle.std.specs.Prelude.{Option, Some, None, unwrap_or, nat_eq, slice_range, MatchOption}
+use Rattle.std.specs.Option.{option_eq}
+use Rattle.std.specs.List.{AllWithin, HoldsAt, starts_with}
+use Rattle.std.proofs.lemmas.Iterator.{index_from_first}
+use Rattle.std.proofs.lemmas.List.{take_rest}
+use Rattle.grammar.specs.Text.{Text, if◌then◌otherwise◌, starts, run}
+use Rattle.grammar.specs.Laws.Runs.{run_within, starts_one, starts_none}
 
-module _ (s word : Text) (n i : ℕ) (h : i < length word) where
-  pub starts_short : length s ≤ n → starts (drop n s) (drop i word) ≡ false
-  unfolding starts
-  starts_short l = rw (rest_none s n l, rest_some word i h)
+-- a run ends at the first byte that fails its test
+module _ (p : ℕ → Bool) where
+  fails : (x : ℕ) (t : Text) → p x ≡ false → length (run p (x ∷ t)) ≡ 0
+  unfolding run if◌then◌otherwise◌
+  fails x t e = rw e refl
 
-  pub starts_other : n < length s → (get_or s n 0 ≡ get_or word i 0 → ⊥) → starts (drop n s) (drop i word) ≡ false
-  unfolding starts
-  starts_other l d = rw (rest_some s n l, rest_some word i h, ne_eqb _ _ d)
+  passes : (x : ℕ) (t : Text) → p x ≡ true → length (run p (x ∷ t)) ≡ length (run p t) + 1
+  unfolding run if◌then◌otherwise◌
+  passes x t e = rw e (omega arith)
 
-  pub starts_more : n < length s → get_or s n 0 ≡ get_or word i 0 → starts (drop n s) (drop i word) ≡ starts (drop (n + 1) s) (drop (i + 1) word)
-  unfolding starts
-  starts_more l e = rw (rest_some s n l, rest_some word i h, eq-eqb _ _ e)
+  nothing : length (run p []) ≡ 0
+  unfolding run
+  nothing = refl
 
-module _ (out src : Text) (at from : ℕ) where
-  pub blocks_none : take (at + 0) out ≡ take at out ++ take 0 (drop from src)
-  blocks_none = ap (λ (k : ℕ). take k out) {x = at + 0} {y = at} (omega arith) ∙ sym (append-nil (take at out))
+  -- the place where a search from `at` on ends
+  module _ (s : Text) (at r : ℕ) (o : Option ℕ) (rest : Text) where
+    pub next_place : at ≤ length s → rest ≡ take (length s - at) (drop at s)
+        → MatchOption o (AllWithin (λ x. p x ≡ true) rest 0 (length rest)) (λ i. (i < length rest) × HoldsAt (λ x. p x ≡ false) rest i × AllWithin (λ x. p x ≡ true) rest 0 i)
+        → r ≡ unwrap_or o (length rest) → (at + r ≡ at + length (run p (drop at s))) × (at + r ≤ length s)
+    next_place l e m h =
+        let k : length (run p rest) ≡ r = index_from_first (λ t. length (run p t)) (λ x. p x ≡ false) (λ x. p x ≡ true) nothing fails passes rest o m ∙ sym h in
+        let j : r ≡ length (run p (drop at s)) = sym k ∙ ap (λ (t : Text). length (run p t)) (e ∙ take_rest s at) in
+        (omega (arith, j), omega (arith, j, run_within p s at l))
 
-  -- i bytes of src are copied to `at`, and now 16 more
-  pub blocks_more : (i : ℕ) (x y : Text) → at + i ≤ length x → from + i + 16 ≤ length src → take (at + i) x ≡ take at out ++ take i (drop from src)
-      → y ≡ take (at + i) x ++ take 16 (drop (from + i) src) ++ drop (at + i + 16) x → take (at + (i + 16)) y ≡ take at out ++ take (i + 16) (drop from src)
-  blocks_more i x y l m h e =
-      let b : Text = take 16 (drop (from + i) src) in
-      let n : length (take (at + i) x ++ b) ≡ at + (i + 16) =
-      length-append (take (at + i) x) b ∙ omega (arith, length-take-le (at + i) x l, length-take-le 16 (drop (from + i) src) (simp length-drop (omega arith))) in
-      ap (take (at + (i + 16))) e
-      ∙ take_at (take (at + i) x ++ b) (drop (at + i + 16) x) (at + (i + 16)) n
-      ∙ ap₂ (λ (u v : Text). u ++ take 16 v) h (sym (drop-drop i from src))
-      ∙ append_assoc (take at out) (take i (drop from src)) (take 16 (drop i (drop from src)))
-      ∙ ap (λ (u : Text). take at out ++ u) (sym (take-add i 16 (drop from src)))
+-- what `get` gives from a place on, or nothing past the end
+pub rest_or_none : (s : Text) (at : ℕ) (o : Option (Bor Text)) (d : Bor Text)
+    → MatchOption o ((length s < at) ⊎ (length s < length s)) (λ x. (at ≤ length s) × (length s ≤ length s) × (x.now ≡ slice_range s at (length s)) × (length x.now + at ≡ length s))
+    → d.now ≡ [] → (unwrap_or o d).now ≡ drop at s
+rest_or_none s at None d h e = e ∙ sym (drop_of_length-le s (⊎_elim (λ l. omega arith) (λ l. omega arith) h))
+rest_or_none s at (Some x) d h e = h.2 ∙ take_rest s at
 
-  -- of i bytes, the first n
-  pub blocks_end : (i n : ℕ) (x : Text) → n ≤ i → at ≤ length out → take (at + i) x ≡ take at out ++ take i (drop from src)
-      → take (at + n) x ≡ take at out ++ take n (drop from src)
-  blocks_end i n x l m h =
-      sym (take-take (at + n) (at + i) x (omega arith))
-      ∙ ap (take (at + n)) h
-      ∙ ap (λ (k : ℕ). take k (take at out ++ take i (drop from src))) {x = at + n} {y = length (take at out) + n} (omega (arith, length-take-le at out m))
-      ∙ take-append-add (take at out) (take i (drop from src)) n
-      ∙ ap (λ (u : Text). take at out ++ u) (take-take n i (drop from src) l)
+-- what `==` tells of a byte that `get` gives
+pub byte_or_none : (s : Text) (at c : ℕ) (o : Option (Bor ℕ)) (d : Bor ℕ) → MatchOption o (length s ≤ at) (λ x. (at < length s) × HoldsAt (λ y. x.now ≡ y) s at)
+    → d.now ≡ c → option_eq (λ x y. nat_eq x.now y.now) o (Some d) ≡ starts (drop at s) (c ∷ [])
+byte_or_none s at c None d h e = sym (starts_none s at c h)
+byte_or_none s at c (Some x) d h e = ap₂ (λ (y z : ℕ). eqb y z) (h.1 0) e ∙ sym (starts_one s at c h.0)
 
--- a copy of all of a text through an array as long as it
-pub through : (z p out : Text) {b y : Text} (at : ℕ) → length z ≡ 16 → length p ≡ 16 → b ≡ paste z 0 p (length p)
-    → y ≡ paste out at b (length b) → y ≡ take at out ++ p ++ drop (at + 16) out
-through z p out {b} {y} at l m e f =
-    let g : b ≡ p = e ∙ ap (λ (u : Text). take (length p) p ++ u) (drop_of_length-le z {i = 0 + length p} (omega arith)) ∙ append-nil _ ∙ take-length p in
-    f ∙ ap (λ (u : Text). take at out ++ u ++ drop (at + length b) out) (take-length b) ∙ ap₂ (λ (u : Text) (k : ℕ). take at out ++ u ++ drop (at + k) out) g (ap length g ∙ m)
+-- what `starts_with` tells of a slice
+turned : (x y : ℕ) → eqb x y ≡ eqb y x
+turned x y = grind (arith, tests)
 
--- a text is copied to `at`: it stands behind what is in front of it
-pub copied_front : (out p : Text) {y : Text} (at n : ℕ) → at ≤ length out → length p ≡ n → y ≡ paste out at p (length p) → take (at + n) y ≡ take at out ++ p
-copied_front out p at n l m e = rw (← m, e, take-paste out at p (length p) l (omega arith), take-length)
-
--- a part of the front of a text is one of the text
-pub part_in_front : (u t : Text) (f n : ℕ) → u ≡ take (length u) t → f + n ≤ length u → take n (drop f u) ≡ take n (drop f t)
-part_in_front u t f n e l =
-    let g : t ≡ u ++ drop (length u) t = sym (take-append-drop (length u) t) ∙ ap (λ (x : Text). x ++ drop (length u) t) (sym e) in
-    sym (ap (λ (x : Text). take n (drop f x)) g
-    ∙ ap (take n) (drop-append-le f u (drop (length u) t) (omega arith))
-    ∙ take-append-le n (drop f u) (drop (length u) t) (simp length-drop (omega arith)))
+pub starts_first : (t w : Text) → starts t w ≡ starts_with nat_eq t w
+unfolding starts
+starts_first t [] = refl
+starts_first [] (y ∷ w) = refl
+starts_first (x ∷ t) (y ∷ w) = ap₂ (λ (p q : Bool). p && q) (turned x y) (starts_first t w)

@@ -26,46 +26,20 @@ pub fn digit_value(c: u8) -> u64
     }
 }
 
-// The number with one more digit.
-pub fn shifted(value: u64, base: u64, d: u64) -> u64
-    requires { 1 ≤ base }
-    ensures { result ≡ min (value * base + d) most }
-{
-    if value <= (Number::PAST - d) / base {
-        value * base + d
-    } else {
-        Number::PAST
-    }
-}
-
 // The digits of the base that stand at `at`, and the place behind them.
-pub fn digits(s: &[u8], at: usize, base: u64) -> Number
-    requires { 1 ≤ base }
-    ensures { Numbered base s.now at result }
+pub fn digits<const BASE: u64>(s: &[u8], at: usize) -> Number
+    requires { 1 ≤ BASE }
+    ensures { Numbered BASE s.now at result }
 {
     let mut value: u64 = 0;
-    let mut next = at;
-    while next < s.len() {
+    for next in at..s.len() {
         let d = digit_value(s[next]);
-        if base <= d {
+        if BASE <= d {
             return Number { value, next };
         }
-        value = shifted(value, base, d);
-        next += 1;
+        value = value.saturating_mul(BASE).saturating_add(d);
     }
-    Number { value, next }
-}
-
-pub fn decimal(s: &[u8], at: usize) -> Number
-    ensures { Numbered 10 s.now at result }
-{
-    digits(s, at, 10)
-}
-
-pub fn seq_id(s: &[u8], at: usize) -> Number
-    ensures { Numbered 36 s.now at result }
-{
-    digits(s, at, 36)
+    Number { value, next: at.max(s.len()) }
 }
 
 // The digits of n, the last of them before `end`. Returned is the place of the first.
@@ -77,10 +51,10 @@ pub fn write_decimal(out: &mut [u8], end: usize, n: u64) -> usize
     let mut rest = n;
     while 10 <= rest {
         from -= 1;
-        out[from] = 48 + (rest % 10) as u8;
-        rest = rest / 10;
+        out[from] = b'0' + (rest % 10) as u8;
+        rest /= 10;
     }
     let first = from - 1;
-    out[first] = 48 + rest as u8;
+    out[first] = b'0' + rest as u8;
     first
 }

@@ -1,3 +1,3 @@
 -- What the proofs of several functions use.
-pub mod Loops
+pub mod Texts
 pub mod Stacks

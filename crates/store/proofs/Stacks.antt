@@ -105,11 +105,6 @@ cut_is {T} {T'} {top} {k} {n} h l e =
 
 -- ---- what is put
 
--- a text was written where there is room for it, and what is behind it may have changed
-pub written_put : {T T₁ T₂ : Text} {top at n : ℕ} (t : Text) → length t ≡ n → Stack T top → Room T T₁ top at n → length T₂ ≡ length T₁
-    → take (at + n) T₂ ≡ take at T₁ ++ t → Put T T₂ top (at + n) t
-written_put {T} {T₁} {T₂} {top} {at} {n} t l c h s e = room_put t c h (grown_at t (at + n) (s ∙ h.stack.size) e (omega arith) h.room)
-
 pub put_put : {T T₁ T₂ : Text} {top at : ℕ} (w : Text) → Stack T top → Room T T₁ top at (length w) → T₂ ≡ paste T₁ at w (length w)
     → Put T T₂ top (at + length w) w
 put_put {T} {T₁} {T₂} {top} {at} w c h e =

@@ -16,38 +16,6 @@ const KEPT: usize = Parser::BYTES + 2048;
 // The length of the stack.
 pub const LENGTH: usize = KEPT + Parser::TEXT;
 
-// The n bytes from `from` on are copied to `to`, which is not above them or lies behind them.
-fn shift(text: &mut [u8], from: usize, to: usize, n: usize)
-    requires { (from + n ≤ length text.old) × ((to + n ≤ length text.old) × ((to ≤ from) ⊎ (from + n ≤ to))) }
-    ensures { text.new ≡ paste text.old to (drop from text.old) n }
-{
-    let mut i: usize = 0;
-    while i < n {
-        text[to + i] = text[from + i];
-        i += 1;
-    }
-}
-
-pub fn clear(slice: &mut [u8])
-    ensures { slice.new ≡ zeros (length slice.old) }
-{
-    let mut i: usize = 0;
-    while i < slice.len() {
-        slice[i] = 0;
-        i += 1;
-    }
-}
-
-pub fn clear_ends(slice: &mut [u16])
-    ensures { slice.new ≡ zeros (length slice.old) }
-{
-    let mut i: usize = 0;
-    while i < slice.len() {
-        slice[i] = 0;
-        i += 1;
-    }
-}
-
 // Removes the k bytes that stand below the newest n.
 pub fn cut(text: &mut [u8], top: usize, k: usize, n: usize) -> usize
     requires { (Stack text.old top) × (k + n ≤ top) }
@@ -55,7 +23,7 @@ pub fn cut(text: &mut [u8], top: usize, k: usize, n: usize) -> usize
 {
     let from = top - n;
     let to = from - k;
-    shift(text, from, to, n);
+    text.copy_within(from..top, to);
     top - k
 }
 
@@ -86,10 +54,7 @@ pub fn put_part(text: &mut [u8], top: usize, src: &[u8], from: usize, to: usize)
     requires { (Stack text.old top) × ((from ≤ to) × ((to ≤ length src.now) × (to - from ≤ most_text_bytes))) }
     ensures { Put text.old text.new top result (take (to - from) (drop from src.now)) }
 {
-    let n = to - from;
-    let at = room(text, top, n);
-    bytes::copy_part(text, at, src, from, to);
-    at + n
+    put(text, top, &src[from..to])
 }
 
 // Puts the n bytes at `from` on the top once more.
@@ -100,53 +65,16 @@ pub fn again(text: &mut [u8], top: usize, from: usize, n: usize) -> usize
     let back = top - from;
     let at = room(text, top, n);
     let low = at - back;
-    shift(text, low, at, n);
+    text.copy_within(low..low + n, at);
     at + n
 }
 
-// Whether it is seen that none of text[from..to] is a slot, by blocks of 16, the last of which may go on behind it.
-fn no_slot(text: &[u8], from: usize, to: usize) -> bool
-    requires { (from ≤ to) × (to ≤ length text.now) }
-    ensures { result ≡ true → slots_in (take (to - from) (drop from text.now)) ≡ 0 }
-{
-    if text.len() - to < 16 {
-        return false;
-    }
-    let mut at = from;
-    while at < to {
-        if !bytes::none_in_block(text, at, 1) {
-            return false;
-        }
-        at += 16;
-    }
-    true
-}
-
-fn count_slots(text: &[u8], from: usize, to: usize) -> usize
-    requires { (from ≤ to) × (to ≤ length text.now) }
-    ensures { (result ≡ slots_in (take (to - from) (drop from text.now))) × (result ≤ to - from) }
-{
-    let n = to - from;
-    let mut found: usize = 0;
-    let mut i: usize = 0;
-    while i < n {
-        if text[from + i] == 1 {
-            found += 1;
-        }
-        i += 1;
-    }
-    found
-}
-
-// How many slots stand in text[from..to]. Almost no text has one.
+// How many slots stand in text[from..to].
 pub fn slots(text: &[u8], from: usize, to: usize) -> usize
     requires { (from ≤ to) × (to ≤ length text.now) }
     ensures { (result ≡ slots_in (take (to - from) (drop from text.now))) × (result ≤ to - from) }
 {
-    if no_slot(text, from, to) {
-        return 0;
-    }
-    count_slots(text, from, to)
+    text[from..to].iter().filter(|x| **x == 1).count()
 }
 
 // Puts the byte x on the top, and before a slot the d bytes at `low` and the word.
@@ -157,10 +85,9 @@ fn piece(text: &mut [u8], top: usize, low: usize, d: usize, word: &[u8], x: u8) 
         (at_slot (take d (drop low text.old) ++ word.now) x) }
 {
     if x == 1 {
-        shift(text, low, top, d);
-        let at = top + d;
-        bytes::copy(text, at, word);
-        let end = at + word.len();
+        text.copy_within(low..low + d, top);
+        bytes::copy(text, top + d, word);
+        let end = top + d + word.len();
         text[end] = x;
         return end + 1;
     }
@@ -178,11 +105,9 @@ fn pieces(text: &mut [u8], top: usize, n: usize, d: usize, word: &[u8]) -> usize
     let from = top - n;
     let low = from - d;
     let mut at = top;
-    let mut i: usize = 0;
-    while i < n {
+    for i in 0..n {
         let x = text[from + i];
         at = piece(text, at, low, d, word, x);
-        i += 1;
     }
     at
 }
@@ -202,68 +127,12 @@ pub fn weave(text: &mut [u8], top: usize, n: usize, d: usize, word: &[u8]) -> us
     pieces(text, at, n, d, word)
 }
 
-// Whether 16 bytes are the same. It does not stop at the first that differs, so that all are compared at once.
-fn same_block(text: &[u8], from: usize, store: &[u8], a: usize) -> bool
-    requires { (from + 16 ≤ length text.now) × (a + 16 ≤ length store.now) }
-    ensures { result ≡ true → take 16 (drop from text.now) ≡ take 16 (drop a store.now) }
-{
-    let mut same = true;
-    let mut i: usize = 0;
-    while i < 16 {
-        if text[from + i] != store[a + i] {
-            same = false;
-        }
-        i += 1;
-    }
-    same
-}
-
-// How many of n bytes are seen to be the same, by blocks of 16.
-fn same_blocks(text: &[u8], from: usize, store: &[u8], a: usize, n: usize) -> usize
-    requires { (from + n ≤ length text.now) × (a + n ≤ length store.now) }
-    ensures { (result ≤ n) × (take result (drop from text.now) ≡ take result (drop a store.now)) }
-{
-    let mut i: usize = 0;
-    while 16 <= n - i {
-        if !same_block(text, from + i, store, a + i) {
-            return i;
-        }
-        i += 16;
-    }
-    i
-}
-
-// Whether n bytes are the same, of which the first `start` are known to be.
-fn same_from(text: &[u8], from: usize, store: &[u8], a: usize, n: usize, start: usize) -> bool
-    requires { (from + n ≤ length text.now) × ((a + n ≤ length store.now) × ((start ≤ n)
-        × (take start (drop from text.now) ≡ take start (drop a store.now)))) }
-    ensures { result ≡ same (take n (drop from text.now)) (take n (drop a store.now)) }
-{
-    let mut i = start;
-    while i < n {
-        if text[from + i] != store[a + i] {
-            return false;
-        }
-        i += 1;
-    }
-    true
-}
-
 // Whether the n bytes of `text` from `from` on are the n bytes of `store` from `a` on.
 pub fn same_part(text: &[u8], from: usize, store: &[u8], a: usize, n: usize) -> bool
     requires { (from + n ≤ length text.now) × (a + n ≤ length store.now) }
     ensures { result ≡ same (take n (drop from text.now)) (take n (drop a store.now)) }
 {
-    same_from(text, from, store, a, n, 0)
-}
-
-// The same, for parts that are mostly longer than 16 bytes.
-pub fn same_long_part(text: &[u8], from: usize, store: &[u8], a: usize, n: usize) -> bool
-    requires { (from + n ≤ length text.now) × (a + n ≤ length store.now) }
-    ensures { result ≡ same (take n (drop from text.now)) (take n (drop a store.now)) }
-{
-    let start = same_blocks(text, from, store, a, n);
-    same_from(text, from, store, a, n, start)
+    text[from..from + n] == store[a..a + n]
 }
 
 // Whether the newest n bytes are the word.
@@ -271,9 +140,5 @@ pub fn same(text: &[u8], top: usize, n: usize, word: &[u8]) -> bool
     requires { (n ≤ top) × (top ≤ length text.now) }
     ensures { result ≡ same (newest text.now top n) word.now }
 {
-    if word.len() != n {
-        return false;
-    }
-    let from = top - n;
-    same_part(text, from, word, 0, n)
+    &text[top - n..top] == word
 }

@@ -6,14 +6,8 @@ ghost use Rattle.grammar.specs.Limits.{most_entries, most_entry_bytes};
 ghost use Rattle.grammar.specs.Reader.{bytes_of};
 ghost use Rattle.store.specs.Table.{Front, Entries, Sized, Placed, ends_from};
 
-use grammar::text::copy_part;
-
-// Where an entry stands in `store`.
-#[derive(Clone, Copy)]
-pub struct Place {
-    pub from: usize,
-    pub to: usize,
-}
+use grammar::state::Part;
+use grammar::text::copy;
 
 // text[from..to] becomes the next entry.
 pub fn push(
@@ -30,7 +24,7 @@ pub fn push(
         → Entries (l ++ (take (to - from) (drop from text.now) ∷ [])) store.new ends.new (count + 1) (bytes + (to - from)) }
 {
     let end = bytes + (to - from);
-    copy_part(store, bytes, text, from, to);
+    copy(store, bytes, &text[from..to]);
     ends[count] = end as u16;
 }
 
@@ -42,11 +36,12 @@ fn start(ends: &[u16], k: usize) -> usize
     if k == 0 { 0 } else { ends[k - 1] as usize }
 }
 
-pub fn place_of(ends: &[u16], k: usize) -> Place
+// Where entry k stands in `store`.
+pub fn place_of(ends: &[u16], k: usize) -> Part
     requires { k < length ends.now }
     ensures { (l : List Text) (store : List ℕ) (count bytes : ℕ) → Entries l store ends.now count bytes → k < count → Placed l store k result.from result.to }
 {
     let from = start(ends, k);
     let to = start(ends, k + 1);
-    Place { from, to }
+    Part { from, to }
 }

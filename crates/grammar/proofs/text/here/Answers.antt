@@ -1,11 +1,7 @@
-use Rattle.std.proofs.Common.{sym}
-use Rattle.grammar.specs.Laws.Runs.{starts_one, starts_none}
+use Rattle.std.proofs.Common.{refl, ◌∙◌}
+use Rattle.grammar.proofs.Texts.{byte_or_none}
 use Rattle.grammar.proofs.text.here.Goals as goal
-
-pub returns-then-s-at : goal.returns-then-s-at
-returns-then-s-at c =
-    sym (starts_none _ _ _ c.if-s-at.true)
 
 pub returns : goal.returns
 returns c =
-    sym (starts_one _ _ _ c.if-s-at.false)
+    c.eq.ensures ∙ byte_or_none c.args.s.now c.args.at c.args.c c.get.result _ c.get.ensures.lookup.3 refl

@@ -1,12 +1,8 @@
-use mathlib.Core.Logic.{inl}
-use native.Mathlib.Omega.{arith}
+use Rattle.std.proofs.Common.{◌≡◌, ◌-◌, drop, ap, ◌∙◌, arith}
+use lib.Seq.{paste}
 use Rattle.store.proofs.Stacks.{cut_is}
 use Rattle.store.proofs.stack.cut.Goals as goal
 
-pub shift-requires : goal.shift-requires
-shift-requires c =
-    (omega arith, (omega arith, inl (omega arith)))
-
 pub returns : goal.returns
 returns c =
-    cut_is c.requires.0 c.requires.1 c.shift.ensures
+    cut_is c.requires.0 c.requires.1 (c.copy_within.ensures.after ∙ ap (paste c.args.text.now (c.args.top - c.args.n - c.args.k) (drop (c.args.top - c.args.n) c.args.text.now)) (omega arith))

@@ -1,7 +1,12 @@
-use mathlib.Core.Path.{sym}
-use native.Mathlib.Omega.{arith}
+use Rattle.std.proofs.Common.{◌≡◌, ◌-◌, ◌==◌, take, drop, length-drop, length-take-le, sym, ◌∙◌, arith, rules}
+use Rattle.std.specs.List.{count_by}
+use Rattle.std.proofs.iter.runs.Made.{chains}
+use Rattle.std.proofs.lemmas.List.Sums.{count_by-le-length}
+use Rattle.store.proofs.Texts.{slots_counted}
 use Rattle.store.proofs.stack.slots.Goals as goal
 
-pub returns-then-no_slot : goal.returns-then-no_slot
-returns-then-no_slot c =
-    (sym (c.no_slot.ensures c.if-no_slot.true), omega arith)
+pub returns : goal.returns
+returns c =
+    let t = take (c.args.to - c.args.from) (drop c.args.from c.args.text.now) in
+    let e : c.count.result ≡ count_by (λ x. x == 1) t = search (rules, chains) in
+    (e ∙ sym (slots_counted t), omega (arith, e, count_by-le-length (λ x. x == 1) t, length-take-le (c.args.to - c.args.from) (drop c.args.from c.args.text.now) (simp length-drop (omega arith))))
