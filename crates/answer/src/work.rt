@@ -45,9 +45,9 @@ pub fn numbers_fit(words: usize, tables: usize, chains: usize, least: usize) -> 
 pub fn clear(text: &mut [u8], store: &mut [u8], ends: &mut [u16])
     ensures { Cleared (slices [] text.old store.old ends.old) (slices [] text.new store.new ends.new) }
 {
-    stack::clear(text);
-    stack::clear(store);
-    stack::clear_ends(ends);
+    text.fill(0);
+    store.fill(0);
+    ends.fill(0);
 }
 
 // And all of the others.
@@ -55,7 +55,7 @@ pub fn clear_numbers(words: &mut [u16], tables: &mut [u16], chains: &mut [u16])
     ensures { NumbersCleared (normal_slices [] [] [] [] words.old tables.old chains.old)
         (normal_slices [] [] [] [] words.new tables.new chains.new) }
 {
-    stack::clear_ends(words);
-    stack::clear_ends(tables);
-    stack::clear_ends(chains);
+    words.fill(0);
+    tables.fill(0);
+    chains.fill(0);
 }

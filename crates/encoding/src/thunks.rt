@@ -61,7 +61,7 @@ fn unsigned(s: &[u8], p: Parser) -> Eaten
     ensures { StepsOver unsigned s.now p result }
 {
     let at = p.at;
-    let end = numbers::decimal(s, at).next;
+    let end = numbers::digits::<10>(s, at).next;
     if end == at {
         return Eaten::Nothing;
     }

@@ -13,7 +13,6 @@ use demangle::reading::demangle_uncleared;
 use grammar::state::Parser;
 use grammar::{numbers, text};
 use normalize::reading::normalize_uncleared;
-use store::stack;
 
 // The least length of the slice for a name or a normal symbol; those of the others are the entries'.
 pub const NAME: usize = Parser::TEXT;
@@ -277,7 +276,7 @@ pub fn list_lines(
     let listed = list_uncleared(
         kind, input, out, name, text, store, ends, words, tables, chains,
     );
-    stack::clear(name);
+    name.fill(0);
     work::clear(text, store, ends);
     work::clear_numbers(words, tables, chains);
     listed

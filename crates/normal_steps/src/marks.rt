@@ -42,7 +42,7 @@ fn leading_zero(s: &[u8], from: usize, to: usize) -> bool
 pub fn reference(s: &[u8], at: usize) -> Referred
     ensures { RefIs s.now at result }
 {
-    let number = numbers::seq_id(s, at);
+    let number = numbers::digits::<36>(s, at);
     let end = number.next;
     if !text::starts_with(s, end, b"_") {
         return Referred::Bad;
@@ -128,7 +128,7 @@ fn value_ok(s: &[u8], kind: u8, minus: bool, from: usize, to: usize) -> bool
 fn value(s: &[u8], kind: u8, minus: bool, from: usize) -> Valued
     ensures { ValueIs s.now kind minus from result }
 {
-    let to = numbers::decimal(s, from).next;
+    let to = numbers::digits::<10>(s, from).next;
     if !text::starts_with(s, to, b"E") {
         return Valued::Bad;
     }

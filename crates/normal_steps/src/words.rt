@@ -143,7 +143,7 @@ pub fn source_name(s: &[u8], at: usize) -> Named
     if text::starts_with(s, at, b"0") {
         return Named::Bad;
     }
-    let length = numbers::decimal(s, at);
+    let length = numbers::digits::<10>(s, at);
     let from = length.next;
     if s.len() <= from {
         return Named::Bad;

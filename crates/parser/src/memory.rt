@@ -275,5 +275,5 @@ pub fn newest_entry(text: &[u8], store: &[u8], ends: &[u16], p: Parser, n: usize
     }
     let top = p.top;
     let low = top - n;
-    stack::same_long_part(text, low, &store[..Parser::BYTES], from, n)
+    stack::same_part(text, low, &store[..Parser::BYTES], from, n)
 }

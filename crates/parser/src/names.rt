@@ -30,7 +30,7 @@ pub fn identifier(s: &[u8], at: usize) -> Found
     requires { (at ≤ length s.now) × (length s.now ≤ most_text_bytes) }
     ensures { result ≡ identified s.now at }
 {
-    let length = numbers::decimal(s, at);
+    let length = numbers::digits::<10>(s, at);
     let from = length.next;
     if length.value == 0 {
         return Found::Nothing;
@@ -113,7 +113,7 @@ fn old_entry(s: &[u8], text: &mut [u8], store: &[u8], ends: &[u16], p: Parser) -
         (mem text.new store.now ends.now) p result }
 {
     let at = p.at;
-    let number = numbers::seq_id(s, at);
+    let number = numbers::digits::<36>(s, at);
     let end = number.next;
     let Eaten::Next(next) = p.moved(end).eat(s, b'_') else {
         return Read::Refused(4);
@@ -148,7 +148,7 @@ pub fn template_param(s: &[u8], text: &mut [u8], store: &[u8], ends: &[u16], p: 
         return Read::Refused(4);
     };
     let at = behind.at;
-    let number = numbers::decimal(s, at);
+    let number = numbers::digits::<10>(s, at);
     let end = number.next;
     let Eaten::Next(next) = behind.moved(end).eat(s, b'_') else {
         return Read::Refused(4);
@@ -219,7 +219,7 @@ pub fn numbered(s: &[u8], at: usize) -> usize
     requires { at ≤ length s.now }
     ensures { (result ≡ behind_number s.now at) × (result ≤ length s.now) }
 {
-    let end = numbers::decimal(s, at).next;
+    let end = numbers::digits::<10>(s, at).next;
     if here(s, end, b'_') {
         return end + 1;
     }

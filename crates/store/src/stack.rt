@@ -69,12 +69,16 @@ pub fn again(text: &mut [u8], top: usize, from: usize, n: usize) -> usize
     at + n
 }
 
-// How many slots stand in text[from..to].
+// How many slots stand in text[from..to]. Almost no text has one, and `contains` sees that faster than a count.
 pub fn slots(text: &[u8], from: usize, to: usize) -> usize
     requires { (from ≤ to) × (to ≤ length text.now) }
     ensures { (result ≡ slots_in (take (to - from) (drop from text.now))) × (result ≤ to - from) }
 {
-    text[from..to].iter().filter(|x| **x == 1).count()
+    let part = &text[from..to];
+    if !part.contains(&1) {
+        return 0;
+    }
+    part.iter().filter(|x| **x == 1).count()
 }
 
 // Puts the byte x on the top, and before a slot the d bytes at `low` and the word.

@@ -4,8 +4,8 @@ use Rattle.encoding.proofs.thunks.unsigned.Goals as goal
 
 pub returns-then-end-at : goal.returns-then-end-at
 returns-then-end-at c =
-    unsigned_none c.decimal-end.ensures.behind (omega (arith, c.decimal-end.ensures.behind, c.if-end-at.true))
+    unsigned_none c.digits-end.ensures.behind (omega (arith, c.digits-end.ensures.behind, c.if-end-at.true))
 
 pub returns : goal.returns
 returns c =
-    unsigned_ate c.decimal-end.ensures.behind c.if-end-at.false c.moved.ensures c.eat.ensures
+    unsigned_ate c.digits-end.ensures.behind c.if-end-at.false c.moved.ensures c.eat.ensures

@@ -38,14 +38,14 @@ returns-then-place-from c k d s base from t σ g l =
     let q = c.place_of-place.ensures _ _ _ _ h.subs i in
     sym (last_chosen σ.subs (c.args.p.subs.count - 1) t (omega (arith, i, h.subs.count_is)) ∙ same_not t _ (λ x. c.if-place-from.true (omega (arith, q.size, g.size))))
 
-pub slice_bounds-same_long_part-end : goal.slice_bounds-same_long_part-end
+pub slice_bounds-same_part-end : goal.slice_bounds-same_part-end
 unfolding low_bytes
-slice_bounds-same_long_part-end c =
+slice_bounds-same_part-end c =
     sym (entries_sized c.requires.0.1.1.subs).store_size
 
-pub same_long_part-requires : goal.same_long_part-requires
+pub same_part-requires : goal.same_part-requires
 unfolding low_bytes low_ends
-same_long_part-requires c =
+same_part-requires c =
     let q = c.place_of-place.ensures _ _ _ _ c.requires.0.1.1.subs (omega (arith, c.if-count-eq0.false)) in
     (omega (arith, c.requires.1, c.requires.0.1.1.text.size, c.requires.0.1.1.text.most), omega (arith, c.if-place-from.false, q.size, q.within, (entries_sized c.requires.0.1.1.subs).store_size))
 
@@ -56,7 +56,7 @@ returns c k d s base from t σ g l =
     let i : c.args.p.subs.count - 1 < c.args.p.subs.count = omega (arith, c.if-count-eq0.false) in
     let q = c.place_of-place.ensures _ _ _ _ h.subs i in
     let x = newest_part g (omega arith) in
-    c.same_long_part.ensures
+    c.same_part.ensures
     ∙ ap₂ same
     (ap (λ (j : ℕ). take j (drop (c.args.p.top - c.args.n) c.args.text.now)) {x = c.args.n} {y = c.args.p.top - (c.args.p.top - c.args.n)} (omega (arith, x.0)) ∙ x.1)
     (ap (λ (j : ℕ). take j (drop c.place_of-place.result.from (take most_entry_bytes c.args.store.now))) {x = c.args.n} {y = c.place_of-place.result.to - c.place_of-place.result.from} (omega (arith, c.if-place-from.false)) ∙ q.is)

@@ -17,7 +17,7 @@ at-digits s at = at + length (run (digit 10) (drop at s))
 pub returns-then-length-eq0 : goal.returns-then-length-eq0
 unfolding identified if◌then◌otherwise◌
 returns-then-length-eq0 c =
-    let n : digits c.args.s.now c.args.at < 1 = omega (arith, c.decimal-length.ensures.is, c.if-length-eq0.true) in
+    let n : digits c.args.s.now c.args.at < 1 = omega (arith, c.digits-length.ensures.is, c.if-length-eq0.true) in
     rw (lt-leb 1 (digits c.args.s.now c.args.at) n)
 
 pub returns-then-left-length : goal.returns-then-left-length
@@ -25,8 +25,8 @@ unfolding identified if◌then◌otherwise◌
 returns-then-left-length c =
     let n = digits c.args.s.now c.args.at in
     let from = at-digits c.args.s.now c.args.at in
-    let m : 1 ≤ n = omega (arith, c.decimal-length.ensures.is, c.if-length-eq0.false) in
-    let l : length (drop from c.args.s.now) < n = omega (arith, length-drop from c.args.s.now, c.decimal-length.ensures.is, c.decimal-length.ensures.behind, c.if-left-length.true) in
+    let m : 1 ≤ n = omega (arith, c.digits-length.ensures.is, c.if-length-eq0.false) in
+    let l : length (drop from c.args.s.now) < n = omega (arith, length-drop from c.args.s.now, c.digits-length.ensures.is, c.digits-length.ensures.behind, c.if-left-length.true) in
     rw (le-leb 1 n m, lt-leb n (length (drop from c.args.s.now)) l)
 
 pub returns : goal.returns
@@ -34,7 +34,7 @@ unfolding identified if◌then◌otherwise◌
 returns c =
     let n = digits c.args.s.now c.args.at in
     let from = at-digits c.args.s.now c.args.at in
-    let v : c.decimal-length.result.value ≡ n = omega (arith, c.decimal-length.ensures.is, c.if-left-length.false, c.requires) in
+    let v : c.digits-length.result.value ≡ n = omega (arith, c.digits-length.ensures.is, c.if-left-length.false, c.requires) in
     let m : 1 ≤ n = omega (arith, c.if-length-eq0.false) in
-    let l : n ≤ length (drop from c.args.s.now) = omega (arith, length-drop from c.args.s.now, c.decimal-length.ensures.behind, c.if-left-length.false) in
-    rw (le-leb 1 n m, le-leb n (length (drop from c.args.s.now)) l) (ap₂ Part c.decimal-length.ensures.behind (omega (arith, c.decimal-length.ensures.behind)))
+    let l : n ≤ length (drop from c.args.s.now) = omega (arith, length-drop from c.args.s.now, c.digits-length.ensures.behind, c.if-left-length.false) in
+    rw (le-leb 1 n m, le-leb n (length (drop from c.args.s.now)) l) (ap₂ Part c.digits-length.ensures.behind (omega (arith, c.digits-length.ensures.behind)))

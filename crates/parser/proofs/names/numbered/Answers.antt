@@ -9,10 +9,10 @@ pub returns-then-here : goal.returns-then-here
 unfolding behind_number if◌then◌otherwise◌
 returns-then-here c =
     let e = sym c.here.ensures ∙ c.if-here.true in
-    (rw (← c.decimal-end.ensures.behind, e), omega (arith, starts_inside c.args.s.now c.decimal-end.result.next 95 e))
+    (rw (← c.digits-end.ensures.behind, e), omega (arith, starts_inside c.args.s.now c.digits-end.result.next 95 e))
 
 pub returns : goal.returns
 unfolding behind_number if◌then◌otherwise◌
 returns c =
     let e = sym c.here.ensures ∙ c.if-here.false in
-    (rw (← c.decimal-end.ensures.behind, e), omega (arith, c.decimal-end.ensures.inside))
+    (rw (← c.digits-end.ensures.behind, e), omega (arith, c.digits-end.ensures.inside))

@@ -20,8 +20,8 @@ pub returns-in_default-eat : goal.returns-in_default-eat
 returns-in_default-eat c =
     let passed : Past c.args.s.now c.args.p 84 c.in-Next.behind = ate _ _ 84 c.eat.ensures c.in-Next.is in
     let same : c.in-Next.behind.at ≡ c.args.p.at + 1 = ap (λ (z : Parser). z.at) passed.next in
-    let numbered : Numbered 10 c.args.s.now (c.args.p.at + 1) c.decimal-number.result = subst (λ (i : ℕ). Numbered 10 c.args.s.now i c.decimal-number.result) same c.decimal-number.ensures in
-    let same2 : c.moved.result ≡ moved_to c.args.p c.decimal-number.result.next = c.moved.ensures ∙ ap (λ (z : Parser). moved_to z c.decimal-number.result.next) passed.next in
+    let numbered : Numbered 10 c.args.s.now (c.args.p.at + 1) c.digits-number.result = subst (λ (i : ℕ). Numbered 10 c.args.s.now i c.digits-number.result) same c.digits-number.ensures in
+    let same2 : c.moved.result ≡ moved_to c.args.p c.digits-number.result.next = c.moved.ensures ∙ ap (λ (z : Parser). moved_to z c.digits-number.result.next) passed.next in
     λ σ h.
     by (param_open c.args.s.now c.args.p.at σ h.rest
     passed.ahead numbered.behind
@@ -32,8 +32,8 @@ returns-in_default-eat c =
 pub argument-requires : goal.argument-requires
 argument-requires c =
     let passed : Past c.args.s.now c.args.p 84 c.in-Next.behind = ate _ _ 84 c.eat.ensures c.in-Next.is in
-    let same : c.moved.result ≡ moved_to c.args.p c.decimal-number.result.next = c.moved.ensures ∙ ap (λ (z : Parser). moved_to z c.decimal-number.result.next) passed.next in
-    let passed2 : Past c.args.s.now (moved_to c.args.p c.decimal-number.result.next) 95 c.in-Next-eat.next = past_from same (ate _ _ 95 c.eat-2.ensures c.in-Next-eat.is) in
+    let same : c.moved.result ≡ moved_to c.args.p c.digits-number.result.next = c.moved.ensures ∙ ap (λ (z : Parser). moved_to z c.digits-number.result.next) passed.next in
+    let passed2 : Past c.args.s.now (moved_to c.args.p c.digits-number.result.next) 95 c.in-Next-eat.next = past_from same (ate _ _ 95 c.eat-2.ensures c.in-Next-eat.is) in
     let l = passed2.inside in
     (c.args.s.now, ready_moved _ passed2.next c.requires.1 (omega (arith, l)))
 
@@ -41,9 +41,9 @@ pub returns-then-end-at : goal.returns-then-end-at
 returns-then-end-at c =
     let passed : Past c.args.s.now c.args.p 84 c.in-Next.behind = ate _ _ 84 c.eat.ensures c.in-Next.is in
     let same : c.in-Next.behind.at ≡ c.args.p.at + 1 = ap (λ (z : Parser). z.at) passed.next in
-    let numbered : Numbered 10 c.args.s.now (c.args.p.at + 1) c.decimal-number.result = subst (λ (i : ℕ). Numbered 10 c.args.s.now i c.decimal-number.result) same c.decimal-number.ensures in
-    let same2 : c.moved.result ≡ moved_to c.args.p c.decimal-number.result.next = c.moved.ensures ∙ ap (λ (z : Parser). moved_to z c.decimal-number.result.next) passed.next in
-    let passed2 : Past c.args.s.now (moved_to c.args.p c.decimal-number.result.next) 95 c.in-Next-eat.next = past_from same2 (ate _ _ 95 c.eat-2.ensures c.in-Next-eat.is) in
+    let numbered : Numbered 10 c.args.s.now (c.args.p.at + 1) c.digits-number.result = subst (λ (i : ℕ). Numbered 10 c.args.s.now i c.digits-number.result) same c.digits-number.ensures in
+    let same2 : c.moved.result ≡ moved_to c.args.p c.digits-number.result.next = c.moved.ensures ∙ ap (λ (z : Parser). moved_to z c.digits-number.result.next) passed.next in
+    let passed2 : Past c.args.s.now (moved_to c.args.p c.digits-number.result.next) 95 c.in-Next-eat.next = past_from same2 (ate _ _ 95 c.eat-2.ensures c.in-Next-eat.is) in
     λ σ h.
     let n = numbered.behind in
     let e = passed2.ahead in
@@ -57,9 +57,9 @@ pub returns-then-number : goal.returns-then-number
 returns-then-number c =
     let passed : Past c.args.s.now c.args.p 84 c.in-Next.behind = ate _ _ 84 c.eat.ensures c.in-Next.is in
     let same : c.in-Next.behind.at ≡ c.args.p.at + 1 = ap (λ (z : Parser). z.at) passed.next in
-    let numbered : Numbered 10 c.args.s.now (c.args.p.at + 1) c.decimal-number.result = subst (λ (i : ℕ). Numbered 10 c.args.s.now i c.decimal-number.result) same c.decimal-number.ensures in
-    let same2 : c.moved.result ≡ moved_to c.args.p c.decimal-number.result.next = c.moved.ensures ∙ ap (λ (z : Parser). moved_to z c.decimal-number.result.next) passed.next in
-    let passed2 : Past c.args.s.now (moved_to c.args.p c.decimal-number.result.next) 95 c.in-Next-eat.next = past_from same2 (ate _ _ 95 c.eat-2.ensures c.in-Next-eat.is) in
+    let numbered : Numbered 10 c.args.s.now (c.args.p.at + 1) c.digits-number.result = subst (λ (i : ℕ). Numbered 10 c.args.s.now i c.digits-number.result) same c.digits-number.ensures in
+    let same2 : c.moved.result ≡ moved_to c.args.p c.digits-number.result.next = c.moved.ensures ∙ ap (λ (z : Parser). moved_to z c.digits-number.result.next) passed.next in
+    let passed2 : Past c.args.s.now (moved_to c.args.p c.digits-number.result.next) 95 c.in-Next-eat.next = past_from same2 (ate _ _ 95 c.eat-2.ensures c.in-Next-eat.is) in
     λ σ h.
     let d = numbered in
     by
@@ -72,8 +72,8 @@ returns-then-number c =
 pub argument-requires-2 : goal.argument-requires-2
 argument-requires-2 c =
     let passed : Past c.args.s.now c.args.p 84 c.in-Next.behind = ate _ _ 84 c.eat.ensures c.in-Next.is in
-    let same : c.moved.result ≡ moved_to c.args.p c.decimal-number.result.next = c.moved.ensures ∙ ap (λ (z : Parser). moved_to z c.decimal-number.result.next) passed.next in
-    let passed2 : Past c.args.s.now (moved_to c.args.p c.decimal-number.result.next) 95 c.in-Next-eat.next = past_from same (ate _ _ 95 c.eat-2.ensures c.in-Next-eat.is) in
+    let same : c.moved.result ≡ moved_to c.args.p c.digits-number.result.next = c.moved.ensures ∙ ap (λ (z : Parser). moved_to z c.digits-number.result.next) passed.next in
+    let passed2 : Past c.args.s.now (moved_to c.args.p c.digits-number.result.next) 95 c.in-Next-eat.next = past_from same (ate _ _ 95 c.eat-2.ensures c.in-Next-eat.is) in
     let l = passed2.inside in
     (c.args.s.now, ready_moved _ passed2.next c.requires.1 (omega (arith, l)))
 
@@ -81,9 +81,9 @@ pub returns : goal.returns
 returns c =
     let passed : Past c.args.s.now c.args.p 84 c.in-Next.behind = ate _ _ 84 c.eat.ensures c.in-Next.is in
     let same : c.in-Next.behind.at ≡ c.args.p.at + 1 = ap (λ (z : Parser). z.at) passed.next in
-    let numbered : Numbered 10 c.args.s.now (c.args.p.at + 1) c.decimal-number.result = subst (λ (i : ℕ). Numbered 10 c.args.s.now i c.decimal-number.result) same c.decimal-number.ensures in
-    let same2 : c.moved.result ≡ moved_to c.args.p c.decimal-number.result.next = c.moved.ensures ∙ ap (λ (z : Parser). moved_to z c.decimal-number.result.next) passed.next in
-    let passed2 : Past c.args.s.now (moved_to c.args.p c.decimal-number.result.next) 95 c.in-Next-eat.next = past_from same2 (ate _ _ 95 c.eat-2.ensures c.in-Next-eat.is) in
+    let numbered : Numbered 10 c.args.s.now (c.args.p.at + 1) c.digits-number.result = subst (λ (i : ℕ). Numbered 10 c.args.s.now i c.digits-number.result) same c.digits-number.ensures in
+    let same2 : c.moved.result ≡ moved_to c.args.p c.digits-number.result.next = c.moved.ensures ∙ ap (λ (z : Parser). moved_to z c.digits-number.result.next) passed.next in
+    let passed2 : Past c.args.s.now (moved_to c.args.p c.digits-number.result.next) 95 c.in-Next-eat.next = past_from same2 (ate _ _ 95 c.eat-2.ensures c.in-Next-eat.is) in
     λ σ h.
     let d = numbered in
     let e = passed2.ahead in

@@ -2,8 +2,12 @@ use Rattle.std.proofs.Common.{◌≡◌, ◌-◌, ◌==◌, take, drop, length-d
 use Rattle.std.specs.List.{count_by}
 use Rattle.std.proofs.iter.runs.Made.{chains}
 use Rattle.std.proofs.lemmas.List.Sums.{count_by-le-length}
-use Rattle.store.proofs.Texts.{slots_counted}
+use Rattle.store.proofs.Texts.{none_counted, slots_counted}
 use Rattle.store.proofs.stack.slots.Goals as goal
+
+pub returns-then-not-contains : goal.returns-then-not-contains
+returns-then-not-contains c =
+    (sym (none_counted _ (sym c.contains.ensures.value ∙ c.if-not-contains.true)), omega arith)
 
 pub returns : goal.returns
 returns c =
