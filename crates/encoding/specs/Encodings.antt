@@ -1,13 +1,11 @@
 -- What the readings of an encoding promise.
-use Rattle.std.specs.Prelude.{Bool, ◌&&◌, List, [], ◌++◌, ◌≡◌, ℕ, ◌+◌, ◌≤◌, length, take, drop}
-use Rattle.std.proofs.Math.Option.{Option, none, some}
+use Rattle.std.specs.Prelude.{Bool, ◌&&◌, List, [], ◌++◌, ◌≡◌, ℕ, ◌+◌, ◌≤◌, length, drop, Option as Returned, IfSome, IsSome}
+use Rattle.std.specs.Borrow.{Bor}
 use Rattle.grammar.specs.Text.{Text, b, choose, same, each, join}
 use Rattle.grammar.specs.Limits.{most_text_bytes, least_text, least_store, least_ends}
 use Rattle.grammar.specs.Tables.{labels}
 use Rattle.grammar.specs.Reader.{State, Result, ok, refused, Reader, onto, go_to, give, find}
-use Rattle.grammar.specs.Words.{longest_word, bytes_told}
-use Rattle.grammar.specs.declared.codes.Word.{Word}
-use Rattle.grammar.specs.declared.codes.Word.TheVariants.{Bytes, Nothing}
+use Rattle.grammar.specs.Words.{longest_word, word_of}
 use Rattle.grammar.specs.Grammar.{reading, ⟨type⟩, offset, qualifier, only_void, bare_function_type}
 use Rattle.store.specs.Stack.{Stack, Tail}
 use Rattle.store.specs.Table.{Entries}
@@ -53,16 +51,11 @@ GoesOn f s m m' p n from to r =
 
 -- ---------------------------------------------------------------- encodings
 
--- the word that was told and stands at the front of an array
-unfoldable pub word_in : Text → Word → Option Text
-word_in word (Bytes n) = some (take n word)
-word_in word Nothing = none
-
--- the label that stands first in the symbol is the one that the code tells, and writes to an array
-pub record Labels (s word : Text) (r : Word) : Type 0 where
-  pub is : (f : Text → Text → Result Text) (x : Result Text) → choose (find labels s) (λ q. f (b q.0) q.1) x ≡ choose (word_in word r) (λ t. f t (drop 2 s)) x
-  pub fits : bytes_told r ≤ longest_word
-  pub long : (n : ℕ) → r ≡ Bytes n → 2 ≤ length s
+-- the label that stands first in the symbol is the word that the code returns
+pub record Labels (s : Text) (r : Returned (Bor Text)) : Type 0 where
+  pub is : (f : Text → Text → Result Text) (x : Result Text) → choose (find labels s) (λ q. f (b q.0) q.1) x ≡ choose (word_of r) (λ t. f t (drop 2 s)) x
+  pub fits : IfSome r (λ w. length w.now ≤ longest_word)
+  pub long : IsSome r → 2 ≤ length s
 
 -- the state is empty but for the stack of texts
 pub record Fresh (m : Memory) (p : Parser) : Type 0 where

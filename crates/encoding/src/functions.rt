@@ -8,7 +8,6 @@ ghost use Rattle.parser.specs.Holds.{mem, Ready, Reads, keep};
 ghost use Rattle.encoding.specs.Encodings.{Qualifies, LoneVoid, GoesOn, with_parameters, with_returned};
 
 use grammar::codes;
-use grammar::codes::Word;
 use grammar::state::{Parser, Peeked, Read};
 use parser::memory;
 use reader::lists::{Kind, Texts};
@@ -134,14 +133,11 @@ fn qualified(s: &[u8], text: &mut [u8], p: Parser, n: usize, from: usize, to: us
 {
     let mut next = p;
     let mut size = n;
-    let mut at = from;
-    while at < to {
-        let mut word = [0u8; codes::LONGEST];
-        if let Word::Bytes(m) = codes::qualifier(&mut word, s[at]) {
-            next = memory::put_word(text, next, &word, m);
-            size = memory::sum(size, m);
+    for c in &s[from..to] {
+        if let Some(word) = codes::qualifier(*c) {
+            next = memory::put(text, next, word);
+            size = memory::sum(size, word.len());
         }
-        at += 1;
     }
     memory::given(next, size)
 }

@@ -8,7 +8,6 @@ ghost use Rattle.parser.specs.Holds.{mem, window, keep};
 ghost use Rattle.encoding.specs.Encodings.{Labels, Fresh, Encodes, Least};
 
 use crate::thunks;
-use grammar::codes::Word;
 use grammar::state::{Parser, Read};
 use grammar::{codes, text as bytes};
 use parser::memory;
@@ -47,29 +46,25 @@ fn encoding(s: &[u8], text: &mut [u8], store: &mut [u8], ends: &mut [u16], p: Pa
     if bytes::starts_with(s, 0, b"GV") {
         return guard_variable(s, text, store, ends, p);
     }
-    let mut word = [0u8; codes::LONGEST];
-    let Word::Bytes(m) = label(&mut word, s) else {
+    let Some(word) = label(s) else {
         return thunks::thunk_or_function(s, text, store, ends, p);
     };
-    let labelled = memory::put_word(text, p.moved(2), &word, m);
+    let labelled = memory::put(text, p.moved(2), word);
     let got = cycle::ty(s, text, store, ends, labelled);
     let Read::Text(next, n) = got else {
         return got;
     };
-    memory::given(next, n + m)
+    memory::given(next, n + word.len())
 }
 
 // What TV, TT, TI and TS print.
-fn label(word: &mut [u8; codes::LONGEST], s: &[u8]) -> Word
-    ensures { Labels s.now word.new result }
+fn label(s: &[u8]) -> Option<&'static [u8]>
+    ensures { Labels s.now result }
 {
-    if s.len() < 2 {
-        return Word::Nothing;
+    if *s.first()? != b'T' {
+        return None;
     }
-    if s[0] != b'T' {
-        return Word::Nothing;
-    }
-    codes::label(word, s[1])
+    codes::label(*s.get(1)?)
 }
 
 // GV <object name>

@@ -5,14 +5,12 @@ ghost use Rattle.grammar.specs.Text.{Text, b, choose, same};
 ghost use Rattle.grammar.specs.Limits.{most_text_bytes, most_entry_bytes, most_length, kept_bytes};
 ghost use Rattle.grammar.specs.Reader.{State, Reader, push_sub, push_arg, recorded, give, refuse};
 ghost use Rattle.grammar.specs.Grammar.{last};
-ghost use Rattle.grammar.specs.Words.{longest_word};
 ghost use Rattle.store.specs.Stack.{Stack, lent};
 ghost use Rattle.store.specs.Table.{Entries, Sized};
 ghost use Rattle.parser.specs.Holds.{Memory, mem, part, Holds, Ready, Reads, Stands, Refines, Puts, Cuts, Pushes, given_of};
 ghost use Rattle.parser.specs.Halves.{Room, Grows, with_args};
 ghost use Rattle.grammar.specs.States.{subs_to, args_to};
 
-use grammar::codes;
 use grammar::state::{Parser, Read, Table};
 use store::{stack, table};
 
@@ -43,15 +41,6 @@ pub fn put_part(s: &[u8], text: &mut [u8], p: Parser, from: usize, to: usize) ->
 {
     let top = p.top;
     p.raised(stack::put_part(text, top, s, from, to))
-}
-
-// The first n bytes of an array, which are a word.
-pub fn put_word(text: &mut [u8], p: Parser, word: &[u8; codes::LONGEST], n: usize) -> Parser
-    requires { (Stack text.old p.top) × (n ≤ longest_word) }
-    ensures { (length (take n word.now) ≡ n) × Puts text.old text.new p result (take n word.now) }
-{
-    let top = p.top;
-    p.raised(stack::put_part(text, top, word, 0, n))
 }
 
 // The n bytes that stand d bytes below the top, once more.

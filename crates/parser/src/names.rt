@@ -1,10 +1,9 @@
 // Source names, references and the other names that are made of letters and digits alone.
-ghost use Rattle.std.specs.Prelude.{◌≡◌, List, ◌∷◌, ℕ, ◌+◌, ◌≤◌, length, take};
+ghost use Rattle.std.specs.Prelude.{◌≡◌, List, ◌∷◌, ℕ, ◌+◌, ◌≤◌, length};
 ghost use Rattle.std.proofs.Math.ListN.{get_elem?};
 ghost use Rattle.grammar.specs.Text.{Text, choose, decimal};
 ghost use Rattle.grammar.specs.Limits.{most_text_bytes, kept_bytes};
 ghost use Rattle.grammar.specs.Reader.{give};
-ghost use Rattle.grammar.specs.Words.{longest_word};
 ghost use Rattle.grammar.specs.Grammar.{⟨source-name⟩, ⟨template-param⟩, ⟨substitution⟩, unnamed_type_name, reading};
 ghost use Rattle.store.specs.Stack.{Stack};
 ghost use Rattle.parser.specs.Holds.{mem, Ready, Reads};
@@ -13,7 +12,6 @@ ghost use Rattle.parser.specs.Source.{identified, closers, behind_number};
 ghost use Rattle.parser.specs.References.{entry_at};
 
 use crate::memory;
-use grammar::codes::Word;
 use grammar::numbers::Number;
 use grammar::state::{Eaten, Parser, Read, Taken};
 use grammar::text::{before, here};
@@ -98,11 +96,10 @@ pub fn substitution(s: &[u8], text: &mut [u8], store: &[u8], ends: &[u16], p: Pa
     let Taken::Byte(c, next) = behind.take(s) else {
         return Read::Refused(4);
     };
-    let mut name = [0u8; codes::LONGEST];
-    let Word::Bytes(n) = codes::abbreviation(&mut name, c) else {
+    let Some(name) = codes::abbreviation(c) else {
         return old_entry(s, text, store, ends, behind);
     };
-    word(text, next, &name, n)
+    word(text, next, name)
 }
 
 // S_ | S <seq-id> _, behind S
@@ -128,13 +125,13 @@ fn old_entry(s: &[u8], text: &mut [u8], store: &[u8], ends: &[u16], p: Parser) -
     memory::recall(text, store, ends, next, k)
 }
 
-// A word of a table: the first n bytes of the array.
-pub fn word(text: &mut [u8], p: Parser, word: &[u8; codes::LONGEST], n: usize) -> Read
-    requires { (Stack text.old p.top) × (n ≤ longest_word) }
-    ensures { (s store ends : List ℕ) → Reads (give (take n word.now)) kept_bytes p.at s
+// A word, which is not too long to be returned.
+pub fn word(text: &mut [u8], p: Parser, word: &[u8]) -> Read
+    requires { (Stack text.old p.top) × (length word.now ≤ most_text_bytes) }
+    ensures { (s store ends : List ℕ) → Reads (give word.now) kept_bytes p.at s
         (mem text.old store ends) (mem text.new store ends) p result }
 {
-    Read::Text(memory::put_word(text, p, word, n), n)
+    Read::Text(memory::put(text, p, word), word.len())
 }
 
 // <template-param> ::= T_ | T <number> _

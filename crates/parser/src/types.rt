@@ -13,7 +13,6 @@ ghost use Rattle.parser.specs.Wraps.{Wrapper};
 
 use crate::{memory, names};
 use grammar::codes;
-use grammar::codes::Word;
 use grammar::state::{Parser, Read, Taken};
 use store::stack;
 
@@ -29,11 +28,10 @@ pub fn builtin_d(s: &[u8], text: &mut [u8], p: Parser) -> Read
     let Taken::Byte(c, next) = p.moved(at + 1).take(s) else {
         return Read::Refused(4);
     };
-    let mut word = [0u8; codes::LONGEST];
-    let Word::Bytes(n) = codes::builtin_d(&mut word, c) else {
+    let Some(word) = codes::builtin_d(c) else {
         return Read::Refused(4);
     };
-    names::word(text, next, &word, n)
+    names::word(text, next, word)
 }
 
 // The length of a text of n bytes with so many more at each of its slots, as far as it matters.
@@ -63,12 +61,11 @@ pub fn wrap(text: &mut [u8], store: &mut [u8], ends: &mut [u16], p: Parser, n: u
     let from = top - n;
     let slots = stack::slots(text, from, top);
     if slots == 0 {
-        let mut word = [0u8; codes::LONGEST];
-        let Word::Bytes(more) = codes::wrapper(&mut word, c) else {
+        let Some(word) = codes::wrapper(c) else {
             return Read::Refused(4);
         };
-        let next = memory::put_word(text, p, &word, more);
-        return memory::recorded(text, store, ends, next, n + more);
+        let next = memory::put(text, p, word);
+        return memory::recorded(text, store, ends, next, n + word.len());
     }
     wrap_slots(text, store, ends, p, n, slots, c)
 }
@@ -100,15 +97,14 @@ pub fn wrap_slots(
         → Stands k d s base from (mem text.old store.old ends.old) p n t σ
         → Refines k d s base from (mem text.new store.new ends.new) result (recorded (at_slots w t) σ) }
 {
-    let mut word = [0u8; codes::LONGEST];
-    let Word::Bytes(each) = codes::slot_wrapper(&mut word, c) else {
+    let Some(word) = codes::slot_wrapper(c) else {
         return Read::Refused(4);
     };
-    let size = woven(n, slots, each);
+    let size = woven(n, slots, word.len());
     if Parser::TEXT < size {
         return memory::too_long(p, size);
     }
-    let put = weave_word(text, p, n, &word[..each]);
+    let put = weave_word(text, p, n, word);
     let next = memory::cut(text, put, n, size);
     memory::recorded(text, store, ends, next, size)
 }

@@ -23,7 +23,6 @@ ghost use Rattle.reader.specs.Lists.{ReadsItems, ReadsItem, ReadsPart, ReadsNewP
 
 use crate::lists::{Kind, Parts, Prefix, Texts};
 use crate::{instances, lists};
-use grammar::codes::Word;
 use grammar::state::{Eaten, Parser, Peeked, Read, Taken};
 use grammar::{codes, text as bytes};
 use parser::leaf::Skipped;
@@ -429,9 +428,8 @@ fn operator(s: &[u8], text: &mut [u8], store: &mut [u8], ends: &mut [u16], p: Pa
     let a = s[at];
     let c = s[at + 1];
     let behind = p.moved(at + 2);
-    let mut word = [0u8; codes::LONGEST];
-    if let Word::Bytes(n) = codes::operator_name(&mut word, a, c) {
-        return names::word(text, behind, &word, n);
+    if let Some(word) = codes::operator_name(a, c) {
+        return names::word(text, behind, word);
     }
     if a != b'c' {
         return Read::Refused(4);
@@ -571,9 +569,8 @@ pub fn ty_inner(s: &[u8], text: &mut [u8], store: &mut [u8], ends: &mut [u16], p
     let Taken::Byte(c, behind) = p.take(s) else {
         return Read::Refused(4);
     };
-    let mut word = [0u8; codes::LONGEST];
-    if let Word::Bytes(n) = codes::builtin(&mut word, c) {
-        return names::word(text, behind, &word, n);
+    if let Some(word) = codes::builtin(c) {
+        return names::word(text, behind, word);
     }
     match c {
         b'P' | b'R' | b'O' | b'C' | b'K' | b'V' | b'r' => wrap(s, text, store, ends, behind, c),

@@ -1,19 +1,17 @@
 -- Where a name ends, a void alone, and what qualifiers print. Assumes nothing.
-use Rattle.std.specs.Prelude.{Bool, false, ◌&&◌, ◌≡◌, refl, ℕ, suc, ◌+◌, ◌-◌, ◌≤◌, ◌<◌, min, eqb, drop, get_or}
+use Rattle.std.specs.Prelude.{Bool, false, ◌&&◌, ◌≡◌, refl, ℕ, ◌+◌, ◌-◌, ◌≤◌, ◌<◌, min, eqb, drop, get_or}
 use Rattle.std.proofs.Math.Bool.{true, and-true}
 use mathlib.Core.List.{List, [], ◌∷◌, ◌++◌, append_assoc, append-nil}
-use Rattle.std.proofs.Math.Option.{Option}
+use Rattle.std.proofs.Math.Option.{Option, none, some}
 use Rattle.std.proofs.Math.Path.{sym, ap}
-use Rattle.std.proofs.Common.{◌∙◌, subst, arith, length-drop, take-suc, get_or-drop}
+use Rattle.std.proofs.Common.{◌∙◌, subst, arith, length-drop, length-take}
+use Rattle.std.proofs.lemmas.List.{take_all, take_more}
 use Rattle.std.proofs.Math.ListN.{length, take, length-append}
 use Rattle.grammar.specs.Text.{Text, b, choose, same, starts, each, join}
 use Rattle.grammar.specs.Tables.{qualifiers}
-use Rattle.grammar.specs.Reader.{give}
+use Rattle.grammar.specs.Reader.{give, word_for}
 use Rattle.grammar.specs.Grammar.{ended, only_void, qualifier}
 use Rattle.grammar.specs.Laws.Text.{starts_nothing}
-use Rattle.grammar.specs.Words.{Spells}
-use Rattle.grammar.specs.declared.codes.Word.{Word}
-use Rattle.grammar.specs.declared.codes.Word.TheVariants.{Bytes, Nothing}
 use Rattle.store.specs.Stack.{Stack, newest}
 use Rattle.grammar.specs.declared.state.Parser.{Parser}
 use Rattle.grammar.specs.declared.state.Peeked.TheVariants as peeked_as
@@ -26,7 +24,7 @@ use Rattle.grammar.specs.Laws.Text.{same_not}
 use Rattle.grammar.specs.Limits.{most_length}
 use Rattle.parser.specs.Adds.{Adds}
 use Rattle.parser.specs.Laws.Adds.{adds_none, adds_more, stands_more}
-use Rattle.parser.specs.Laws.Wraps.{newest_text, spelled_at, spelled_none}
+use Rattle.parser.specs.Laws.Wraps.{newest_text}
 use Rattle.encoding.specs.Encodings.{qualified_by, Qualifies, LoneVoid}
 
 -- ---------------------------------------------------------------- where a name ends
@@ -93,53 +91,42 @@ each_one : (f : ℕ → Text) (x : ℕ) → each f (x ∷ []) ≡ f x
 unfolding each
 each_one f x = append-nil (f x)
 
-qualified_none : (s : Text) (from : ℕ) → qualified_by s from from ≡ []
+qualified_more : (cs : Text) (i : ℕ) → i < length cs → each qualifier (take (i + 1) cs) ≡ each qualifier (take i cs) ++ qualifier (get_or cs i 0)
+qualified_more cs i l =
+    ap (each qualifier) (take_more cs i 0 l)
+    ∙ each_append qualifier (take i cs) (get_or cs i 0 ∷ [])
+    ∙ ap (λ (t : Text). each qualifier (take i cs) ++ t) (each_one qualifier (get_or cs i 0))
+
+-- what the first i of the qualifiers print was put behind a text of n bytes
+pub record Qualifying (cs text₀ text : Text) (p next : Parser) (n size i : ℕ) : Type 0 where
+  pub size_is : size ≡ min (n + length (each qualifier (take i cs))) most_length
+  pub adds : Adds text₀ text p next (each qualifier (take i cs))
+
+pub qualifying_start : {text : Text} {p : Parser} (cs : Text) {n : ℕ} → Stack text p.top → n ≤ most_length → Qualifying cs text text p p n n 0
 unfolding each
-qualified_none s from = ap (λ (i : ℕ). each qualifier (take i (drop from s))) {x = from - from} {y = 0} (omega arith)
+qualifying_start cs c l = record { size_is = omega arith; adds = adds_none c }
 
-qualified_more : (s : Text) (from at : ℕ) → from ≤ at → at < length s → qualified_by s from (at + 1) ≡ qualified_by s from at ++ qualifier (get_or s at 0)
-qualified_more s from at l h =
-    ap (λ (i : ℕ). each qualifier (take i (drop from s))) {x = at + 1 - from} {y = suc (at - from)} (omega arith)
-    ∙ ap (each qualifier) (take-suc (drop from s) (at - from) 0 (omega (arith, length-drop from s)))
-    ∙ each_append qualifier (part s from at) (get_or (drop from s) (at - from) 0 ∷ [])
-    ∙ ap (λ (t : Text). qualified_by s from at ++ t) (each_one qualifier (get_or (drop from s) (at - from) 0) ∙ ap qualifier (get_or-drop from s (at - from) 0 ∙ ap (λ (i : ℕ). get_or s i 0) {x = from + (at - from)} {y = at} (omega arith)))
-
-pub record Qualifying (s text₀ text : Text) (p next : Parser) (n from to size at : ℕ) : Type 0 where
-  pub low : from ≤ at
-  pub high : at ≤ to
-  pub size_is : size ≡ min (n + length (qualified_by s from at)) most_length
-  pub adds : Adds text₀ text p next (qualified_by s from at)
-
-pub qualifying_start : {text : Text} {p : Parser} (s : Text) {n from to : ℕ} → Stack text p.top → n ≤ most_length → from ≤ to → Qualifying s text text p p n from to n from
-qualifying_start {text} {p} s {n} {from} {to} c l h =
-    let e = qualified_none s from in
-    record { low = omega arith; high = h; size_is = omega (arith, ap length e); adds = rw e (adds_none c) }
-
-module _ {s text₀ text : Text} {p next : Parser} {n from to size at : ℕ} (i : Qualifying s text₀ text p next n from to size at) where
-  module _ (l : at < to) (h : to ≤ length s) {word word' : Text} {r : Word} (g : Spells qualifiers (get_or s at 0 ∷ []) word word' r) where
-    pub qualifying_word : {m : ℕ} {text' : Text} {next' : Parser} {size' : ℕ} → r ≡ Bytes m → length (take m word') ≡ m
-        → Puts text text' next next' (take m word') → size' ≡ min (size + m) most_length → Qualifying s text₀ text' p next' n from to size' (at + 1)
+module _ {cs text₀ text : Text} {p next : Parser} {n size i : ℕ} (q : Qualifying cs text₀ text p next n size i) where
+  module _ (l : i < length cs) where
+    pub qualifying_word : {w text' : Text} {next' : Parser} {size' : ℕ} → some w ≡ word_for qualifiers (get_or cs i 0 ∷ [])
+        → Puts text text' next next' w → size' ≡ min (size + length w) most_length → Qualifying cs text₀ text' p next' n size' (i + 1)
     unfolding qualifier choose
-    qualifying_word {m} e z u j =
-        let f : qualifier (get_or s at 0) ≡ take m word' = ap (λ (o : Option Text). choose o (λ x. x) []) (spelled_at g e).0.0 in
-        let x = qualified_more s from at i.low (omega arith) ∙ ap (λ (t : Text). qualified_by s from at ++ t) f in
-        record {
-          low = omega (arith, i.low);
-          high = omega arith;
-          size_is = omega (arith, i.size_is, ap length x, length-append (qualified_by s from at) (take m word'));
-          adds = rw x (adds_more i.adds u);
-        }
+    qualifying_word {w} e u j =
+        let f : qualifier (get_or cs i 0) ≡ w = ap (λ (o : Option Text). choose o (λ x. x) []) (sym e) in
+        let x = qualified_more cs i l ∙ ap (λ (t : Text). each qualifier (take i cs) ++ t) f in
+        record { size_is = omega (arith, q.size_is, j, ap length x, length-append (each qualifier (take i cs)) w); adds = rw x (adds_more q.adds u) }
 
-    pub qualifying_nothing : r ≡ Nothing → Qualifying s text₀ text p next n from to size (at + 1)
+    pub qualifying_nothing : none ≡ word_for qualifiers (get_or cs i 0 ∷ []) → Qualifying cs text₀ text p next n size (i + 1)
     unfolding qualifier choose
     qualifying_nothing e =
-        let f : qualifier (get_or s at 0) ≡ [] = ap (λ (o : Option Text). choose o (λ x. x) []) (spelled_none g e) in
-        let x = qualified_more s from at i.low (omega arith) ∙ ap (λ (t : Text). qualified_by s from at ++ t) f ∙ append-nil (qualified_by s from at) in
-        record { low = omega (arith, i.low); high = omega arith; size_is = omega (arith, i.size_is, ap length x); adds = rw x i.adds }
+        let f : qualifier (get_or cs i 0) ≡ [] = ap (λ (o : Option Text). choose o (λ x. x) []) (sym e) in
+        let x = qualified_more cs i l ∙ ap (λ (t : Text). each qualifier (take i cs) ++ t) f ∙ append-nil (each qualifier (take i cs)) in
+        record { size_is = omega (arith, q.size_is, ap length x); adds = rw x q.adds }
 
-  pub qualifying_done : {r : Read} → to ≤ at → r ≡ given_of next size → Qualifies s text₀ text p n from to r
+module _ (s : Text) (from to : ℕ) {text₀ text : Text} {p next : Parser} {n size i : ℕ} (q : Qualifying (part s from to) text₀ text p next n size i) where
+  pub qualifying_done : {r : Read} → to - from ≤ i → r ≡ given_of next size → Qualifies s text₀ text p n from to r
   qualifying_done {r} l e k d base fr store ends t σ h =
-      let x : at ≡ to = omega (arith, i.high) in
-      let a : Adds text₀ text p next (qualified_by s from to) = rw x at i.adds in
-      let z : min (length (t ++ qualified_by s from to)) most_length ≡ size = omega (arith, i.size_is, h.size, length-append t (qualified_by s from to), ap (λ (j : ℕ). length (qualified_by s from j)) x) in
+      let x : take i (part s from to) ≡ part s from to = take_all i (part s from to) (omega (arith, length-take (to - from) (drop from s))) in
+      let a : Adds text₀ text p next (qualified_by s from to) = rw x at q.adds in
+      let z : min (length (t ++ qualified_by s from to)) most_length ≡ size = omega (arith, q.size_is, h.size, length-append t (qualified_by s from to), ap (λ (u : Text). length (each qualifier u)) x) in
       subst (λ (v : Read). Refines k d s base fr (mem text store ends) v (give (t ++ qualified_by s from to) σ)) (ap (given_of next) z ∙ sym e) (given_refines (stands_more a h))

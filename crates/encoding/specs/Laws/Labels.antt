@@ -1,24 +1,22 @@
 -- The special names of the definition, each by the bytes that stand first, and the labels that the code picks. Assumes nothing.
-use Rattle.std.specs.Prelude.{Bool, true, false, ◌&&◌, List, [], ◌∷◌, ◌++◌, ◌≡◌, refl, ℕ, ◌≤◌, ◌<◌, T, eqb, length, take, drop, get_or}
+use Rattle.std.specs.Prelude.{Bool, true, false, ◌&&◌, List, [], ◌∷◌, ◌++◌, ◌≡◌, refl, ℕ, ◌≤◌, ◌<◌, T, eqb, length, drop, get_or, Option as Returned, Some, None}
+use Rattle.std.specs.Borrow.{Bor}
 use Rattle.std.proofs.Math.Option.{Option, none, some}
 use Rattle.std.proofs.Common.{sym, ap₂, ◌∙◌, arith, ne_eqb, eqb→eq}
-use Rattle.std.proofs.Math.Path.{ap, subst}
+use Rattle.std.proofs.Math.Path.{ap}
 use Prim.Native.String.{String}
 use Rattle.grammar.specs.Text.{Text, b, if◌then◌otherwise◌, choose, starts, holds}
 use Rattle.grammar.specs.Tables.{Row, ◌⇒◌, Table, labels}
-use Rattle.grammar.specs.Reader.{State, Result, ok, refused, Reader, onto, go_to, give, start, find, by_code, cases, word_for}
+use Rattle.grammar.specs.Reader.{State, Result, ok, refused, Reader, onto, go_to, give, start, find, by_code, cases}
 use Rattle.grammar.specs.Grammar.{reading, ⟨encoding⟩, ⟨name⟩, ⟨type⟩, encoding, encoding_with, labelled, thunks, anew, function_or_data, production}
 use Rattle.grammar.specs.Laws.Agree.{moved, coded, all_coded}
 use Rattle.grammar.specs.Laws.Text.{both, starts_is}
 use Rattle.grammar.specs.Laws.Fuel.{reading_is}
 use Rattle.grammar.specs.Laws.Finds.{all_of, by_word}
 use Rattle.grammar.specs.Laws.Steps.{heads, within, no_row_of}
-use Rattle.grammar.specs.Words.{longest_word, bytes_told, Spells}
-use Rattle.grammar.specs.declared.codes.Word.{Word}
-use Rattle.grammar.specs.declared.codes.Word.TheVariants.{Bytes, Nothing}
+use Rattle.grammar.specs.Words.{word_of, Spells}
 use Rattle.grammar.specs.Laws.Places.{rest_some}
-use Rattle.encoding.specs.Encodings.{word_in, Labels}
-use Rattle.parser.specs.Laws.Wraps.{spelled_at, spelled_none}
+use Rattle.encoding.specs.Encodings.{Labels}
 
 -- ---------------------------------------------------------------- the definition
 
@@ -72,26 +70,19 @@ label_read σ = through (find labels σ.rest)
     through none = refl
     through (some q) = refl
 
-module _ {s word : Text} {r : Word} (l : Labels s word r) where
-  told_is : reading ⟨encoding⟩ (start s) ≡ choose (word_in word r) (λ w. typed w (moved (drop 2 s) (start s))) (unlabelled (start s))
-  unfolding start
-  told_is = encoding_is (start s) ∙ label_read (start s) ∙ l.is (λ w u. typed w (moved u (start s))) (unlabelled (start s))
+label_is : {s : Text} {r : Returned (Bor Text)} → Labels s r
+    → reading ⟨encoding⟩ (start s) ≡ choose (word_of r) (λ w. typed w (moved (drop 2 s) (start s))) (unlabelled (start s))
+unfolding start
+label_is {s} l = encoding_is (start s) ∙ label_read (start s) ∙ l.is (λ w u. typed w (moved u (start s))) (unlabelled (start s))
 
-  pub labelled_is : {n : ℕ} → r ≡ Bytes n → reading ⟨encoding⟩ (start s) ≡ typed (take n word) (moved (drop 2 s) (start s))
-  unfolding word_in choose
-  labelled_is e = told_is ∙ ap (λ (q : Word). choose (word_in word q) (λ w. typed w (moved (drop 2 s) (start s))) (unlabelled (start s))) e
+pub labelled_is : {s : Text} {w : Bor Text} → Labels s (Some w) → reading ⟨encoding⟩ (start s) ≡ typed w.now (moved (drop 2 s) (start s))
+unfolding choose
+labelled_is l = label_is l
 
-  pub label_fits : {n : ℕ} → r ≡ Bytes n → n ≤ longest_word
-  unfolding bytes_told
-  label_fits e = subst (λ (x : Word). bytes_told x ≤ longest_word) e l.fits
-
-  pub unlabelled_is : r ≡ Nothing → starts s (71 ∷ 84 ∷ 116 ∷ []) ≡ false → starts s (71 ∷ 86 ∷ []) ≡ false →
-      reading ⟨encoding⟩ (start s) ≡ cases (thunks reading) (function_or_data reading) (start s)
-  unfolding word_in choose by_code onto find b start if◌then◌otherwise◌
-  unlabelled_is e f h =
-      told_is
-      ∙ ap (λ (q : Word). choose (word_in word q) (λ w. typed w (moved (drop 2 s) (start s))) (unlabelled (start s))) e
-      ∙ rw (f, h)
+pub unlabelled_is : {s : Text} → Labels s None → starts s (71 ∷ 84 ∷ 116 ∷ []) ≡ false → starts s (71 ∷ 86 ∷ []) ≡ false
+    → reading ⟨encoding⟩ (start s) ≡ cases (thunks reading) (function_or_data reading) (start s)
+unfolding choose by_code onto find b start if◌then◌otherwise◌
+unlabelled_is l f h = label_is l ∙ rw (f, h)
 
 -- ---------------------------------------------------------------- labels
 
@@ -113,35 +104,26 @@ find_short s ((k ⇒ w) ∷ rows) h l =
     let e = eqb→eq (length (b k)) 2 p in
     rw (starts_short s (b k) (omega arith)) (find_short s rows q l)
 
-none_labels : {s word : Text} → find labels s ≡ none → Labels s word Nothing
-unfolding choose word_in bytes_told
-none_labels {s} e = record {
-  is = λ f x. ap (λ (o : Option (String × Text)). choose o (λ q. f (b q.0) q.1) x) e;
-  fits = omega arith;
-  long = λ n f. let z : ◌≡◌ {A = ℕ} 0 1 = cc in absurd (omega arith);
-}
+none_labels : {s : Text} → find labels s ≡ none → Labels s None
+unfolding choose
+none_labels e = record { is = λ f x. ap (λ (o : Option (String × Text)). choose o (λ q. f (b q.0) q.1) x) e; fits = tt; long = λ h. cc }
 
-pub labels_short : (s : Text) {word : Text} → length s < 2 → Labels s word Nothing
+pub labels_short : (s : Text) → length s < 2 → Labels s None
 unfolding all_of labels b
 labels_short s l = none_labels (find_short s labels tt l)
 
-pub labels_other : (s : Text) {word : Text} → 0 < length s → (get_or s 0 0 ≡ 84 → ⊥) → Labels s word Nothing
+pub labels_other : (s : Text) → 0 < length s → (get_or s 0 0 ≡ 84 → ⊥) → Labels s None
 unfolding all_coded coded heads within holds b labels
 labels_other s l h =
     let e = no_row_of (get_or s 0 0) (drop 1 s) labels (b "T") tt tt (rw (ne_eqb (get_or s 0 0) 84 h)) in
     none_labels (ap (find labels) (rest_some s 0 l) ∙ e)
 
-word_told : {rows : Table} {code word word' : Text} (r : Word) → Spells rows code word word' r → word_in word' r ≡ word_for rows code
-unfolding word_in
-word_told (Bytes n) h = sym (spelled_at h refl).0.0
-word_told Nothing h = sym (spelled_none h refl)
-
-pub labels_told : (s : Text) {word word' : Text} {r : Word} → 2 ≤ length s → get_or s 0 0 ≡ 84 → Spells labels (b "T" ++ (get_or s 1 0 ∷ [])) word word' r → Labels s word' r
+pub labels_told : (s : Text) {y : ℕ} {r : Returned (Bor Text)} → 2 ≤ length s → get_or s 0 0 ≡ 84 → get_or s 1 0 ≡ y → Spells labels (b "T" ++ (y ∷ [])) r → Labels s r
 unfolding all_of labels b
-labels_told s {r = r} l h g =
-    let e : s ≡ 84 ∷ get_or s 1 0 ∷ drop 2 s = rest_some s 0 (omega arith) ∙ ap₂ (λ (x : ℕ) (t : Text). x ∷ t) h (rest_some s 1 (omega arith)) in
+labels_told s {y} l h k g =
+    let e : s ≡ 84 ∷ y ∷ drop 2 s = rest_some s 0 (omega arith) ∙ ap₂ (λ (x : ℕ) (t : Text). x ∷ t) h (rest_some s 1 (omega arith) ∙ ap (λ (x : ℕ). x ∷ drop 2 s) k) in
     record {
-      is = λ f x. ap (λ (t : Text). choose (find labels t) (λ q. f (b q.0) q.1) x) e ∙ by_word (84 ∷ get_or s 1 0 ∷ []) (drop 2 s) f x labels tt ∙ ap (λ (o : Option Text). choose o (λ t. f t (drop 2 s)) x) (sym (word_told r g));
-      fits = g.fits;
-      long = λ n f. l;
+      is = λ f x. ap (λ (t : Text). choose (find labels t) (λ q. f (b q.0) q.1) x) e ∙ by_word (84 ∷ y ∷ []) (drop 2 s) f x labels tt ∙ ap (λ (o : Option Text). choose o (λ t. f t (drop 2 s)) x) (sym g.0);
+      fits = g.1;
+      long = λ _. l;
     }

@@ -1,6 +1,7 @@
 -- The empty state, and the special names GV, TV, TT, TI and TS. Assumes nothing.
-use Rattle.std.specs.Prelude.{true, false, [], ◌∷◌, ◌++◌, ◌≡◌, refl, ℕ, ◌+◌, ◌≤◌, min, length, take, drop}
+use Rattle.std.specs.Prelude.{true, false, Some, None, [], ◌∷◌, ◌++◌, ◌≡◌, refl, ℕ, ◌+◌, ◌≤◌, min, length, take, drop}
 use Rattle.std.proofs.Common.{sym, ◌∙◌, arith, length-drop}
+use Rattle.std.specs.Borrow.{Bor}
 use Rattle.std.proofs.Math.Path.{ap}
 use Rattle.std.proofs.Math.ListN.{length-append}
 use Rattle.grammar.specs.Text.{Text, b, starts, each}
@@ -9,8 +10,6 @@ use Rattle.grammar.specs.Reader.{Reader, State, onto, give, start, cases}
 use Rattle.grammar.specs.Grammar.{reading, ⟨encoding⟩, ⟨name⟩, ⟨type⟩, labelled, thunks, function_or_data}
 use Rattle.grammar.specs.Laws.Agree.{moved}
 use Rattle.grammar.specs.Words.{longest_word}
-use Rattle.grammar.specs.declared.codes.Word.{Word}
-use Rattle.grammar.specs.declared.codes.Word.TheVariants.{Bytes, Nothing}
 use Rattle.store.specs.Stack.{Stack, Tail}
 use Rattle.store.specs.Laws.Tails.{whole, weaken, both, put_tail}
 use Rattle.grammar.specs.declared.state.Parser.{Parser}
@@ -118,29 +117,27 @@ module _ {s text store ends text₁ : Text} {p o : Parser} {w : Text} {σ : Stat
 
 -- ---------------------------------------------------------------- labels
 
-module _ {s text store ends text₁ : Text} {p q o : Parser} {word : Text} {x : Word} {w : ℕ} (l : length s ≤ most_text_bytes) (h : Fresh (mem text store ends) p) (k : Labels s word x) (e : x ≡ Bytes w)
-    (z : q ≡ moved_to p 2)
-    (u : Puts text text₁ q o (take w word)) where
+module _ {s text store ends text₁ : Text} {p q o : Parser} {w : Bor Text} (l : length s ≤ most_text_bytes) (h : Fresh (mem text store ends) p) (k : Labels s (Some w)) (z : q ≡ moved_to p 2)
+    (u : Puts text text₁ q o w.now) where
   label_moved : Holds s (mem text store ends) (moved_to p 2) (moved (drop 2 s) (start s))
-  label_moved = holds_moved (fresh_holds l h) 2 (k.long w e)
+  label_moved = holds_moved (fresh_holds l h) 2 (k.long refl)
 
   pub label_holds : Holds s (mem text₁ store ends) o (moved (drop 2 s) (start s))
   label_holds = holds_puts (puts_from z u) label_moved
 
   module _ {m₂ : Memory} {r : Read} (f : Reads (reading ⟨type⟩) (keep (o.depth + 1)) (o.at + 1) s (mem text₁ store ends) m₂ o r) where
     pub label_refused : {j : ℕ} {base : Text} {m' : Memory} {i : ℕ} → r ≡ Refused i → Encodes j s base m' r (reading ⟨encoding⟩ (start s))
-    label_refused y = encodes_by (labelled_is k e) (behind_refused label_moved (puts_from z u) f y)
+    label_refused y = encodes_by (labelled_is k) (behind_refused label_moved (puts_from z u) f y)
 
     pub label_got : {next : Parser} {n : ℕ} → r ≡ read next n → Got (keep (o.depth + 1)) o.depth s (window (mem text₁ store ends) o) (o.at + 1) m₂ next n (reading ⟨type⟩ (moved (drop 2 s) (start s)))
     label_got y = behind_got label_moved (puts_from z u) f y
 
-    pub label_given : {next : Parser} {n : ℕ} {v : Read} → r ≡ read next n → length (take w word) ≡ w → w ≤ longest_word → v ≡ given_of next (n + w) → Encodes (keep 0) s (window (mem text store ends) p) m₂ v (reading ⟨encoding⟩ (start s))
-    label_given {next} {n} {v} y i j c =
-        encodes_by (labelled_is k e) (behind_given label_moved (puts_from z u) f (omega arith) (omega (arith, i, j)) y (c ∙ ap (λ (m : ℕ). given_of next (n + m)) (sym i)))
+    pub label_given : {next : Parser} {n : ℕ} {v : Read} → r ≡ read next n → v ≡ given_of next (n + length w.now) → Encodes (keep 0) s (window (mem text store ends) p) m₂ v (reading ⟨encoding⟩ (start s))
+    label_given y c = encodes_by (labelled_is k) (behind_given label_moved (puts_from z u) f (omega arith) k.fits y c)
 
 -- ---------------------------------------------------------------- other names
 
 pub other_read :
-    {s base : Text} {m' : Memory} {word : Text} {x : Word} {r : Read} → Labels s word x → x ≡ Nothing → starts s (71 ∷ 84 ∷ 116 ∷ []) ≡ false → starts s (71 ∷ 86 ∷ []) ≡ false →
+    {s base : Text} {m' : Memory} {r : Read} → Labels s None → starts s (71 ∷ 84 ∷ 116 ∷ []) ≡ false → starts s (71 ∷ 86 ∷ []) ≡ false →
     Encodes (keep 0) s base m' r (cases (thunks reading) (function_or_data reading) (start s)) → Encodes (keep 0) s base m' r (reading ⟨encoding⟩ (start s))
-other_read k e g v f = encodes_by (unlabelled_is k e g v) f
+other_read k g v f = encodes_by (unlabelled_is k g v) f

@@ -6,13 +6,9 @@ use Rattle.std.proofs.Math.Option.{Option, none, some}
 use Rattle.std.proofs.lemmas.Bool.{eqb-false}
 use Rattle.std.proofs.lemmas.List.{drop-append-le}
 use Rattle.grammar.specs.Text.{Text, if◌then◌otherwise◌, choose, holds}
-use Rattle.grammar.specs.Tables.{Table}
-use Rattle.grammar.specs.Reader.{State, Reader, word_for}
+use Rattle.grammar.specs.Reader.{State, Reader}
 use Rattle.grammar.specs.Grammar.{at_slots}
 use Rattle.grammar.specs.Limits.{most_entry_bytes, most_length, kept_bytes}
-use Rattle.grammar.specs.Words.{longest_word, told, bytes_told, with_word, Spells}
-use Rattle.grammar.specs.declared.codes.Word.{Word}
-use Rattle.grammar.specs.declared.codes.Word.TheVariants.{Bytes, Nothing}
 use Rattle.store.specs.Stack.{Stack, Tail, Put, Cut, slots_in, newest, below_newest}
 use Rattle.store.specs.Laws.Lists.{part_of}
 use Rattle.store.specs.Laws.Slots.{length_at_slots}
@@ -209,29 +205,3 @@ some_is e = ap (λ (o : Option Text). choose o (λ z. z) []) e
 pub some_not : {A : Type 0} {x : A} → some x ≡ none → ⊥
 unfolding choose
 some_not {A} e = absurd (omega (arith, ap {B = ℕ} (λ (o : Option A). choose o (λ _. 1) 0) e))
-
--- the word that was told is at the array's front
-unfoldable tells : Word → ℕ
-tells (Bytes n) = 1
-tells Nothing = 0
-
-in_front : (word : Text) {word' : Text} {n : ℕ} (o : Option Text) → Bytes n ≡ told o → word' ≡ with_word o word → (o ≡ some (take n word')) × (length (take n word') ≡ n)
-unfolding told with_word bytes_told tells
-in_front word {word'} {n} (some w) e f =
-    let z : n ≡ length w = ap bytes_told e in
-    let g : take n word' ≡ w = ap (take n) f ∙ take_at w (drop (length w) word) n (sym z) in
-    (ap some (sym g), ap length g ∙ sym z)
-in_front word none e f = absurd (omega (arith, ap tells e))
-
-module _ {rows : Table} {code word word' : Text} {r : Word} (h : Spells rows code word word' r) where
-  pub spelled_at : {n : ℕ} → r ≡ Bytes n → ((word_for rows code ≡ some (take n word')) × (length (take n word') ≡ n)) × (n ≤ longest_word)
-  unfolding bytes_told
-  spelled_at e = (in_front word (word_for rows code) (sym e ∙ h.is) h.written, subst (λ (x : Word). bytes_told x ≤ longest_word) e h.fits)
-
-  pub spelled_none : r ≡ Nothing → word_for rows code ≡ none
-  unfolding told tells
-  spelled_none e = none_told (word_for rows code) (sym e ∙ h.is)
-    where
-      none_told : (o : Option Text) → Nothing ≡ told o → o ≡ none
-      none_told (some w) f = absurd (omega (arith, ap tells f))
-      none_told none f = refl

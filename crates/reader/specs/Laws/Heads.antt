@@ -5,20 +5,16 @@ use Rattle.std.proofs.Math.Option.{none}
 use Prim.Native.String.{String}
 use Rattle.grammar.specs.Text.{Text, b, holds, starts, digit, digit_value, if◌then◌otherwise◌}
 use Rattle.grammar.specs.Tables.{letters, wrappers}
-use Rattle.grammar.specs.Reader.{find}
+use Rattle.grammar.specs.Reader.{find, word_for}
 use Rattle.grammar.specs.Laws.Finds.{all_of}
 use Rattle.grammar.specs.Laws.Steps.{no_word, type_heads}
-use Rattle.grammar.specs.Words.{Spells}
-use Rattle.grammar.specs.declared.codes.Word.{Word}
-use Rattle.grammar.specs.declared.codes.Word.TheVariants.{Nothing}
-use Rattle.parser.specs.Laws.Wraps.{spelled_none}
 use Rattle.reader.specs.Cycle.{Wraps}
 
 -- ---------------------------------------------------------------- letters and wrappers
 
-pub no_letter : (c : ℕ) (r : Text) {word word' : Text} {x : Word} → Spells letters (c ∷ []) word word' x → x ≡ Nothing → find letters (c ∷ r) ≡ none
+pub no_letter : (c : ℕ) (r : Text) → none ≡ word_for letters (c ∷ []) → find letters (c ∷ r) ≡ none
 unfolding all_of letters b
-no_letter c r h e = no_word letters c r tt (spelled_none h e)
+no_letter c r e = no_word letters c r tt (sym e)
 
 -- the row of a wrapper's byte
 abbrev pub Row_of : ℕ → Type 0

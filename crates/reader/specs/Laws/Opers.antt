@@ -1,5 +1,5 @@
 -- Operator names and unqualified names as the code reads them. Assumes nothing.
-use Rattle.std.specs.Prelude.{◌≡◌, ℕ, ◌+◌, ◌<◌, ◌≤◌, Bool, true, false, ◌&&◌, T, List, [], ◌∷◌, ◌++◌, length, take, drop, ◌==◌, ◌≢◌, nat_eq, slice_index, slice_index_or}
+use Rattle.std.specs.Prelude.{◌≡◌, ℕ, ◌+◌, ◌<◌, ◌≤◌, Bool, true, false, ◌&&◌, T, List, [], ◌∷◌, ◌++◌, length, drop, ◌==◌, ◌≢◌, nat_eq, slice_index, slice_index_or}
 use Rattle.std.proofs.Math.Bool.{and-false}
 use Rattle.std.proofs.Math.Option.{Option, none, some}
 use Rattle.std.proofs.Math.Path.{refl, ap}
@@ -16,9 +16,6 @@ use Rattle.grammar.specs.Laws.Fuel.{reading_is}
 use Rattle.grammar.specs.Laws.Finds.{all_of, by_word}
 use Rattle.grammar.specs.Laws.Steps.{by_code_none}
 use Rattle.grammar.specs.Laws.NameSteps.{unqualified_L, unqualified_U, unqualified_end, unqualified_digit, unqualified_operator}
-use Rattle.grammar.specs.Words.{Spells}
-use Rattle.grammar.specs.declared.codes.Word.{Word}
-use Rattle.grammar.specs.declared.codes.Word.TheVariants.{Bytes, Nothing}
 use Rattle.grammar.specs.declared.state.Parser.{Parser}
 use Rattle.grammar.specs.declared.state.Read.{Read}
 use Rattle.grammar.specs.declared.state.Read.TheVariants.{Text as read, Refused}
@@ -33,7 +30,6 @@ use Rattle.grammar.specs.Laws.Runs.{case_here, case_not, past_is, past_stops}
 use Rattle.grammar.specs.Laws.Places.{rest_some, rest_none}
 use Rattle.parser.specs.Laws.Halves.{wrote_one}
 use Rattle.parser.specs.Laws.Leaves.{rest_two}
-use Rattle.parser.specs.Laws.Wraps.{spelled_at, spelled_none}
 use Rattle.reader.specs.Laws.Opens.{call_moved}
 use Rattle.reader.specs.Laws.Standing.{stands_templated, given_as, fewer, word_holds, word_joined}
 use Rattle.reader.specs.Laws.Items.{peek_end, byte_there, byte_within}
@@ -146,28 +142,28 @@ module _ (s : Text) (at : ℕ) (σ : State) (e : σ.rest ≡ drop at s) where
 
 -- ---------------------------------------------------------------- answers
 
-module _ {s text store ends : Text} {p q : Parser} {σ : State} (h : Holds s (mem text store ends) p σ) (l : p.at + 1 < length s) (m : q ≡ moved_to p (p.at + 2)) {word word' : Text} {x : Word}
-    (k : Spells operators (slice_index s p.at ∷ slice_index s (p.at + 1) ∷ []) word word' x) where
-  pub oper_word : {text' : Text} {r : Read} {n : ℕ} → x ≡ Bytes n → Reads (give (take n word')) kept_bytes q.at s (mem text store ends) (mem text' store ends) q r
+module _ {s text store ends : Text} {p q : Parser} {σ : State} (h : Holds s (mem text store ends) p σ) (l : p.at + 1 < length s) (m : q ≡ moved_to p (p.at + 2)) where
+  pub oper_word : {text' t : Text} {r : Read} → some t ≡ word_for operators (slice_index s p.at ∷ slice_index s (p.at + 1) ∷ [])
+      → Reads (give t) kept_bytes q.at s (mem text store ends) (mem text' store ends) q r
       → Refines (keep p.depth) p.depth s (window (mem text store ends) p) (p.at + 1) (mem text' store ends) r (reading ⟨operator-name⟩ σ)
   oper_word e g =
-      less (omega (arith, h.deep)) (by (operator_word s p.at σ h.rest l _ (spelled_at k e).0.0) (reads_moved m g h (omega arith) (omega arith)))
+      less (omega (arith, h.deep)) (by (operator_word s p.at σ h.rest l _ (sym e)) (reads_moved m g h (omega arith) (omega arith)))
 
   module _ {text₁ : Text} {q₁ : Parser} (u : Puts text text₁ q q₁ (b "operator ")) where
     pub oper_holds : Holds s (mem text₁ store ends) q₁ (moved (drop (p.at + 2) s) σ)
     oper_holds = word_holds m u h (omega arith)
 
-    module _ (e : x ≡ Nothing) (a : slice_index_or s p.at 0 ≡ 99) (c : slice_index_or s (p.at + 1) 0 ≡ 118) {m' : Memory} {r : Read}
+    module _ (e : none ≡ word_for operators (slice_index s p.at ∷ slice_index s (p.at + 1) ∷ [])) (a : slice_index_or s p.at 0 ≡ 99) (c : slice_index_or s (p.at + 1) 0 ≡ 118) {m' : Memory} {r : Read}
         (f : Reads (reading ⟨type⟩) (keep (q₁.depth + 1)) (q₁.at + 1) s (mem text₁ store ends) m' q₁ r) where
       pub oper_refused : {j : ℕ} → r ≡ Refused j → Refines (keep p.depth) p.depth s (window (mem text store ends) p) (p.at + 1) m' r (reading ⟨operator-name⟩ σ)
-      oper_refused g = by (operator_cv s p.at σ h.rest l (spelled_none k e) a c) (refused_on typed_on g (f _ oper_holds))
+      oper_refused g = by (operator_cv s p.at σ h.rest l (sym e) a c) (refused_on typed_on g (f _ oper_holds))
 
       pub oper_typed : {next q₂ : Parser} {n : ℕ} {v : Read} → r ≡ read next n → q₂ ≡ templated_to next false → v ≡ given_of q₂ (n + 9)
           → Refines (keep p.depth) p.depth s (window (mem text store ends) p) (p.at + 1) m' v (reading ⟨operator-name⟩ σ)
       unfolding onto set_templated b
       oper_typed g i j =
           let y = got g (f _ oper_holds) in
-          by (operator_cv s p.at σ h.rest l (spelled_none k e) a c ∙ ap (onto typed_on) y.is)
+          by (operator_cv s p.at σ h.rest l (sym e) a c ∙ ap (onto typed_on) y.is)
           (given_as j (stands_templated false (word_joined m u h (omega arith) (omega arith) (omega arith) refl (fewer (omega arith) y.wrote)) i))
 
 -- ---------------------------------------------------------------- bytes that were peeked at

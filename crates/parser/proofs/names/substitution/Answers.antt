@@ -3,7 +3,6 @@ use native.Mathlib.Omega.{arith}
 use Rattle.parser.specs.Holds.{refuses}
 use Rattle.parser.specs.Laws.Holds.{by}
 use Rattle.parser.specs.Laws.Adds.{stack_by, reads_moved, ready_moved}
-use Rattle.parser.specs.Laws.Wraps.{spelled_at, spelled_none}
 use Rattle.parser.specs.Laws.References.{sub_none, sub_end, sub_word, sub_entry}
 use Rattle.grammar.specs.Laws.States.{Past, past_from, end_from, ate, ate_none, took, took_none}
 use Rattle.grammar.specs.States.{moved_to}
@@ -40,14 +39,14 @@ returns-in_default-abbreviation c =
     λ σ h.
     by
     (sub_entry _ _ σ h.rest passed.ahead passed2.inside
-    (sym (spelled_none c.abbreviation.ensures c.in_default-abbreviation.is) ∙ same))
+    (c.in_default-abbreviation.ensures.0 ∙ same))
     (reads_moved passed.next c.old_entry.ensures h (omega (arith, passed2.inside)) (omega arith))
 
 pub word-requires : goal.word-requires
 word-requires c =
     let passed : Past c.args.s.now c.args.p 83 c.in-Next.behind = ate _ _ 83 c.eat.ensures c.in-Next.is in
     let passed2 : Past c.args.s.now (moved_to c.args.p (c.args.p.at + 1)) c.in-Byte.c c.in-Byte.next = past_from passed.next (took _ _ c.take.ensures c.in-Byte.is) in
-    (stack_by passed2.next c.requires.1.text, (spelled_at c.abbreviation.ensures c.in-Bytes.is).1)
+    (stack_by passed2.next c.requires.1.text, omega (arith, c.in-Some.ensures.1))
 
 pub returns : goal.returns
 returns c =
@@ -57,5 +56,5 @@ returns c =
     λ σ h.
     by
     (sub_word _ _ σ h.rest passed.ahead passed2.inside _
-    (sym (spelled_at c.abbreviation.ensures c.in-Bytes.is).0.0 ∙ same))
+    (c.in-Some.ensures.0 ∙ same))
     (reads_moved passed2.next (c.word.ensures _ _ _) h (omega (arith, passed2.inside)) (omega arith))

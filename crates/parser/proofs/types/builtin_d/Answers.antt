@@ -15,7 +15,7 @@ use Rattle.grammar.specs.Laws.Finds.{by_word, all_of}
 use Rattle.parser.specs.Holds.{refuses}
 use Rattle.grammar.specs.Laws.Places.{rest_none}
 use Rattle.parser.specs.Laws.Holds.{by, sooner, holds_moved}
-use Rattle.parser.specs.Laws.Wraps.{spelled_at, spelled_none, reads_at}
+use Rattle.parser.specs.Laws.Wraps.{reads_at}
 use Rattle.parser.proofs.types.builtin_d.Goals as goal
 
 behind-d : (s : Text) (at : ℕ) {x : ℕ} {rest : Text} → drop at s ≡ x ∷ rest → rest ≡ drop (at + 1) s
@@ -54,17 +54,11 @@ pub returns-in_default-builtin_d : goal.returns-in_default-builtin_d
 unfolding b
 returns-in_default-builtin_d c store ends rest σ e h =
     let passed : Past c.args.s.now (moved_to c.args.p (c.args.p.at + 1)) c.in-Byte.c c.in-Byte.next = past_from c.moved.ensures (took _ _ c.take.ensures c.in-Byte.is) in
-    by (unknown σ (e ∙ ap (λ (z : Text). 68 ∷ z) (behind-d c.args.s.now c.args.p.at (sym h.rest ∙ e) ∙ passed.there)) (spelled_none c.builtin_d.ensures c.in_default-builtin_d.is)) refuses
-
-pub word-requires : goal.word-requires
-word-requires c =
-    let passed : Past c.args.s.now (moved_to c.args.p (c.args.p.at + 1)) c.in-Byte.c c.in-Byte.next = past_from c.moved.ensures (took _ _ c.take.ensures c.in-Byte.is) in
-    (rw passed.next c.requires.1.1.1.text, (spelled_at c.builtin_d.ensures c.in-Bytes.is).1)
+    by (unknown σ (e ∙ ap (λ (z : Text). 68 ∷ z) (behind-d c.args.s.now c.args.p.at (sym h.rest ∙ e) ∙ passed.there)) (sym c.in_default-builtin_d.ensures.0)) refuses
 
 pub returns : goal.returns
 unfolding b
 returns c store ends rest σ e h =
     let passed : Past c.args.s.now (moved_to c.args.p (c.args.p.at + 1)) c.in-Byte.c c.in-Byte.next = past_from c.moved.ensures (took _ _ c.take.ensures c.in-Byte.is) in
-    let w = spelled_at c.builtin_d.ensures c.in-Bytes.is in
-    by (known σ (e ∙ ap (λ (z : Text). 68 ∷ z) (behind-d c.args.s.now c.args.p.at (sym h.rest ∙ e) ∙ passed.there)) w.0.0)
+    by (known σ (e ∙ ap (λ (z : Text). 68 ∷ z) (behind-d c.args.s.now c.args.p.at (sym h.rest ∙ e) ∙ passed.there)) (sym c.in-Some.ensures.0))
     (sooner (omega arith) (reads_at passed.next (c.word.ensures c.args.s.now store ends) _ (holds_moved h (c.args.p.at + 1 + 1) (omega (arith, passed.inside)))))

@@ -3,7 +3,7 @@ use mathlib.Core.List.{[], ◌∷◌, ◌++◌}
 use mathlib.Core.Option.{Option, none, some}
 use Prim.Native.Nat.{ℕ, ◌-◌}
 use native.Mathlib.Omega.{arith}
-use lib.ListN.{length, take, length-append}
+use lib.ListN.{length, length-append}
 use Rattle.grammar.specs.Text.{Text, b, choose}
 use Rattle.grammar.specs.Tables.{wrappers}
 use Rattle.grammar.specs.Reader.{find, word_for, recorded}
@@ -15,7 +15,7 @@ use Rattle.store.specs.Laws.Lists.{drop_take}
 use Rattle.parser.specs.Laws.Holds.{by, holds_puts}
 use Rattle.parser.specs.Laws.Halves.{newest_part}
 use Rattle.parser.specs.Wraps.{Wrapper}
-use Rattle.parser.specs.Laws.Wraps.{spelled_at, spelled_none, some_is, some_not, puts_top, stands_puts, behind, inside}
+use Rattle.parser.specs.Laws.Wraps.{some_is, some_not, puts_top, stands_puts, behind, inside}
 use Rattle.parser.proofs.types.wrap.Goals as goal
 
 abbrev pair_of : Option Text → Option Text → Option (Text × Text)
@@ -37,31 +37,22 @@ words_of x u e =
 
 pub returns-in_default : goal.returns-in_default
 returns-in_default c k d s base from t σ u e h =
-    absurd (some_not (sym (words_of _ u e).0 ∙ spelled_none c.wrapper.ensures c.in_default.is))
-
-pub put_word-next-requires : goal.put_word-next-requires
-put_word-next-requires c =
-    (c.requires.0.1.1.text, (spelled_at c.wrapper.ensures c.in-Bytes.is).1)
-
-pub overflow_add-n : goal.overflow_add-n
-overflow_add-n c =
-    omega (arith, (spelled_at c.wrapper.ensures c.in-Bytes.is).1, c.requires.1.1)
+    absurd (some_not (sym (words_of _ u e).0 ∙ sym c.in_default.ensures.0))
 
 pub recorded-requires : goal.recorded-requires
 recorded-requires c = (
-  (c.requires.0.0, (c.requires.0.1.0, holds_puts c.put_word-next.ensures.1 c.requires.0.1.1)),
-  omega (arith, puts_top c.args.n c.requires.0.1.1.text c.put_word-next.ensures.1 c.requires.1.0 (omega (arith, c.requires.1.1)), c.put_word-next.ensures.0),
+  (c.requires.0.0, (c.requires.0.1.0, holds_puts c.put-next.ensures c.requires.0.1.1)),
+  omega (arith, puts_top c.args.n c.requires.0.1.1.text c.put-next.ensures c.requires.1.0 (omega (arith, c.requires.1.1))),
 )
 
 pub returns-then-slots-eq0 : goal.returns-then-slots-eq0
 returns-then-slots-eq0 c k d s base from t σ u e h =
     let l : length t ≡ c.args.n = omega (arith, h.size, c.requires.1.1) in
-    let x = spelled_at c.wrapper.ensures c.in-Bytes.is in
-    let f = some_is (sym (words_of _ u e).0 ∙ x.0.0) in
+    let f = some_is (sym (words_of _ u e).0 ∙ sym c.in-Some.ensures.0) in
     let g = (newest_part h (omega (arith, l, c.requires.1.1))).1 in
     by (ap (λ (y : Text). recorded y σ) (behind t (at_slots (b u.1) t) (t ++ b u.0) (ap slots_in (sym g) ∙ sym c.slots-slots.ensures.0 ∙ c.if-slots-eq0.true) ∙ ap (λ (y : Text). t ++ y) f))
     (c.recorded.ensures k d s base from _ σ
-    (stands_puts h c.put_word-next.ensures.1 (omega (arith, length-append t (take c.in-Bytes.more c.wrapper.new.word), c.put_word-next.ensures.0, l, x.1, c.requires.1.1))))
+    (stands_puts h c.put-next.ensures (omega (arith, length-append t c.in-Some.word.now, l, c.in-Some.ensures.1, c.requires.1.1))))
 
 pub wrap_slots-requires : goal.wrap_slots-requires
 wrap_slots-requires c =

@@ -10,7 +10,7 @@ use Rattle.grammar.specs.Laws.States.{Past, ate, ate_none, went_in, past_from, n
 use Rattle.grammar.specs.Text.{starts, Text, b, join, same, choose, if◌then◌otherwise◌, run}
 use Rattle.grammar.specs.States.{moved_to, deeper, peeked, cv_to, templated_to}
 use Rattle.parser.specs.Leaves.{Skips, qualifies}
-use Rattle.parser.specs.Laws.Wraps.{stands_puts, spelled_at, spelled_none}
+use Rattle.parser.specs.Laws.Wraps.{stands_puts}
 use Rattle.grammar.specs.Limits.{most_open, most_length, kept_bytes}
 use Rattle.grammar.specs.Reader.{State, ok, onto, push_sub, give, at_code, recorded, return, ◌>>◌, Reader, by_code, refused}
 use Rattle.grammar.specs.Laws.Agree.{moved}
@@ -1411,19 +1411,19 @@ operator-operator_name-requires t c =
 
 pub operator-word-requires : goal.operator-word-requires
 operator-word-requires t c =
-    (stack_by c.moved-behind.ensures c.requires.1.text, (spelled_at c.operator_name.ensures c.in-Bytes.is).1)
+    (stack_by c.moved-behind.ensures c.requires.1.text, omega (arith, c.in-Some.ensures.1))
 
-pub operator-returns-in-Bytes : goal.operator-returns-in-Bytes
-operator-returns-in-Bytes t c =
-    λ σ h. oper_word h c.if-s-at.false c.moved-behind.ensures c.operator_name.ensures c.in-Bytes.is (c.word.ensures _ _ _)
+pub operator-returns-in-Some : goal.operator-returns-in-Some
+operator-returns-in-Some t c =
+    λ σ h. oper_word h c.if-s-at.false c.moved-behind.ensures c.in-Some.ensures.0 (c.word.ensures _ _ _)
 
 pub operator-returns-then-a-ne99 : goal.operator-returns-then-a-ne99
 operator-returns-then-a-ne99 t c =
-    λ σ h. by (operator_no_c _ _ σ h.rest c.if-s-at.false (spelled_none c.operator_name.ensures c.in_default.is) c.if-a-ne99.true) refuses
+    λ σ h. by (operator_no_c _ _ σ h.rest c.if-s-at.false (sym c.in_default.ensures.0) c.if-a-ne99.true) refuses
 
 pub operator-returns-then-c-ne118 : goal.operator-returns-then-c-ne118
 operator-returns-then-c-ne118 t c =
-    λ σ h. by (operator_no_v _ _ σ h.rest c.if-s-at.false (spelled_none c.operator_name.ensures c.in_default.is) c.if-c-ne118.true) refuses
+    λ σ h. by (operator_no_v _ _ σ h.rest c.if-s-at.false (sym c.in_default.ensures.0) c.if-c-ne118.true) refuses
 
 pub operator-put-operator-requires : goal.operator-put-operator-requires
 unfolding b
@@ -1436,16 +1436,15 @@ operator-ty-got-requires t c = (
   omega (arith, c.decreases, puts_at c.moved-behind.ensures c.put-operator.ensures, c.if-s-at.false),
   (
     _,
-    oper_holds c.requires.1 c.if-s-at.false c.moved-behind.ensures
-        c.operator_name.ensures c.put-operator.ensures,
+    oper_holds c.requires.1 c.if-s-at.false c.moved-behind.ensures c.put-operator.ensures,
   ),
 )
 
 pub operator-returns-in_default-got : goal.operator-returns-in_default-got
 unfolding b
 operator-returns-in_default-got t c =
-    λ σ h. oper_refused h c.if-s-at.false c.moved-behind.ensures c.operator_name.ensures
-    c.put-operator.ensures c.in_default.is c.if-a-ne99.false
+    λ σ h. oper_refused h c.if-s-at.false c.moved-behind.ensures
+    c.put-operator.ensures c.in_default.ensures.0 c.if-a-ne99.false
     c.if-c-ne118.false c.ty-got.ensures c.in_default-got.is
 
 pub operator-with_templated-requires : goal.operator-with_templated-requires
@@ -1455,7 +1454,7 @@ operator-with_templated-requires t c =
 pub operator-overflow_add-n : goal.operator-overflow_add-n
 unfolding b
 operator-overflow_add-n t c =
-    let h = oper_holds c.requires.1 c.if-s-at.false c.moved-behind.ensures c.operator_name.ensures c.put-operator.ensures in
+    let h = oper_holds c.requires.1 c.if-s-at.false c.moved-behind.ensures c.put-operator.ensures in
     let w = (got c.in-Text.is (c.ty-got.ensures _ h)).wrote in
     omega (arith, w.size, w.short)
 
@@ -1466,8 +1465,8 @@ operator-given-requires t c =
 pub operator-returns : goal.operator-returns
 unfolding b
 operator-returns t c =
-    λ σ h. oper_typed h c.if-s-at.false c.moved-behind.ensures c.operator_name.ensures
-    c.put-operator.ensures c.in_default.is c.if-a-ne99.false
+    λ σ h. oper_typed h c.if-s-at.false c.moved-behind.ensures
+    c.put-operator.ensures c.in_default.ensures.0 c.if-a-ne99.false
     c.if-c-ne118.false c.ty-got.ensures c.in-Text.is c.with_templated.ensures c.given.ensures
 
 -- ---------------------------------------------------------------- pack
@@ -2072,14 +2071,14 @@ ty_inner-builtin-requires t c =
 pub ty_inner-word-requires : goal.ty_inner-word-requires
 ty_inner-word-requires t c =
     let passed : Past c.args.s.now c.args.p c.in-Byte.c c.in-Byte.behind = took _ _ c.take.ensures c.in-Byte.is in
-    (stack_by passed.next c.requires.1.text, (spelled_at c.builtin.ensures c.in-Bytes.is).1)
+    (stack_by passed.next c.requires.1.text, omega (arith, c.in-Some.ensures.1))
 
-pub ty_inner-returns-in-Bytes : goal.ty_inner-returns-in-Bytes
-ty_inner-returns-in-Bytes t c =
+pub ty_inner-returns-in-Some : goal.ty_inner-returns-in-Some
+ty_inner-returns-in-Some t c =
     let passed : Past c.args.s.now c.args.p c.in-Byte.c c.in-Byte.behind = took _ _ c.take.ensures c.in-Byte.is in
     λ σ h.
     let l = byte_inside h refl (ap peeked passed.there) in
-    by (from_text (type_inner reading) σ (byte_at h refl (ap peeked passed.there)) (inner_letter _ _ σ _ (spelled_at c.builtin.ensures c.in-Bytes.is).0.0))
+    by (from_text (type_inner reading) σ (byte_at h refl (ap peeked passed.there)) (inner_letter _ _ σ _ (sym c.in-Some.ensures.0)))
     (less (omega (arith, h.deep)) (reads_moved passed.next (c.word.ensures _ _ _) h (omega (arith, l)) (omega arith)))
 
 pub ty_inner-array-requires : goal.ty_inner-array-requires
@@ -2198,7 +2197,7 @@ ty_inner-returns-in-48-to-57 t c =
     let passed : Past c.args.s.now c.args.p c.in-Byte.c c.in-Byte.behind = took _ _ c.take.ensures c.in-Byte.is in
     λ σ h. by (same_from (type_inner reading) (class_type reading) σ
     (byte_at h refl (ap peeked passed.there))
-    (inner_class _ _ σ (no_letter _ _ c.builtin.ensures c.in_default-builtin.is)
+    (inner_class _ _ σ (no_letter _ _ c.in_default-builtin.ensures.0)
     (no_head _ c.in-48-to-57.in_default-own.rest
     (λ e. omega (arith, e, c.in-48-to-57.if-c-lt58-own.true))
     (λ e. omega (arith, e, c.in-48-to-57.if-c-lt58-own.true)))))
@@ -2208,7 +2207,7 @@ pub ty_inner-returns-in_default-c : goal.ty_inner-returns-in_default-c
 ty_inner-returns-in_default-c t c =
     let passed : Past c.args.s.now c.args.p c.in-Byte.c c.in-Byte.behind = took _ _ c.take.ensures c.in-Byte.is in
     λ σ h. by (from_text (type_inner reading) σ (byte_at h refl (ap peeked passed.there))
-    (inner_4 _ _ σ (no_letter _ _ c.builtin.ensures c.in_default-builtin.is)
+    (inner_4 _ _ σ (no_letter _ _ c.in_default-builtin.ensures.0)
     (no_head _ c.in_default-c.in_default-own.rest (λ e. omega (arith, e, c.in_default-c.if-c-lt48-own.true)) (λ e. omega (arith, e, c.in_default-c.if-c-lt48-own.true)))
     (digit_not _ (λ i. absurd (omega (arith, i, c.in_default-c.if-c-lt48-own.true)))))) refuses
 
@@ -2216,7 +2215,7 @@ pub ty_inner-returns-in_default-c-2 : goal.ty_inner-returns-in_default-c-2
 ty_inner-returns-in_default-c-2 t c =
     let passed : Past c.args.s.now c.args.p c.in-Byte.c c.in-Byte.behind = took _ _ c.take.ensures c.in-Byte.is in
     λ σ h. by (from_text (type_inner reading) σ (byte_at h refl (ap peeked passed.there))
-    (inner_4 _ _ σ (no_letter _ _ c.builtin.ensures c.in_default-builtin.is)
+    (inner_4 _ _ σ (no_letter _ _ c.in_default-builtin.ensures.0)
     (no_head _ c.in_default-c.in_default-own.rest (λ e. omega (arith, e, c.in_default-c.if-c-lt77-own.true)) (λ e. omega (arith, e, c.in_default-c.if-c-lt77-own.true)))
     (digit_not _ (λ i. c.in_default-c.if-c-lt58-own.false)))) refuses
 
@@ -2224,7 +2223,7 @@ pub ty_inner-returns-in_default-c-3 : goal.ty_inner-returns-in_default-c-3
 ty_inner-returns-in_default-c-3 t c =
     let passed : Past c.args.s.now c.args.p c.in-Byte.c c.in-Byte.behind = took _ _ c.take.ensures c.in-Byte.is in
     λ σ h. by (from_text (type_inner reading) σ (byte_at h refl (ap peeked passed.there))
-    (inner_4 _ _ σ (no_letter _ _ c.builtin.ensures c.in_default-builtin.is)
+    (inner_4 _ _ σ (no_letter _ _ c.in_default-builtin.ensures.0)
     (no_head _ c.in_default-c.in_default-own.rest (λ e. omega (arith, e, c.in_default-c.if-c-lt81-own.false)) (λ e. omega (arith, e, c.in_default-c.if-c-lt81-own.false)))
     (digit_not _ (λ i. c.in_default-c.if-c-lt58-own.false)))) refuses
 
@@ -2236,7 +2235,7 @@ ty_inner-returns-in-80 t c =
     let v : Row_of c.in-Byte.c =
     elim c.in-80-1.branch [ ty_inner-in-67-1 x ↦ lettered_row _ x.in-67-1.keys1 | ty_inner-in_default+else-c-lt48+else-c-lt58+else-c-lt77+then-c-lt81 y ↦ between_row _ y.in_default-1.rest.0.0.0.0.0.1 y.in_default-1.rest.0.0.1 y.if-c-lt77-1.false y.if-c-lt81-1.true ] in
     by (from_text (type_inner reading) σ (byte_at h refl (ap peeked passed.there))
-    (inner_wrapper _ _ σ v.0 (no_letter _ _ c.builtin.ensures c.in_default-builtin.is) v.1.1 (v.1.0 _)))
+    (inner_wrapper _ _ σ v.0 (no_letter _ _ c.in_default-builtin.ensures.0) v.1.1 (v.1.0 _)))
     (sooner (omega arith) (call_moved keep passed.next (c.wrap.ensures v.0 v.1.0) h (omega (arith, l))))
 
 -- ---------------------------------------------------------------- unq
