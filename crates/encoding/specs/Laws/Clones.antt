@@ -29,6 +29,7 @@ use Rattle.encoding.specs.Encodings.{Fresh, Encodes, refuses, Least}
 use Rattle.encoding.specs.Laws.Answers.{encodes_by, refusal, Answered, answered}
 use Rattle.encoding.specs.Laws.Labels.{after, clone, clone_read}
 use Rattle.encoding.specs.Laws.Specials.{prefixed}
+use Rattle.grammar.specs.declared.refusal.Refusal.{Refusal}
 
 -- ---------------------------------------------------------------- slices with nothing in them
 
@@ -139,7 +140,7 @@ module _ {s text₀ text : Text} {p₀ p : Parser} {n at : ℕ} (c : Clones s te
       read_is : (at ≡ 0 → ⊥) → reading ⟨encoding⟩ (start s) ≡ onto (after c.words) (reading ⟨encoding⟩ (start part))
       read_is h = c.is h ∙ ap (λ (t : Text). onto (after c.words) (reading ⟨encoding⟩ (start t))) (sym i)
 
-      pub clones_refused : {j : ℕ} → r ≡ Refused j → Encodes (keep 0) s [] m r (reading ⟨encoding⟩ (start s))
+      pub clones_refused : {j : Refusal} → r ≡ Refused j → Encodes (keep 0) s [] m r (reading ⟨encoding⟩ (start s))
       unfolding onto
       clones_refused {j} e = go (eqb at 0) refl
         where
