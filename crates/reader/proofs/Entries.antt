@@ -36,7 +36,7 @@ module _ {k d : ℕ} {s base : Text} {from : ℕ} {text store ends store' ends' 
 
 -- a push that was refused is the whole answer
 pub push_refused :
-    {k d : ℕ} {s s' base : Text} {from : ℕ} {m m' : Memory} {p : Parser} {n : ℕ} {r : Read} {f : Result (Unit {0})} {j : ℕ} (g : Unit {0} → Reader Text) →
+    {k d : ℕ} {s s' base : Text} {from : ℕ} {m m' : Memory} {p : Parser} {n : ℕ} {r : Read} {f : Result (Unit {0})} {j : Refusal} (g : Unit {0} → Reader Text) →
     r ≡ Refused j → Pushes s m n p r f → Refines k d s' base from m' r (onto g f)
 unfolding onto
 push_refused {k} {d} {s} {s'} {base} {from} {m} {m'} {p} {n} {r} {f} {j} g e u =

@@ -60,7 +60,7 @@ list_refused {k} {d} {s} {base} {from} {m} {r} {f} {j} e h = told (subst (λ (x 
 
 -- the answer of a list that is none
 pub refuses_list : {k d : ℕ} {s base : Text} {from : ℕ} {m : Memory} {r : Read} {list : Texts} {j : Refusal} → list ≡ items_as.Refused j → r ≡ refused_of list → Refines k d s base from m r (refused (refusal_number j))
-refuses_list {k} {d} {s} {base} {from} {m} {r} {list} {j} e f = subst (λ (x : Read). Refines k d s base from m x (refused j)) (sym (f ∙ ap refused_of e)) refuses
+refuses_list {k} {d} {s} {base} {from} {m} {r} {list} {j} e f = subst (λ (x : Read). Refines k d s base from m x (refused (refusal_number j))) (sym (f ∙ ap refused_of e)) refuses
 
 -- ---------------------------------------------------------------- up to an E
 

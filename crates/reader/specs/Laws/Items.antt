@@ -137,13 +137,13 @@ module _ {kind : Kind} {s : Text} {m₀ : Memory} {p₀ : Parser} {m : Memory} {
       (sym (l.same ∙ loop_stops kind l.texts l.state e)) (listed l.stands l.count_is)
 
   pub listed_refuses :
-      {k d k' d' : ℕ} {s' base s'' base' : Text} {from from' : ℕ} {m' m'' : Memory} {r : Read} {list : Texts} {j : ℕ} →
+      {k d k' d' : ℕ} {s' base s'' base' : Text} {from from' : ℕ} {m' m'' : Memory} {r : Read} {list : Texts} {j : Refusal} →
       goes_on kind l.state.rest ≡ true → r ≡ Refused j → Refines k d s' base from m' r (item_of kind l.state) → list ≡ unlisted_of r →
       Lists k' d' s'' base' from' m'' list (looped kind [] σ₀)
   listed_refuses {k' = k'} {d' = d'} {s'' = s''} {base' = base'} {from' = from'} {m'' = m''} {r = r} {list = list} {j = j} e f h g =
       subst (λ (x : Result (List Text)). Lists k' d' s'' base' from' m'' list x)
       (sym (l.same ∙ loop_refuses kind l.texts l.state e (refused_is f h)))
-      (subst (λ (x : Texts). Lists k' d' s'' base' from' m'' x (refused j)) (sym (g ∙ ap unlisted_of f)) unlisted)
+      (subst (λ (x : Texts). Lists k' d' s'' base' from' m'' x (refused (refusal_number j))) (sym (g ∙ ap unlisted_of f)) unlisted)
 
 comma_size : (n : ℕ) → length (before_text n) ≡ 2 * min n 1
 unfolding b

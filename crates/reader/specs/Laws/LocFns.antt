@@ -72,7 +72,7 @@ module _ (n : Text) (s : Text) (at : ℕ) (σ : State) (e : σ.rest ≡ drop at 
 
 -- a list that was refused is the whole answer
 pub unlisted_on :
-    {k d k' d' : ℕ} {s base s' base' : Text} {from from' : ℕ} {m m' : Memory} {r : Texts} {v : Read} {f : Result (List Text)} {j : ℕ} (g : List Text → Reader Text) (g' : Text → Reader Text) →
+    {k d k' d' : ℕ} {s base s' base' : Text} {from from' : ℕ} {m m' : Memory} {r : Texts} {v : Read} {f : Result (List Text)} {j : Refusal} (g : List Text → Reader Text) (g' : Text → Reader Text) →
     r ≡ items_as.Refused j → v ≡ refused_of r → Lists k d s base from m r f → Refines k' d' s' base' from' m' v (onto g' (onto g f))
 unlisted_on g g' e i h = by (then_refused g' (then_refused g (list_refused e h))) (refuses_list e i)
 

@@ -217,7 +217,7 @@ module _ {s : Text} {m₀ : Memory} {p₀ : Parser} {m m' : Memory} {p : Parser}
   unfolding onto
   prefixed_refuses {k} {d} {s'} {base} {from} {m''} {v} {j} y f g =
       by (ap (onto (named y)) (then_refused closed (l.same ∙ prefixes_refuse l.parts l.state (byte_here l e (ne_eqb c 69 n)) (part_refused f told_next))))
-      (subst (λ (w : Read). Refines k d s' base from m'' w (refused j)) (sym (g ∙ ap unprefixed_of f)) refuses)
+      (subst (λ (w : Read). Refines k d s' base from m'' w (refused (refusal_number j))) (sym (g ∙ ap unprefixed_of f)) refuses)
 
   pub prefixed_more : {p' : Parser} {q' : Parts} → r ≡ prefix_as.Parts p' q' → Prefixed s m₀ p₀ m' p' q' σ₀
   prefixed_more {p'} {q'} f =

@@ -33,6 +33,7 @@ use Rattle.reader.specs.Laws.Items.{peek_byte, peek_end, byte_within, while_stop
 use Rattle.reader.specs.Laws.Closes.{closed_no, closed_yes, then_refused, then_ok, behind_is, arg_pack}
 use Rattle.grammar.specs.declared.refusal.Refusal.{Refusal}
 use Rattle.grammar.specs.declared.refusal.Refusal.TheVariants.{LongText}
+use Rattle.grammar.specs.Refusals.{refusal_number}
 
 -- ---------------------------------------------------------------- the definition, from a pack with texts on
 
@@ -260,7 +261,7 @@ module _ {s : Text} {m₀ : Memory} {p₀ : Parser} {text text' store ends : Lis
   pub packed_refuses : {k d : ℕ} {s' base : Text} {from : ℕ} {m : Memory} {j : Refusal} → r ≡ Refused j → Refines k d s' base from m r (g.pack reading σ₀)
   packed_refuses {k} {d} {s'} {base} {from} {m} {j} f =
       by (l.same ∙ goes_wrong l.around l.texts l.state (before l e i) (refused_is f told))
-      (subst (λ (x : Read). Refines k d s' base from m x (refused j)) (sym f) refuses)
+      (subst (λ (x : Read). Refines k d s' base from m x (refused (refusal_number j))) (sym f) refuses)
 
   module _ {p'' : Parser} {x : ℕ} (f : r ≡ read p'' x) where
     pub text_short : x ≤ most_text_bytes
