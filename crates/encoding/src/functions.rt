@@ -8,6 +8,7 @@ ghost use Rattle.parser.specs.Holds.{mem, Ready, Reads, keep};
 ghost use Rattle.encoding.specs.Encodings.{Qualifies, LoneVoid, GoesOn, with_parameters, with_returned};
 
 use grammar::codes;
+use grammar::refusal::Refusal;
 use grammar::state::{Parser, Peeked, Read};
 use parser::memory;
 use reader::lists::{Kind, Texts};
@@ -102,7 +103,7 @@ fn function(
         return qualified(s, text, close, n + 2, from, to);
     }
     if Parser::TEXT < m {
-        return Read::Refused(11);
+        return Read::Refused(Refusal::LongText);
     }
     let close = memory::put(text, last, b")");
     qualified(s, text, close, n + m + 2, from, to)

@@ -13,6 +13,7 @@ ghost use Rattle.parser.specs.Wraps.{Wrapper};
 
 use crate::{memory, names};
 use grammar::codes;
+use grammar::refusal::Refusal;
 use grammar::state::{Parser, Read, Taken};
 use store::stack;
 
@@ -26,10 +27,10 @@ pub fn builtin_d(s: &[u8], text: &mut [u8], p: Parser) -> Read
 {
     let at = p.at;
     let Taken::Byte(c, next) = p.moved(at + 1).take(s) else {
-        return Read::Refused(4);
+        return Read::Refused(Refusal::NoRule);
     };
     let Some(word) = codes::builtin_d(c) else {
-        return Read::Refused(4);
+        return Read::Refused(Refusal::NoRule);
     };
     names::word(text, next, word)
 }
@@ -62,7 +63,7 @@ pub fn wrap(text: &mut [u8], store: &mut [u8], ends: &mut [u16], p: Parser, n: u
     let slots = stack::slots(text, from, top);
     if slots == 0 {
         let Some(word) = codes::wrapper(c) else {
-            return Read::Refused(4);
+            return Read::Refused(Refusal::NoRule);
         };
         let next = memory::put(text, p, word);
         return memory::recorded(text, store, ends, next, n + word.len());
@@ -98,7 +99,7 @@ pub fn wrap_slots(
         → Refines k d s base from (mem text.new store.new ends.new) result (recorded (at_slots w t) σ) }
 {
     let Some(word) = codes::slot_wrapper(c) else {
-        return Read::Refused(4);
+        return Read::Refused(Refusal::NoRule);
     };
     let size = woven(n, slots, word.len());
     if Parser::TEXT < size {
