@@ -8,8 +8,8 @@ use Rattle.catalogue.specs.Class.{lit_ok}
 use Rattle.catalogue.specs.Recogniser.{Rd, rd, stop, with_code, all_kinds}
 use Rattle.normal_walk.specs.Walk.{name, reference, value as value_at, literal as literal_at}
 use Rattle.normal_steps.specs.Parts.{part}
-use Rattle.normal_steps.specs.declared.marks.Reference.{Reference}
-use Rattle.normal_steps.specs.declared.marks.Literal.{Literal}
+use Rattle.normal_steps.specs.declared.marks.Referred.{Referred}
+use Rattle.normal_steps.specs.declared.marks.Valued.{Valued}
 
 -- ---------------------------------------------------------------- source names
 
@@ -37,7 +37,7 @@ pub record RefAt (s : Text) (at i end : ℕ) : Type 0 where
   pub behind : at < end
   pub inside : end ≤ length s
 
-abbrev pub RefIs : Text → ℕ → Option Reference → Type 0
+abbrev pub RefIs : Text → ℕ → Option Referred → Type 0
 RefIs s at (Some r) = RefAt s at r.index r.end
 RefIs s at None = reference (drop at s) ≡ stop
 
@@ -55,10 +55,10 @@ pub record Value (o : Rd Ty) (s : Text) (to kind : ℕ) (minus : Bool) (from : �
   pub some : from < to
   pub inside : to ≤ length s
 
-abbrev pub ValueIs : Text → ℕ → Bool → ℕ → Option Literal → Type 0
+abbrev pub ValueIs : Text → ℕ → Bool → ℕ → Option Valued → Type 0
 ValueIs s c g at (Some l) = Value (value_at (with_code kind_code c all_kinds) g (drop at s)) s l.end l.kind l.minus l.from × (at ≤ l.from)
 ValueIs s c g at None = value_at (with_code kind_code c all_kinds) g (drop at s) ≡ stop
 
-abbrev pub LitIs : Text → ℕ → Option Literal → Type 0
+abbrev pub LitIs : Text → ℕ → Option Valued → Type 0
 LitIs s at (Some l) = Value (literal_at (drop at s)) s l.end l.kind l.minus l.from × (at < l.from)
 LitIs s at None = literal_at (drop at s) ≡ stop

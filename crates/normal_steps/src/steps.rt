@@ -8,8 +8,8 @@ ghost use Rattle.normal_steps.specs.Carries.{at_literal, at_part, counts_arg, wr
 
 use crate::marks::{Referred, Valued};
 use crate::state::{Told, Writer};
-use crate::words::Named;
 use crate::{marks, memory, words};
+use grammar::state::Part;
 
 // The next byte is written, and taken.
 pub fn copy_byte(s: &[u8], out: &mut [u8], p: Writer) -> Writer
@@ -44,7 +44,7 @@ pub fn first_name(
         (work out.new ends.new words.new tables.new chains.new) p result }
 {
     let at = p.at;
-    let Named::At(from, to) = words::source_name(s, at) else {
+    let Some(Part { from, to }) = words::source_name(s, at) else {
         return Told::Bad;
     };
     let start = p.out;
@@ -73,7 +73,7 @@ pub fn first_reference(s: &[u8], out: &mut [u8], tables: &[u16], p: Writer) -> T
         (tables_to (out_to ws out.new) tables.now) p result }
 {
     let at = p.at;
-    let Referred::To(i, end) = marks::reference(s, at) else {
+    let Some(Referred { index: i, end }) = marks::reference(s, at) else {
         return Told::Bad;
     };
     if p.table <= i {
@@ -110,7 +110,7 @@ pub fn literal(
         (work out.new ends.new words.new tables.new chains.new) p result }
 {
     let at = p.at;
-    let Valued::To(to, kind, minus, from) = marks::literal(s, at) else {
+    let Some(Valued { end: to, kind, minus, from }) = marks::literal(s, at) else {
         return Told::Bad;
     };
     let marked = memory::put_byte(out, p.moved(to), b'L');
@@ -146,7 +146,7 @@ pub fn part(
         (work out.new ends.new words.new tables.new chains.new) p result }
 {
     let at = p.at;
-    let Named::At(from, to) = words::source_name(s, at) else {
+    let Some(Part { from, to }) = words::source_name(s, at) else {
         return Told::Bad;
     };
     let named = memory::put_name(out, p.moved(to), s, from, to);

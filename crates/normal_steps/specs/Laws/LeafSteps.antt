@@ -1,5 +1,5 @@
 -- What the writing holds after a source name, a reference or a literal was read. Assumes nothing.
-use Rattle.std.specs.Prelude.{Bool, true, false, [], ◌∷◌, ◌++◌, ◌≡◌, ℕ, suc, ◌+◌, ◌-◌, ◌≤◌, ◌<◌, take, drop}
+use Rattle.std.specs.Prelude.{Bool, true, false, [], ◌∷◌, ◌++◌, ◌≡◌, ℕ, suc, ◌+◌, ◌-◌, ◌≤◌, ◌<◌, take, drop, Option, Some, None}
 use Rattle.std.proofs.Common.{append_assoc, sym, ap, ◌∙◌, length-append, take_at}
 use Rattle.std.proofs.Math.Option.{some}
 use Rattle.std.proofs.Math.Path.{refl, subst}
@@ -7,6 +7,7 @@ use Prim.Native.Char.{code}
 use native.Mathlib.Omega.{arith}
 use Rattle.std.proofs.Math.ListN.{length, get_elem?, length-drop}
 use Rattle.grammar.specs.Text.{Text, choose}
+use Rattle.grammar.specs.declared.state.Part.{Part}
 use Rattle.catalogue.specs.Tree.{Ty, lit, kind_code}
 use Rattle.catalogue.specs.Spelling.{name_bytes}
 use Rattle.catalogue.specs.Recogniser.{Rd, rd, stop}
@@ -28,22 +29,18 @@ use Rattle.normal_steps.specs.Laws.Moves.{put_moved}
 use Rattle.normal_steps.specs.Laws.Limits.{passed_none, passed_more, room_for, stretch_for}
 use Rattle.normal_steps.specs.Laws.Steps.{with_some}
 use Rattle.normal_steps.specs.declared.state.Writer.{Writer}
-use Rattle.normal_steps.specs.declared.words.Named.{Named}
-use Rattle.normal_steps.specs.declared.words.Named.TheVariants.{At, Bad as no_name}
 use Rattle.normal_steps.specs.declared.marks.Referred.{Referred}
-use Rattle.normal_steps.specs.declared.marks.Referred.TheVariants.{To as to_entry, Bad as no_reference}
 use Rattle.normal_steps.specs.declared.marks.Valued.{Valued}
-use Rattle.normal_steps.specs.declared.marks.Valued.TheVariants.{To as to_value, Bad as no_value}
 
 -- ---------------------------------------------------------------- source names
 
 abbrev name_of : Text → ℕ → ℕ → Text
 name_of s from to = name_bytes (part s from to)
 
-pub no_name_at : (s : Text) (at : ℕ) {r : Named} → NameIs s at r → r ≡ no_name → name (drop at s) ≡ stop
+pub no_name_at : (s : Text) (at : ℕ) {r : Option Part} → NameIs s at r → r ≡ None → name (drop at s) ≡ stop
 no_name_at s at x e = subst (NameIs s at) e x
 
-pub name_at : (s : Text) (at : ℕ) {r : Named} {from to : ℕ} → NameIs s at r → r ≡ At from to → NameAt s at from to
+pub name_at : (s : Text) (at : ℕ) {r : Option Part} {p : Part} → NameIs s at r → r ≡ Some p → NameAt s at p.from p.to
 name_at s at x e = subst (NameIs s at) e x
 
 module _ {s : Text} {at from to : ℕ} (x : NameAt s at from to) where
@@ -78,11 +75,11 @@ module _ {s : Text} {at from to : ℕ} (x : NameAt s at from to) where
 
 -- ---------------------------------------------------------------- references
 
-pub no_reference_at : (s : Text) (at : ℕ) {r : Referred} → RefIs s at r → r ≡ no_reference → reference (drop at s) ≡ stop
-no_reference_at s at x e = subst (RefIs s at) e x
+pub no_reference_at : (s : Text) (at : ℕ) {r : Option Referred} → RefIs s at r → r ≡ None → reference (drop at s) ≡ stop
+no_reference_at s at h e = subst (RefIs s at) e x
 
-pub reference_at : (s : Text) (at : ℕ) {r : Referred} {i end : ℕ} → RefIs s at r → r ≡ to_entry i end → RefAt s at i end
-reference_at s at x e = subst (RefIs s at) e x
+pub reference_at : (s : Text) (at : ℕ) {r : Option Referred} {x : Referred} → RefIs s at r → r ≡ Some x → RefAt s at x.index x.end
+reference_at s at h e = subst (RefIs s at) e h
 
 module _ {s : Text} {ws : Work} {p : Writer} {σ : Notes} (h : Carries s ws p σ) {i end : ℕ} (x : RefAt s p.at i end) where
   same_entry : get_elem? σ.table x.index ≡ get_elem? σ.table i
@@ -105,12 +102,12 @@ module _ {s : Text} {ws : Work} {p : Writer} {σ : Notes} (h : Carries s ws p σ
 
 -- ---------------------------------------------------------------- literals
 
-pub no_literal_at : (s : Text) (at : ℕ) {r : Valued} → LitIs s at r → r ≡ no_value → literal (drop at s) ≡ stop
+pub no_literal_at : (s : Text) (at : ℕ) {r : Option Valued} → LitIs s at r → r ≡ None → literal (drop at s) ≡ stop
 no_literal_at s at x e = subst (LitIs s at) e x
 
-pub literal_at : (s : Text) (at : ℕ) {r : Valued} {to kind : ℕ} {g : Bool} {from : ℕ} → LitIs s at r → r ≡ to_value to kind g from
-    → Value (literal (drop at s)) s to kind g from × (at < from)
-literal_at s at x e = subst (LitIs s at) e x
+pub literal_at : (s : Text) (at : ℕ) {r : Option Valued} {x : Valued} → LitIs s at r → r ≡ Some x
+    → Value (literal (drop at s)) s x.end x.kind x.minus x.from × (at < x.from)
+literal_at s at h e = subst (LitIs s at) e h
 
 pub signed_below : (k : ℕ) (g : Bool) → k < 256 → signed_kind k g < most_note
 signed_below k true l = omega arith

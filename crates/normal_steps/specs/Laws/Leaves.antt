@@ -1,5 +1,5 @@
 -- Source names, references and literals of the walk, as the code finds their parts. Assumes nothing.
-use Rattle.std.specs.Prelude.{Bool, true, false, not, ◌&&◌, List, [], ◌∷◌, ◌≡◌, ℕ, zero, suc, ◌+◌, ◌-◌, ◌≤◌, ◌<◌, min, length, take, drop, get_or}
+use Rattle.std.specs.Prelude.{Bool, true, false, not, ◌&&◌, List, [], ◌∷◌, ◌≡◌, ℕ, zero, suc, ◌+◌, ◌-◌, ◌≤◌, ◌<◌, min, length, take, drop, get_or, Option as Maybe, Some, None}
 use Rattle.std.proofs.lemmas.Bool.{false≢true, lt-leb}
 use Rattle.std.proofs.Common.{⊎_elim, sym, ◌∙◌, le-leb}
 use Rattle.std.proofs.Math.Option.{Option, none, some}
@@ -21,7 +21,6 @@ use Rattle.normal_steps.specs.Laws.Tests.{next_here, next_not, first_zero, lt_or
 use Rattle.normal_steps.specs.Answers.{RefAt, most_index, Value, ValueIs, LitIs, valid_by}
 use Rattle.normal_steps.specs.Laws.Leads.{coded}
 use Rattle.normal_steps.specs.declared.marks.Valued.{Valued}
-use Rattle.normal_steps.specs.declared.marks.Valued.TheVariants.{To, Bad}
 
 -- ---------------------------------------------------------------- source names
 
@@ -207,7 +206,7 @@ module _ (s : Text) (at : ℕ) where
     literal_plain h = by_sign ∙ next_not 110 (of_kind true) (of_kind false (drop (at + 1) s)) (drop (at + 1) s) h
 
 -- a value's answer is the literal's
-pub from_value : (s : Text) (at kind : ℕ) (g : Bool) (from : ℕ) (r : Valued) → at < from
+pub from_value : (s : Text) (at kind : ℕ) (g : Bool) (from : ℕ) (r : Maybe Valued) → at < from
     → literal_at (drop at s) ≡ value_at (with_code kind_code kind all_kinds) g (drop from s) → ValueIs s kind g from r → LitIs s at r
-from_value s at kind g from (To to k m f) l e v = (record { of = v.0.of; byte = v.0.byte; is = e ∙ v.0.is; some = v.0.some; inside = v.0.inside }, omega arith)
-from_value s at kind g from Bad l e v = e ∙ v
+from_value s at kind g from (Some x) l e v = (record { of = v.0.of; byte = v.0.byte; is = e ∙ v.0.is; some = v.0.some; inside = v.0.inside }, omega arith)
+from_value s at kind g from None l e v = e ∙ v
