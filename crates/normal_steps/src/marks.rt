@@ -48,7 +48,10 @@ pub fn reference(s: &[u8], at: usize) -> Option<Referred>
     } else {
         number.value.saturating_add(1) as usize
     };
-    Some(Referred { index, end: end + 1 })
+    Some(Referred {
+        index,
+        end: end + 1,
+    })
 }
 
 // Decimal without leading zero, of digits.
