@@ -11,18 +11,18 @@ use Rattle.store.specs.Table.{Front}
 use Rattle.normal_nodes.specs.Nodes.{Node, Notes, notes, put, noted, pushed, firsts, number_of, tag_of, note_last_is}
 use Rattle.normal_nodes.specs.Laws.Numbered.{NumberIn, number_in}
 use Rattle.normal_steps.specs.Limits.{out_length}
-use Rattle.normal_steps.specs.declared.state.Writer.{Writer}
+use Rattle.normal_steps.specs.declared.state.State.{State}
 use Rattle.normal_steps.specs.States.{written_to, noted_to, entered_to}
 use Rattle.normal_steps.specs.WrittenAt.{WrittenAt}
 use Rattle.normal_steps.specs.Rows.{nodes_of}
 use Rattle.normal_steps.specs.Chains.{Findable}
-use Rattle.normal_steps.specs.Carries.{Work, out_to, tables_to, notes_to, Tabled, Numbered, Carries, Puts}
+use Rattle.normal_steps.specs.Carries.{Work, out_to, tables_to, notes_to, Tabled, Numbered, Carries}
 use Rattle.normal_steps.specs.Laws.WrittenAt.{front_wrote}
 use Rattle.normal_steps.specs.Laws.Rows.{length_nodes, nodes_at}
 use Rattle.normal_steps.specs.Laws.Leaves.{no_entry}
 use Rattle.normal_steps.specs.Laws.Entries.{some_at, numbered_at, firsts_length, last_none, last_at}
 
-module _ {s : Text} {ws : Work} {p : Writer} {σ : Notes} (h : Carries s ws p σ) where
+module _ {s : Text} {ws : Work} {p : State} {σ : Notes} (h : Carries s ws p σ) where
   -- ---------------------------------------------------------------- sizes
 
   pub out_size : length ws.out ≡ out_length
@@ -139,14 +139,15 @@ module _ {s : Text} {ws : Work} {p : Writer} {σ : Notes} (h : Carries s ws p σ
 pub wrote_paste : (o w : Text) (at : ℕ) → WrittenAt o (paste o at w (length w)) at (at + length w) w
 wrote_paste o w at = record { is = ap (λ (t : Text). take at o ++ t ++ drop (at + length w) o) (take-length w); end = refl }
 
-pub puts_by : {w o o' : Text} {p r : Writer} {k : ℕ} → r ≡ written_to p k → WrittenAt o o' p.out k w → Puts w o o' p r
-puts_by {w} {o} {o'} {p} {r} {k} e q = (
+pub puts_by : {w : Text} {s o' : Text} {ws : Work} {p r : State} {k : ℕ} → r ≡ written_to p k → WrittenAt ws.out o' p.out k w
+      → (r ≡ written_to p (p.out + length w)) × ((σ : Notes) → Carries s ws p σ → p.out + length w + 1 ≤ 4 * p.at → Carries s (out_to ws o') r (put w σ))
+puts_by {w} {s} {o'} {ws} {p} {r} {k} e q = (
   e ∙ ap (written_to p) q.end,
-  λ s ws σ h l. subst (λ (x : Writer). Carries s (out_to ws o') x (put w σ)) (sym e)
+  λ σ h l. subst (λ (x : State). Carries s (out_to ws o') x (put w σ)) (sym e)
       (with_out h (σ.out ++ w) o' k (front_wrote h.out_is h.out_count (omega (arith, h.out_count, h.place, h.source)) q)
       (omega (arith, q.end, h.out_count, length-append σ.out w)) (omega (arith, q.end))),
 )
 
 -- a node that was noted has its number
-pub numbered_note : {s : Text} {ws : Work} {p : Writer} (x : Node) (σ : Notes) {d : ℕ} → Carries s ws p (noted x σ) → d ≡ number_of x σ.nodes → Numbered p d
+pub numbered_note : {s : Text} {ws : Work} {p : State} (x : Node) (σ : Notes) {d : ℕ} → Carries s ws p (noted x σ) → d ≡ number_of x σ.nodes → Numbered p d
 numbered_note x σ h e = numbered h (subst (λ (k : ℕ). NumberIn k (noted x σ).nodes) (sym e) (number_in x σ.nodes))
