@@ -76,7 +76,7 @@ module _ {s : Text} {at from to : ℕ} (x : NameAt s at from to) where
 -- ---------------------------------------------------------------- references
 
 pub no_reference_at : (s : Text) (at : ℕ) {r : Option Referred} → RefIs s at r → r ≡ None → reference (drop at s) ≡ stop
-no_reference_at s at h e = subst (RefIs s at) e x
+no_reference_at s at h e = subst (RefIs s at) e h
 
 pub reference_at : (s : Text) (at : ℕ) {r : Option Referred} {x : Referred} → RefIs s at r → r ≡ Some x → RefAt s at x.index x.end
 reference_at s at h e = subst (RefIs s at) e h

@@ -1,8 +1,9 @@
 -- Tests of bytes at a place, and of parts. Assumes nothing.
-use Rattle.std.specs.Prelude.{Bool, true, false, not, ◌&&◌, ◌||◌, ◌⊎◌, ◌≡◌, ℕ, ◌+◌, ◌≤◌, ◌<◌, eqb, ltb, leb, length, take, drop}
+use Rattle.std.specs.Prelude.{Bool, true, false, not, ◌&&◌, ◌||◌, ◌⊎◌, ◌≡◌, ℕ, zero, suc, ◌+◌, ◌≤◌, ◌<◌, eqb, ltb, leb, length, take, drop}
 use Rattle.std.proofs.Math.Bool.{or_assoc, or-false}
 use mathlib.Core.List.{List, [], ◌∷◌}
-use Rattle.std.proofs.Common.{inl, inr, ap, ◌∙◌, arith, ltb-true, ltb-false, leb-true, drop-drop}
+use Rattle.std.proofs.lemmas.Bool.{false≢true}
+use Rattle.std.proofs.Common.{⊎_elim, inl, inr, ap, ◌∙◌, arith, ltb-true, ltb-false, leb-true, drop-drop}
 use Rattle.std.proofs.Math.Path.{refl, sym}
 use Prim.Native.String.{String}
 use Rattle.grammar.specs.Text.{Text, if◌then◌otherwise◌, b, same, starts, digit}
@@ -41,13 +42,6 @@ starts_same t [] h = starts_nothing t
 starts_same [] (y ∷ w) h = absurd (omega arith)
 starts_same (x ∷ t) (y ∷ w) h = ap (λ (q : Bool). eqb x y && q) (starts_same t w (omega arith))
 
--- ---------------------------------------------------------------- digits
-
-pub numeral_is : (v : Text) → 0 < length v → all (digit 10) v ≡ true → numeral v ≡ not (leading_zero v)
-unfolding numeral
-numeral_is [] l h = absurd (omega arith)
-numeral_is (x ∷ v) l h = rw (and_left (digit 10 x) (all (digit 10) v) h, and_right (digit 10 x) (all (digit 10) v) h) refl
-
 -- ---------------------------------------------------------------- numbers
 
 pub lt_or_le : (m n : ℕ) → (m < n) ⊎ (n ≤ m)
@@ -56,6 +50,38 @@ lt_or_le m n = go (ltb m n) refl
     go : (q : Bool) → ltb m n ≡ q → (m < n) ⊎ (n ≤ m)
     go true e = inl (ltb-true m n e)
     go false e = inr (ltb-false m n e)
+
+-- ---------------------------------------------------------------- bytes of a stretch
+
+-- f answers y for n numbers from lo on
+each : (ℕ → Bool) → Bool → ℕ → ℕ → Bool
+each f y lo zero = true
+each f y lo (suc n) = (if y then f lo otherwise not (f lo)) && each f y (lo + 1) n
+
+-- f was tried at each number of the stretch
+pub tried : (f : ℕ → Bool) (y : Bool) (lo n : ℕ) → each f y lo n ≡ true → (c : ℕ) → lo ≤ c → c < lo + n → f c ≡ y
+unfolding each if◌then◌otherwise◌
+tried f y lo zero h c l m = absurd (omega arith)
+tried f y lo (suc n) h c l m = ⊎_elim
+    (λ (k : lo < c). tried f y (lo + 1) n (and_right (told y (f lo)) (each f y (lo + 1) n) h) c (omega arith) (omega arith))
+    (λ (k : c ≤ lo). let e : lo ≡ c = omega arith in rw (← e) (told_is y (f lo) (and_left (told y (f lo)) (each f y (lo + 1) n) h)))
+    (lt_or_le lo c)
+  where
+    told : Bool → Bool → Bool
+    told v q = if v then q otherwise not q
+
+    told_is : (v q : Bool) → told v q ≡ true → q ≡ v
+    unfolding told if◌then◌otherwise◌
+    told_is true q e = e
+    told_is false true e = absurd (false≢true e)
+    told_is false false e = refl
+
+-- ---------------------------------------------------------------- digits
+
+pub numeral_is : (v : Text) → 0 < length v → all (digit 10) v ≡ true → numeral v ≡ not (leading_zero v)
+unfolding numeral
+numeral_is [] l h = absurd (omega arith)
+numeral_is (x ∷ v) l h = rw (and_left (digit 10 x) (all (digit 10) v) h, and_right (digit 10 x) (all (digit 10) v) h) refl
 
 -- ---------------------------------------------------------------- listed words
 
