@@ -16,6 +16,7 @@ pub enum Lead {
     None,
 }
 
+#[tactic(auto, using(crate::specs::Laws::Leads::bytes))]
 pub fn letter(c: u8) -> bool
     ensures { result ≡ there (with_code letter_code c all_letters) }
 {
@@ -44,6 +45,7 @@ pub fn letter(c: u8) -> bool
     )
 }
 
+#[tactic(auto, using(crate::specs::Laws::Leads::bytes))]
 pub fn wrapper(c: u8) -> bool
     ensures { result ≡ there (with_code wrap_code c all_wraps) }
 {

@@ -58,7 +58,17 @@ pub fn same_word(s: &[u8], a: usize, b: usize, from: usize, to: usize) -> bool
 fn is_reserved(word: &[u8]) -> bool
     ensures { result ≡ listed word.now reserved }
 {
-    RESERVED.iter().any(|w| *w == word)
+    RESERVED.iter().any(|w| word == *w)
+}
+
+// Whether a word may be a source name.
+fn is_name(word: &[u8]) -> bool
+    ensures { result ≡ name_ok word.now }
+{
+    match word {
+        [] | [b'0'..=b'9', ..] => false,
+        _ => word.iter().all(|c| word_byte(*c)) && !is_reserved(word),
+    }
 }
 
 // Whether a part may be a source name.
@@ -66,11 +76,7 @@ pub fn word_ok(s: &[u8], from: usize, to: usize) -> bool
     requires { to ≤ length s.now }
     ensures { result ≡ name_ok (part s.now from to) }
 {
-    if to <= from {
-        return false;
-    }
-    let word = &s[from..to];
-    !word[0].is_ascii_digit() && word.iter().all(|c| word_byte(*c)) && !is_reserved(word)
+    from < to && is_name(&s[from..to])
 }
 
 // <source-name> ::= <number> <identifier>, the number without leading zero

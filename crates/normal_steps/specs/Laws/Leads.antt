@@ -1,7 +1,9 @@
 -- Laws of Leads.antt. Assumes nothing.
-use Rattle.std.specs.Prelude.{Bool, ◌≡◌, ℕ}
+use Rattle.std.specs.Prelude.{Bool, ◌||◌, ◌≡◌, ℕ, map}
 use Rattle.std.proofs.Math.Bool.{true, false}
 use Rattle.std.proofs.lemmas.Bool.{false≢true}
+use Rattle.std.proofs.lemmas.Bool.Decides.{nat_tests}
+use Rattle.std.specs.List.{list_any}
 use mathlib.Core.List.{List, [], ◌∷◌}
 use Rattle.std.proofs.Math.Option.{Option, none, some}
 use Rattle.std.proofs.Math.Path.{refl, ap}
@@ -30,6 +32,15 @@ module _ {A : Type 0} (f : A → ℕ) (c : ℕ) where
   pub uncoded : (xs : List A) → none_of (Unit {0}) xs → with_code f c xs ≡ none
   uncoded xs h = (missed (Unit {0}) xs h).1
 
+  pub there_any : (xs : List A) → there (with_code f c xs) ≡ list_any (eqb c) (map f xs)
+  unfolding with_code if◌then◌otherwise◌
+  there_any [] = refl
+  there_any (x ∷ xs) = go (eqb c (f x)) (there_any xs)
+    where
+      go : (q : Bool) → there (with_code f c xs) ≡ list_any (eqb c) (map f xs) → there (if q then some x otherwise with_code f c xs) ≡ (q || list_any (eqb c) (map f xs))
+      go true e = refl
+      go false e = e
+
   pub coded : (xs : List A) (y : A) → with_code f c xs ≡ some y → f y ≡ c
   unfolding with_code if◌then◌otherwise◌
   coded [] y e = let z : true ≡ false = ap there (sym e) in absurd (false≢true (sym z))
@@ -38,6 +49,9 @@ module _ {A : Type 0} (f : A → ℕ) (c : ℕ) where
       go : (q : Bool) → eqb c (f x) ≡ q → (with_code f c xs ≡ some y → f y ≡ c) → (if q then some x otherwise with_code f c xs) ≡ some y → f y ≡ c
       go true g h e' = let z : x ≡ y = cc in rw (← z) (sym (eqb-true c (f x) g))
       go false g h e' = h e'
+
+-- for a test of the bytes
+pub ruleset bytes = (there_any, nat_tests)
 
 -- ---------------------------------------------------------------- wrappers and letters
 

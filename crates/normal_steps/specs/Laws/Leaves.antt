@@ -25,10 +25,15 @@ use Rattle.normal_steps.specs.declared.marks.Valued.{Valued}
 -- ---------------------------------------------------------------- source names
 
 -- the rules of an identifier, tested from the first byte on
-pub name_rules : (s : Text) (from to : ℕ) → from < to → to ≤ length s
-    → name_ok (part s from to) ≡ (not (digit 10 (get_or s from 0)) && (all word_byte (part s from to) && not (listed (part s from to) reserved)))
+pub name_rules : (n : Text) → 0 < length n → name_ok n ≡ (not (digit 10 (get_or n 0 0)) && (all word_byte n && not (listed n reserved)))
 unfolding name_ok
-name_rules s from to h l = rw (part_more s from to h l) refl
+name_rules [] h = absurd (omega arith)
+name_rules (c ∷ n) h = refl
+
+pub name_none : (n : Text) → length n ≡ 0 → name_ok n ≡ false
+unfolding name_ok
+name_none [] h = refl
+name_none (c ∷ n) h = absurd (omega arith)
 
 pub name_some : (n : Text) → name_ok n ≡ true → 0 < length n
 unfolding name_ok
@@ -66,12 +71,13 @@ module _ (s : Text) (at from : ℕ) (e : from ≡ at + length (run (digit 10) (d
     name_is : name (drop at s) ≡ named (cut size (drop from s))
     name_is = by_read (cut size (drop from s)) cut_is
 
-    pub name_end : length s ≤ from → name (drop at s) ≡ stop
-    name_end l = name_is ∙ ap (λ (t : Text). named (cut size t)) (rest_none s from l) ∙ named_none size
-
-    pub name_long : from ≤ length s → length s < from + size → name (drop at s) ≡ stop
+    -- the bytes end before the name does
+    pub name_long : length s < from + size → name (drop at s) ≡ stop
     unfolding cut if◌then◌otherwise◌
-    name_long w l = name_is ∙ rw (lt-leb size (length (drop from s)) (omega (arith, length-drop from s))) refl
+    name_long l = ⊎_elim
+        (λ (k : size < 1). name_is ∙ ap (λ (t : Text). named (cut size t)) (rest_none s from (omega arith)) ∙ named_none size)
+        (λ (k : 1 ≤ size). name_is ∙ rw (lt-leb size (length (drop from s)) (omega (arith, length-drop from s))) refl)
+        (lt_or_le size 1)
 
     pub name_by : (to : ℕ) → to ≡ from + size → to ≤ length s → name (drop at s) ≡ keep (name_ok (part s from to)) (rd (part s from to) (drop to s))
     unfolding cut if◌then◌otherwise◌

@@ -1,7 +1,10 @@
 -- Tests of bytes at a place, and of parts. Assumes nothing.
-use Rattle.std.specs.Prelude.{Bool, true, false, not, ◌&&◌, ◌||◌, ◌⊎◌, ◌≡◌, ℕ, ◌+◌, ◌≤◌, ◌<◌, eqb, ltb, leb, length, take, drop}
+use Rattle.std.specs.Prelude.{Bool, true, false, not, ◌&&◌, ◌||◌, ◌⊎◌, ◌≡◌, ℕ, ◌+◌, ◌≤◌, ◌<◌, eqb, ltb, leb, length, map, take, drop}
 use Rattle.std.proofs.Math.Bool.{or_assoc, or-false}
 use mathlib.Core.List.{List, [], ◌∷◌}
+use Rattle.std.specs.Cmp.Lexicographic.{pointwise}
+use Rattle.std.specs.List.{list_any, list_all}
+use denote.Ref.{Bor}
 use Rattle.std.proofs.Common.{inl, inr, ap, ◌∙◌, arith, ltb-true, ltb-false, leb-true, drop-drop}
 use Rattle.std.proofs.Math.Path.{refl, sym}
 use Prim.Native.String.{String}
@@ -41,13 +44,6 @@ starts_same t [] h = starts_nothing t
 starts_same [] (y ∷ w) h = absurd (omega arith)
 starts_same (x ∷ t) (y ∷ w) h = ap (λ (q : Bool). eqb x y && q) (starts_same t w (omega arith))
 
--- ---------------------------------------------------------------- digits
-
-pub numeral_is : (v : Text) → 0 < length v → all (digit 10) v ≡ true → numeral v ≡ not (leading_zero v)
-unfolding numeral
-numeral_is [] l h = absurd (omega arith)
-numeral_is (x ∷ v) l h = rw (and_left (digit 10 x) (all (digit 10) v) h, and_right (digit 10 x) (all (digit 10) v) h) refl
-
 -- ---------------------------------------------------------------- numbers
 
 pub lt_or_le : (m n : ℕ) → (m < n) ⊎ (n ≤ m)
@@ -57,23 +53,37 @@ lt_or_le m n = go (ltb m n) refl
     go true e = inl (ltb-true m n e)
     go false e = inr (ltb-false m n e)
 
+-- ---------------------------------------------------------------- digits
+
+pub numeral_is : (v : Text) → 0 < length v → all (digit 10) v ≡ true → numeral v ≡ not (leading_zero v)
+unfolding numeral
+numeral_is [] l h = absurd (omega arith)
+numeral_is (x ∷ v) l h = rw (and_left (digit 10 x) (all (digit 10) v) h, and_right (digit 10 x) (all (digit 10) v) h) refl
+
 -- ---------------------------------------------------------------- listed words
 
--- of the tests of n against listed words, q is what those before ws told, and y what all tell
-pub record Tested (n : Text) (q : Bool) (ws : List String) (y : Bool) : Type 0 where
-  pub is : (q || listed n ws) ≡ y
+-- the library's `all`, and its `==` of two texts
+pub all_is : (p : ℕ → Bool) (t : Text) → list_all p t ≡ all p t
+all_is p [] = refl
+all_is p (x ∷ t) = ap (λ (q : Bool). p x && q) (all_is p t)
 
-pub no_test : (n : Text) (ws : List String) → Tested n false ws (listed n ws)
-no_test n ws = record { is = refl }
+pub same_is : (s t : Text) → pointwise eqb s t ≡ same s t
+unfolding same
+same_is [] [] = refl
+same_is [] (y ∷ t) = refl
+same_is (x ∷ s) [] = refl
+same_is (x ∷ s) (y ∷ t) = ap (λ (q : Bool). eqb x y && q) (same_is s t)
 
-module _ {n : Text} where
-  pub one_test : {q r y : Bool} {w : String} {ws : List String} → Tested n q (w ∷ ws) y → r ≡ same n (b w) → Tested n (q || r) ws y
-  unfolding listed
-  one_test {q} {r} {y} {w} {ws} h e = record { is = rw e (or_assoc q (same n (b w)) (listed n ws) ∙ h.is) }
-
-  pub all_tests : {q y : Bool} → Tested n q [] y → q ≡ y
-  unfolding listed
-  all_tests {q} h = sym (or-false q) ∙ h.is
+-- `any` over the words
+pub listed_any : (n : Text) (xs : List (Bor Text)) (ws : List String) → map (λ x. x.now) xs ≡ map b ws → list_any (λ x. pointwise eqb n x.now) xs ≡ listed n ws
+unfolding listed
+listed_any n [] [] e = refl
+listed_any n [] (w ∷ ws) e = cc
+listed_any n (x ∷ xs) [] e = cc
+listed_any n (x ∷ xs) (w ∷ ws) e =
+    let f : x.now ≡ b w = cc in
+    let g : map (λ (y : Bor Text). y.now) xs ≡ map b ws = cc in
+    rw (same_is n x.now, f, listed_any n xs ws g) refl
 
 -- no word of the list has more than k bytes
 no_longer : ℕ → List String → Bool

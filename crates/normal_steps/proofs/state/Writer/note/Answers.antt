@@ -19,4 +19,4 @@ pub returns-clause-steps : goal.returns-clause-steps
 returns-clause-steps c σ h =
     let x = c.args.x in
     note_written h c.requires.1.1.0 x.tag x.of x.word.from x.word.to c.requires.1.0 _ c.put_two.ensures c.put_two-2.ensures
-    (c.link.ensures ∙ ap (linked_at c.args.self.now.chains.now c.args.self.now.state.nodes) c.bucket-head.ensures) refl ?
+    (c.link.ensures ∙ ap (linked_at c.args.self.now.chains.now c.args.self.now.state.nodes) c.bucket-head.ensures) refl c.in_default.ensures
