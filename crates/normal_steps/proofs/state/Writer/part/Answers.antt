@@ -1,0 +1,25 @@
+use Rattle.std.proofs.Common.{refl, ap, sym, ◌∙◌, arith}
+use Rattle.normal_walk.specs.Walk.{name}
+use Rattle.normal_steps.specs.Carries.{refuses}
+use Rattle.normal_steps.specs.Laws.Limits.{room_less, spent}
+use Rattle.normal_steps.specs.Laws.Told.{by, within}
+use Rattle.normal_steps.specs.Laws.Steps.{with_none, with_some}
+use Rattle.normal_steps.specs.Laws.LeafSteps.{name_size, name_fits, name_wrote, name_held, name_room}
+use Rattle.normal_steps.proofs.state.Writer.part.Goals as goal
+
+pub returns-in_err-word-clause-reads : goal.returns-in_err-word-clause-reads
+returns-in_err-word-clause-reads c σ h = by (with_none _ (ap name h.rest ∙ c.in_err-word.ensures)) refuses
+
+pub put_name-requires-clause-room : goal.put_name-requires-clause-room
+put_name-requires-clause-room c = name_fits c.in_ok-word.ensures c.requires.1.1 refl
+
+pub note-u-requires : goal.note-u-requires
+note-u-requires c =
+    let x = c.in_ok-word.ensures in
+    let h = c.requires.1.1 in
+    let y = c.put_name.ensures.puts in
+    let e = c.put_name.ensures.same_symbol in
+    ((omega arith, omega arith), ((omega arith, omega (arith, x.inside, ap length e)), (room_less (name_room x h refl y.0), (_, name_held x h refl y.1))))
+
+pub returns-clause-reads : goal.returns-clause-reads
+returns-clause-reads c σ h = ?
