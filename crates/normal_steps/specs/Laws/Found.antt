@@ -20,13 +20,12 @@ module _ {s e w c : Text} {n : ℕ} (h : Findable s e w c n) where
 
   module _ (x : Node) where
     pub found_at : (i : ℕ) → i < n → same_node x (node_at s e w i) ≡ true → Sought (same_node x) (nodes_of s e w n) n (Some i)
-    found_at i l t =
-        (
-          l,
-          seek_some s e w (same_node x) n i l t λ k m u.
+    found_at i l t = (
+      l,
+      seek_some s e w (same_node x) n i l t λ k m u.
           h.distinct k i m l
           (ap (λ (y : Node). same_node y (node_at s e w i)) (sym (same_node_eq x (node_at s e w k) u)) ∙ t),
-        )
+    )
 
     pub found_none : {bound i : ℕ} → Left (node_at s e w) n x bound i → bound ≤ i → Sought (same_node x) (nodes_of s e w n) n None
     found_none f m = seek_none s e w (same_node x) n (left_none h.linked x f m)

@@ -1,5 +1,5 @@
 -- What the writing holds after a source name, a reference or a literal was read. Assumes nothing.
-use Rattle.std.specs.Prelude.{Bool, true, false, [], ◌∷◌, ◌++◌, ◌≡◌, ℕ, suc, ◌+◌, ◌-◌, ◌≤◌, ◌<◌, take, drop, Option, Some, None}
+use Rattle.std.specs.Prelude.{Bool, true, false, [], ◌∷◌, ◌++◌, ◌≡◌, ℕ, suc, ◌+◌, ◌-◌, ◌*◌, ◌≤◌, ◌<◌, take, drop}
 use Rattle.std.proofs.Common.{append_assoc, sym, ap, ◌∙◌, length-append, take_at}
 use Rattle.std.proofs.Math.Option.{some}
 use Rattle.std.proofs.Math.Path.{refl, subst}
@@ -7,7 +7,6 @@ use Prim.Native.Char.{code}
 use native.Mathlib.Omega.{arith}
 use Rattle.std.proofs.Math.ListN.{length, get_elem?, length-drop}
 use Rattle.grammar.specs.Text.{Text, choose}
-use Rattle.grammar.specs.declared.state.Part.{Part}
 use Rattle.catalogue.specs.Tree.{Ty, lit, kind_code}
 use Rattle.catalogue.specs.Spelling.{name_bytes}
 use Rattle.catalogue.specs.Recogniser.{Rd, rd, stop}
@@ -29,8 +28,10 @@ use Rattle.normal_steps.specs.Laws.Moves.{holds_moved}
 use Rattle.normal_steps.specs.Laws.Limits.{passed_none, passed_more, room_for, stretch_for}
 use Rattle.normal_steps.specs.Laws.Steps.{with_some}
 use Rattle.normal_steps.specs.declared.state.State.{State}
-use Rattle.normal_steps.specs.declared.marks.Referred.{Referred}
-use Rattle.normal_steps.specs.declared.marks.Valued.{Valued}
+
+-- a part of the symbol as another name of it has it
+pub same_part : {s s' : Text} (from to : ℕ) → s' ≡ s → part s' from to ≡ part s from to
+same_part from to e = ap (λ (t : Text). part t from to) e
 
 -- ---------------------------------------------------------------- source names
 
@@ -143,22 +144,23 @@ module _ {s : Text} {ws : Work} {p : State} {σ : Notes} (h : Carries s ws p σ)
       → Carries s' ws' q marked
   literal_marked f = f _ (holds_moved h to (omega (arith, x.some)) x.inside) (omega (arith, h.short, x.some))
 
-  module _ {q r : State} {u : Text} (y : q ≡ written_to (moved_to p to) (p.out + 1)) (a : u ≡ part s p.at to) where
+  module _ {u : Text} (a : u ≡ part s p.at to) where
     literal_length : length u ≡ to - p.at
     literal_length = ap length a ∙ part_length s p.at to x.inside
 
-    pub literal_fits : {o : Text} → length o ≡ out_length → q.out + (to - p.at) ≤ length o
-    literal_fits l = omega (arith, l, h.short, h.place, h.source, x.inside, x.some, ap (λ (z : State). z.out) y)
+    module _ {q : State} (y : q ≡ written_to (moved_to p to) (p.out + 1)) where
+      pub literal_spare : q.out + length u + 1 ≤ 4 * q.at
+      literal_spare =
+          omega (arith, literal_length, h.short, x.some, ap (λ (z : State). z.out) y, ap (λ (z : State). z.at) y)
 
-    pub literal_spare : q.out + length u + 1 ≤ 4 * q.at
-    literal_spare =
-        omega (arith, literal_length, h.short, x.some, ap (λ (z : State). z.out) y, ap (λ (z : State). z.at) y)
+      pub literal_fits : q.out + (to - p.at) ≤ out_length
+      literal_fits = omega (arith, literal_length, literal_spare, h.source, x.inside, ap (λ (z : State). z.at) y)
 
-    module _ (z : r ≡ written_to q (q.out + length u)) where
-      pub literal_wrote : Passed to (to - p.at + 1) p r
-      literal_wrote =
-          let l : 0 + 1 + length u ≡ to - p.at + 1 = omega (arith, literal_length) in
-          subst (λ (k : ℕ). Passed to k p r) l (passed_more (length u) (passed_more 1 (passed_none p refl) y) z)
+      module _ {r : State} (z : r ≡ written_to q (q.out + length u)) where
+        pub literal_wrote : Passed to (to - p.at + 1) p r
+        literal_wrote =
+            let l : 0 + 1 + length u ≡ to - p.at + 1 = omega (arith, literal_length) in
+            subst (λ (k : ℕ). Passed to k p r) l (passed_more (length u) (passed_more 1 (passed_none p refl) y) z)
 
-      pub literal_room : Room 1 1 r
-      literal_room = room_for h literal_wrote (omega (arith, x.some))
+        pub literal_room : Room 1 1 r
+        literal_room = room_for h literal_wrote (omega (arith, x.some))

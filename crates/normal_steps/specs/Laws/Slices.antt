@@ -140,7 +140,7 @@ pub wrote_paste : (o w : Text) (at : ℕ) → WrittenAt o (paste o at w (length 
 wrote_paste o w at = record { is = ap (λ (t : Text). take at o ++ t ++ drop (at + length w) o) (take-length w); end = refl }
 
 pub puts_by : {w : Text} {s o' : Text} {ws : Work} {p r : State} {k : ℕ} → r ≡ written_to p k → WrittenAt ws.out o' p.out k w
-      → (r ≡ written_to p (p.out + length w)) × ((σ : Notes) → Carries s ws p σ → p.out + length w + 1 ≤ 4 * p.at → Carries s (out_to ws o') r (put w σ))
+    → (r ≡ written_to p (p.out + length w)) × ((σ : Notes) → Carries s ws p σ → p.out + length w + 1 ≤ 4 * p.at → Carries s (out_to ws o') r (put w σ))
 puts_by {w} {s} {o'} {ws} {p} {r} {k} e q = (
   e ∙ ap (written_to p) q.end,
   λ σ h l. subst (λ (x : State). Carries s (out_to ws o') x (put w σ)) (sym e)

@@ -9,7 +9,7 @@ use Rattle.normal_steps.specs.Laws.LeafSteps.{reference_none, reference_is}
 use Rattle.normal_steps.proofs.state.Writer.first_reference.Goals as goal
 
 pub returns-in_err-reference-clause-reads : goal.returns-in_err-reference-clause-reads
-returns-in_err-reference-clause-reads c σ h = by (with_none _ (ap reference h.rest ∙ c.in_err-reference.ensures)) refuses
+returns-in_err-reference-clause-reads c σ h = rw c.from_residual.ensures (by (with_none _ (ap reference h.rest ∙ c.in_err-reference.ensures)) refuses)
 
 pub returns-then-self-reference-clause-reads : goal.returns-then-self-reference-clause-reads
 returns-then-self-reference-clause-reads c σ h = by (reference_none h c.in_ok-reference.ensures _ c.if-self-reference.true) refuses
