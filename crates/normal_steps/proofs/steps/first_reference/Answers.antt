@@ -16,7 +16,7 @@ returns-in_default c ws σ h =
 
 pub returns-then-p-i : goal.returns-then-p-i
 returns-then-p-i c ws σ h =
-    let x = reference_at c.args.s.now c.args.p.at c.reference.ensures c.in-To.is in
+    let x = reference_at c.args.s.now c.args.p.at c.reference.ensures c.in-Some.is in
     by (reference_none h x c.args.p.out c.if-p-i.true) refuses
 
 pub entry-t-requires : goal.entry-t-requires
@@ -25,24 +25,24 @@ entry-t-requires c =
 
 pub settle-requires : goal.settle-requires
 settle-requires c =
-    let x = reference_at c.args.s.now c.args.p.at c.reference.ensures c.in-To.is in
+    let x = reference_at c.args.s.now c.args.p.at c.reference.ensures c.in-Some.is in
     let w = passed_none c.args.p c.moved.ensures in
     let b = x.behind in
     let t = c.entry-t.ensures _ (work_of c.requires.1.1.1) _ c.requires.1.1.1 in (
       (t.1.0, omega (arith, t.1.1, w.nodes)),
       (
         record { stands = omega (arith, w.out); fits = omega (arith, c.requires.0, w.at); spare = omega (arith, c.requires.0, w.at, w.out) },
-        (_, ready_both (_, by_state c.moved.ensures (holds_moved c.requires.1.1.1 c.in-To.end (omega arith) x.inside))),
+        (_, ready_both (_, by_state c.moved.ensures (holds_moved c.requires.1.1.1 c.in-Some.field-0.end (omega arith) x.inside))),
       ),
     )
 
 pub returns : goal.returns
 returns c ws σ h =
-    let x = reference_at c.args.s.now c.args.p.at c.reference.ensures c.in-To.is in
+    let x = reference_at c.args.s.now c.args.p.at c.reference.ensures c.in-Some.is in
     let w = passed_none c.args.p c.moved.ensures in
     let b = x.behind in
     let t = c.entry-t.ensures _ (work_of h) σ h in
-    let v = c.settle.ensures _ ws _ (by_state c.moved.ensures (holds_moved h c.in-To.end (omega arith) x.inside)) in
+    let v = c.settle.ensures _ ws _ (by_state c.moved.ensures (holds_moved h c.in-Some.field-0.end (omega arith) x.inside)) in
     let l = v.limits in
     by (reference_is h x c.args.p.out t.0)
     (tells v.holds (omega arith, spent w l (omega arith) (omega arith) (omega arith) (omega (arith, c.requires.0, w.out, w.at))) (omega (arith, t.1.1, h.few_nodes, h.place, h.source)))

@@ -17,14 +17,14 @@ returns-in_default c σ h =
 
 pub put_byte-marked-requires : goal.put_byte-marked-requires
 put_byte-marked-requires c =
-    let x = literal_at c.args.s.now c.args.p.at c.literal.ensures c.in-To.is in
+    let x = literal_at c.args.s.now c.args.p.at c.literal.ensures c.in-Some.is in
     let v = x.0 in
     let w = passed_none c.args.p c.moved.ensures in
     omega (arith, out_size c.requires.1, v.some, v.inside, x.1)
 
 pub put_part-written-requires : goal.put_part-written-requires
 put_part-written-requires c =
-    let x = literal_at c.args.s.now c.args.p.at c.literal.ensures c.in-To.is in
+    let x = literal_at c.args.s.now c.args.p.at c.literal.ensures c.in-Some.is in
     let v = x.0 in
     let w = passed_more 1 (passed_none c.args.p c.moved.ensures) c.put_byte-marked.ensures.0 in
     let k = literal_marked c.requires.1 v x.1 c.moved.ensures c.put_byte-marked.ensures in
@@ -32,14 +32,14 @@ put_part-written-requires c =
 
 pub overflow_sub-to : goal.overflow_sub-to
 overflow_sub-to c =
-    let x = literal_at c.args.s.now c.args.p.at c.literal.ensures c.in-To.is in
+    let x = literal_at c.args.s.now c.args.p.at c.literal.ensures c.in-Some.is in
     omega (arith, x.0.some)
 
 pub note-requires : goal.note-requires
 note-requires c =
-    let x = literal_at c.args.s.now c.args.p.at c.literal.ensures c.in-To.is in
+    let x = literal_at c.args.s.now c.args.p.at c.literal.ensures c.in-Some.is in
     let v = x.0 in
-    let k = signed_below _ c.in-To.minus (literal_kind c.requires.1 v x.1) in (
+    let k = signed_below _ c.in-Some.field-0.minus (literal_kind c.requires.1 v x.1) in (
       (omega arith, omega (arith, c.signed.ensures)),
       (
         (omega (arith, v.some), omega (arith, v.inside)),
@@ -49,7 +49,7 @@ note-requires c =
 
 pub returns : goal.returns
 returns c σ h =
-    let x = literal_at c.args.s.now c.args.p.at c.literal.ensures c.in-To.is in
+    let x = literal_at c.args.s.now c.args.p.at c.literal.ensures c.in-Some.is in
     let v = x.0 in
     let w = literal_wrote h v x.1 c.moved.ensures c.put_byte-marked.ensures c.put_part-written.ensures in
     let k = v.some in

@@ -16,17 +16,17 @@ returns-in_default c σ h =
 
 pub put_name-named-requires : goal.put_name-named-requires
 put_name-named-requires c =
-    let x = name_at c.args.s.now c.args.p.at c.source_name.ensures c.in-At.is in
+    let x = name_at c.args.s.now c.args.p.at c.source_name.ensures c.in-Some.is in
     (omega arith, (x.inside, (omega arith, name_fits x c.requires.1.1 refl c.moved.ensures)))
 
 pub note-requires : goal.note-requires
 note-requires c =
-    let x = name_at c.args.s.now c.args.p.at c.source_name.ensures c.in-At.is in
+    let x = name_at c.args.s.now c.args.p.at c.source_name.ensures c.in-Some.is in
     ((omega arith, omega arith), ((omega arith, x.inside), (room_less (name_room x c.requires.1.1 refl c.moved.ensures c.put_name-named.ensures), ready_notes (_, name_held x c.requires.1.1 refl c.moved.ensures c.put_name-named.ensures))))
 
 pub returns : goal.returns
 returns c σ h =
-    let x = name_at c.args.s.now c.args.p.at c.source_name.ensures c.in-At.is in
+    let x = name_at c.args.s.now c.args.p.at c.source_name.ensures c.in-Some.is in
     let z = name_size x in
     let w = name_wrote x h refl c.moved.ensures c.put_name-named.ensures in
     by (with_some _ (ap name h.rest ∙ x.is))
