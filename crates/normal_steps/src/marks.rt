@@ -3,6 +3,7 @@ ghost use Rattle.std.specs.Prelude.{◌≡◌, true};
 ghost use Rattle.grammar.specs.Text.{digit};
 ghost use Rattle.catalogue.specs.Bytes.{all};
 ghost use Rattle.catalogue.specs.Class.{leading_zero, numeral as numeral_ok};
+ghost use Rattle.normal_walk.specs.Walk.{canonical};
 ghost use Rattle.normal_steps.specs.Answers.{RefIs, ValueIs, LitIs, valid_by};
 
 use crate::words;
@@ -30,20 +31,23 @@ fn leading_zero(digits: &[u8]) -> bool
     matches!(digits, [b'0', _, ..])
 }
 
+// Digits and capitals without leading zero.
+fn canonical(digits: &[u8]) -> bool
+    ensures { result ≡ canonical digits.now }
+{
+    digits.iter().all(|c| words::capital_byte(*c)) && !leading_zero(digits)
+}
+
 // [<seq-id>] _, behind S
 pub fn reference(s: &[u8], at: usize) -> Option<Referred>
     ensures { RefIs s.now at result }
 {
     let number = numbers::seq_id(s, at);
     let end = number.next;
-    if !text::here(s, end, b'_') {
+    if !text::here(s, end, b'_') || !canonical(&s[at..end]) {
         return None;
     }
-    let digits = &s[at..end];
-    if leading_zero(digits) || !digits.iter().all(|c| words::capital_byte(*c)) {
-        return None;
-    }
-    let index = if digits.is_empty() {
+    let index = if end == at {
         0
     } else {
         number.value.saturating_add(1) as usize
@@ -67,9 +71,10 @@ fn value_ok(kind: u8, minus: bool, digits: &[u8]) -> bool
     requires { all (digit 10) digits.now ≡ true }
     ensures { result ≡ valid_by kind minus digits.now }
 {
+    let zero = digits == b"0".as_slice();
     match kind {
-        b'b' => !minus && matches!(digits, b"0" | b"1"),
-        b'i' | b'l' => numeral(digits) && !(minus && matches!(digits, b"0")),
+        b'b' => !minus && (zero || digits == b"1".as_slice()),
+        b'i' | b'l' => numeral(digits) && !(minus && zero),
         b'j' | b'm' => !minus && numeral(digits),
         _ => false,
     }

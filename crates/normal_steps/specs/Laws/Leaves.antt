@@ -121,17 +121,13 @@ module _ (s : Text) (at end : ℕ) (e : end ≡ at + length (run (digit 36) (dro
   ref_by h = by_end ∙ next_here 95 told stop s end h
 
   module _ (h : starts (drop end s) (95 ∷ []) ≡ true) where
-    pub ref_small : all capital (part s at end) ≡ false → reference (drop at s) ≡ stop
-    ref_small p = ref_by h ∙ rw p refl
+    pub ref_wrong : canonical (part s at end) ≡ false → reference (drop at s) ≡ stop
+    ref_wrong p = ref_by h ∙ rw p refl
 
-    pub ref_zero : all capital (part s at end) ≡ true → leading_zero (part s at end) ≡ true → reference (drop at s) ≡ stop
-    ref_zero p q = ref_by h ∙ rw (p, q) refl
-
-    pub ref_right : all capital (part s at end) ≡ true → leading_zero (part s at end) ≡ false
-        → (i : ℕ) → i ≡ min (index 36 (run (digit 36) (drop at s))) most_index → RefAt s at i (end + 1)
-    ref_right p q i m = record {
+    pub ref_right : canonical (part s at end) ≡ true → (i : ℕ) → i ≡ min (index 36 (run (digit 36) (drop at s))) most_index → RefAt s at i (end + 1)
+    ref_right p i m = record {
       index = index 36 (run (digit 36) (drop at s));
-      is = ref_by h ∙ rw (p, q) refl;
+      is = ref_by h ∙ rw p refl;
       told = m;
       behind = omega arith;
       inside = omega (arith, starts_inside s end 95 h);

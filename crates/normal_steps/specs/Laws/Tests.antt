@@ -55,6 +55,11 @@ lt_or_le m n = go (ltb m n) refl
 
 -- ---------------------------------------------------------------- digits
 
+pub numeral_none : (v : Text) → length v ≡ 0 → numeral v ≡ false
+unfolding numeral
+numeral_none [] l = refl
+numeral_none (x ∷ v) l = absurd (omega arith)
+
 pub numeral_is : (v : Text) → 0 < length v → all (digit 10) v ≡ true → numeral v ≡ not (leading_zero v)
 unfolding numeral
 numeral_is [] l h = absurd (omega arith)
