@@ -31,18 +31,9 @@ pub record Work : Type 0 where
 abbrev pub work : Text → Text → Text → Text → Text → Work
 work out ends words tables chains = record { out = out; ends = ends; words = words; tables = tables; chains = chains }
 
+-- those of a writer
 abbrev pub slices_of : Writer → Work
 slices_of w = work w.out.now w.ends.now w.words.now w.tables.now w.chains.now
-
--- where some slices alone are written, the others stay as they are
-abbrev pub out_to : Work → Text → Work
-out_to ws out = work out ws.ends ws.words ws.tables ws.chains
-
-abbrev pub tables_to : Work → Text → Work
-tables_to ws tables = work ws.out ws.ends ws.words tables ws.chains
-
-abbrev pub notes_to : Work → Text → Text → Text → Text → Work
-notes_to ws ends words tables chains = work ws.out ends words tables chains
 
 -- the slices of numbers have their lengths
 pub record Sized (e w t c : Text) : Type 0 where

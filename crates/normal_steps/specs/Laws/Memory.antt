@@ -19,7 +19,7 @@ use Rattle.normal_steps.specs.States.{written_to, noted_to, entered_to}
 use Rattle.normal_steps.specs.WrittenAt.{WrittenAt}
 use Rattle.normal_steps.specs.Rows.{node_at, nodes_of}
 use Rattle.normal_steps.specs.Chains.{bucket_of}
-use Rattle.normal_steps.specs.Carries.{Work, out_to, tables_to, notes_to, Tabled, Carries, Numbered, Stretch, Room, Took, Went, Refines, tells, notes_node}
+use Rattle.normal_steps.specs.Carries.{Work, Tabled, Carries, Numbered, Stretch, Room, Took, Went, Refines, tells, notes_node}
 use Rattle.normal_steps.specs.Laws.WrittenAt.{front_wrote}
 use Rattle.normal_steps.specs.Laws.Entries.{firsts_known, firsts_new}
 use Rattle.normal_steps.specs.Laws.Rows.{two_at, nodes_same, node_old, node_new}
@@ -59,11 +59,11 @@ module _ {s : Text} {ws : Work} {p : State} {σ : Notes} (h : Carries s ws p σ)
       reference_room = omega (arith, ref_length (kept - 1) index_most, l.fits, h.place, h.source)
 
       pub settle_here : (k : ℕ) (o' : Text) (q : State) → WrittenAt ws.out o' from k (ref_bytes (kept - 1)) → q ≡ written_to p k
-          → Went s (out_to ws o') (Took 0 0 5 from p) q (settled d from σ)
+          → Went s (record ws { out = o' }) (Took 0 0 5 from p) q (settled d from σ)
       settle_here k o' q w g =
           let f : length (take from σ.out) ≡ from = length-take-le from σ.out (omega (arith, h.out_count, l.stands)) in
-          subst (λ (x : State). Went s (out_to ws o') (Took 0 0 5 from p) x (settled d from σ)) (sym g)
-          (subst (λ (τ : Notes). Went s (out_to ws o') (Took 0 0 5 from p) (written_to p k) τ) (sym (settled_by d from (some (kept - 1)) place))
+          subst (λ (x : State). Went s (record ws { out = o' }) (Took 0 0 5 from p) x (settled d from σ)) (sym g)
+          (subst (λ (τ : Notes). Went s (record ws { out = o' }) (Took 0 0 5 from p) (written_to p k) τ) (sym (settled_by d from (some (kept - 1)) place))
           (record {
             holds = with_out h (take from σ.out ++ ref_bytes (kept - 1)) o' k
                 (front_wrote (front_less h.out_is from) (sym f) (omega (arith, f, reference_room)) w)
@@ -90,8 +90,8 @@ module _ {s : Text} {ws : Work} {p : State} {σ : Notes} (h : Carries s ws p σ)
     nodes_room = h.found.few
 
     went : (m : ℕ) (t' : Text) (q : State) → q ≡ entered_to p (p.table + 1) m → m ≡ length (firsts (σ.table ++ (d ∷ [])))
-        → Tabled p.nodes (σ.table ++ (d ∷ [])) t' → Went s (tables_to ws t') (Took 0 1 0 p.out p) q (pushed d σ)
-    went m t' q g f e = subst (λ (x : State). Went s (tables_to ws t') (Took 0 1 0 p.out p) x (pushed d σ)) (sym g)
+        → Tabled p.nodes (σ.table ++ (d ∷ [])) t' → Went s (record ws { tables = t' }) (Took 0 1 0 p.out p) q (pushed d σ)
+    went m t' q g f e = subst (λ (x : State). Went s (record ws { tables = t' }) (Took 0 1 0 p.out p) x (pushed d σ)) (sym g)
         (record {
           holds = with_entry h d (p.table + 1) m t' refl r.table f e;
           limits = record { at = refl; nodes = omega arith; more = omega arith; table = omega arith; out = omega arith; args = omega arith; stands = omega arith };
@@ -101,7 +101,7 @@ module _ {s : Text} {ws : Work} {p : State} {σ : Notes} (h : Carries s ws p σ)
     place_of = middle + (d - least_number)
 
     pub push_known : (q : State) → q ≡ entered_to p (p.table + 1) p.firsts → (get_or ws.tables place_of 0 ≡ 0 → ⊥)
-        → Went s (tables_to ws (set ws.tables p.table d)) (Took 0 1 0 p.out p) q (pushed d σ)
+        → Went s (record ws { tables = set ws.tables p.table d }) (Took 0 1 0 p.out p) q (pushed d σ)
     push_known q g f =
         let i = kept_some h.tabled b f in
         went p.firsts (set ws.tables p.table d) q g (h.firsts_count ∙ ap length (sym (firsts_known σ.table d _ i)))
@@ -109,7 +109,7 @@ module _ {s : Text} {ws : Work} {p : State} {σ : Notes} (h : Carries s ws p σ)
         (tabled_known h.tabled b table_room nodes_room _ i))
 
     pub push_new : (q : State) → q ≡ entered_to p (p.table + 1) (p.firsts + 1) → get_or ws.tables place_of 0 ≡ 0
-        → Went s (tables_to ws (set (set ws.tables p.table d) place_of (p.firsts + 1))) (Took 0 1 0 p.out p) q (pushed d σ)
+        → Went s (record ws { tables = set (set ws.tables p.table d) place_of (p.firsts + 1) }) (Took 0 1 0 p.out p) q (pushed d σ)
     push_new q g f =
         let i = kept_none h.tabled b f in
         let e : firsts (σ.table ++ (d ∷ [])) ≡ firsts σ.table ++ (d ∷ []) = firsts_new σ.table d i in
@@ -150,8 +150,11 @@ module _ {s : Text} {ws : Work} {p : State} {σ : Notes} (h : Carries s ws p σ)
       abbrev w' : Text
       w' = two_at ws.words p.nodes from to
 
+      abbrev written : Text → Text → Text → Work
+      written e w c = record ws { ends = e; words = w; tables = set ws.tables (middle + p.nodes) 0; chains = c }
+
       abbrev ws' : Work
-      ws' = notes_to ws e' w' (set ws.tables (middle + p.nodes) 0) (linked_at ws.chains p.nodes (bucket_of x))
+      ws' = written e' w' (linked_at ws.chains p.nodes (bucket_of x))
 
       nodes_more : σ.nodes ++ (x ∷ []) ≡ nodes_of s e' w' (suc p.nodes)
       unfolding nodes_of
@@ -180,8 +183,8 @@ module _ {s : Text} {ws : Work} {p : State} {σ : Notes} (h : Carries s ws p σ)
       -- as the slices were written
       pub note_written : {e₁ w₁ c₁ : Text} (q : State) → e₁ ≡ e' → w₁ ≡ w' → c₁ ≡ linked_at ws.chains p.nodes (bucket_of x) → q ≡ noted_to p (p.nodes + 1)
           → seek_by (same_node x) (nodes_of s ws.ends ws.words p.nodes) ≡ none
-          → Refines s (Took 1 0 0 p.out p) (notes_to ws e₁ w₁ (set ws.tables (middle + p.nodes) 0) c₁) q (Some (256 + p.nodes)) (notes_node x σ)
+          → Refines s (Took 1 0 0 p.out p) (written e₁ w₁ c₁) q (Some (256 + p.nodes)) (notes_node x σ)
       note_written {e₁} {w₁} {c₁} q i j k g e =
           let R : Text → Text → Text → Type 0 = λ a b d.
-          Refines s (Took 1 0 0 p.out p) (notes_to ws a b (set ws.tables (middle + p.nodes) 0) d) q (Some (256 + p.nodes)) (notes_node x σ) in
+          Refines s (Took 1 0 0 p.out p) (written a b d) q (Some (256 + p.nodes)) (notes_node x σ) in
           subst (λ (a : Text). R a w₁ c₁) (sym i) (subst (λ (b : Text). R e' b c₁) (sym j) (subst (λ (d : Text). R e' w' d) (sym k) (note_new q g e)))
