@@ -22,8 +22,26 @@ pub fn letter(c: u8) -> bool
 {
     matches!(
         c,
-        b'v' | b'w' | b'b' | b'c' | b'a' | b'h' | b's' | b't' | b'i' | b'j' | b'l'
-            | b'm' | b'x' | b'y' | b'n' | b'o' | b'f' | b'd' | b'e' | b'g' | b'z'
+        b'v' | b'w'
+            | b'b'
+            | b'c'
+            | b'a'
+            | b'h'
+            | b's'
+            | b't'
+            | b'i'
+            | b'j'
+            | b'l'
+            | b'm'
+            | b'x'
+            | b'y'
+            | b'n'
+            | b'o'
+            | b'f'
+            | b'd'
+            | b'e'
+            | b'g'
+            | b'z'
     )
 }
 

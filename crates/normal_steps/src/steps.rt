@@ -110,7 +110,15 @@ pub fn literal(
         (work out.new ends.new words.new tables.new chains.new) p result }
 {
     let at = p.at;
-    let Some(Valued { end: to, kind, minus, from }) = marks::literal(s, at) else {
+    let Some(
+        Valued {
+            end: to,
+            kind,
+            minus,
+            from,
+        },
+    ) = marks::literal(s, at)
+    else {
         return Told::Bad;
     };
     let marked = memory::put_byte(out, p.moved(to), b'L');

@@ -31,4 +31,3 @@ returns-in_default-2 c = grind (arith, nat_tests)
 pub returns-in_default-3 : goal.returns-in_default-3
 unfolding lead if◌then◌otherwise◌ digit digit_value choose
 returns-in_default-3 c = grind (arith, nat_tests)
-

@@ -20,9 +20,9 @@ returns-then-s-to c =
     let n = c.decimal-length.ensures in
     let z = sym c.here.ensures ∙ c.if-here.false in
     elim c.then-s-to.branch [
-      then-s-to-via-then-s-to w ↦ name_long c.args.s.now c.args.at _ n.behind z (omega (arith, n.is, c.in_ok-to.ensures))
-    | then-s-to-via-else-s-to+then-not-word_ok w ↦
-        name_by c.args.s.now c.args.at _ n.behind z c.in_ok-to.to (omega (arith, n.is, c.in_ok-to.ensures)) (omega arith) ∙ rw (sym w.word_ok.ensures ∙ w.if-not-word_ok.true) refl
+      | then-s-to-via-then-s-to w ↦ name_long c.args.s.now c.args.at _ n.behind z (omega (arith, n.is, c.in_ok-to.ensures))
+      | then-s-to-via-else-s-to+then-not-word_ok w ↦
+          name_by c.args.s.now c.args.at _ n.behind z c.in_ok-to.to (omega (arith, n.is, c.in_ok-to.ensures)) (omega arith) ∙ rw (sym w.word_ok.ensures ∙ w.if-not-word_ok.true) refl
     ]
 
 pub returns : goal.returns

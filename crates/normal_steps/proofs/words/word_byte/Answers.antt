@@ -35,4 +35,3 @@ returns-in-97-to-122-3 c = grind (arith, nat_tests)
 pub returns-in-97-to-122-4 : goal.returns-in-97-to-122-4
 unfolding word_byte if◌then◌otherwise◌ digit digit_value
 returns-in-97-to-122-4 c = grind (arith, nat_tests)
-
