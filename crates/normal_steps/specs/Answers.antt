@@ -1,18 +1,15 @@
 -- What an answer of the code says was read, by the definitions of the walk.
-use Rattle.std.specs.Prelude.{Bool, false, ◌≡◌, ℕ, ◌-◌, ◌≤◌, ◌<◌, min, length, drop}
+use Rattle.std.specs.Prelude.{Bool, false, ◌≡◌, ℕ, ◌-◌, ◌≤◌, ◌<◌, min, length, drop, Option, Some, None}
 use Rattle.grammar.specs.Text.{Text, choose}
+use Rattle.grammar.specs.Numbers.{most}
+use Rattle.grammar.specs.declared.state.Part.{Part}
 use Rattle.catalogue.specs.Tree.{Kind, Ty, lit, kind_code}
 use Rattle.catalogue.specs.Class.{lit_ok}
 use Rattle.catalogue.specs.Recogniser.{Rd, rd, stop, with_code, all_kinds}
 use Rattle.normal_walk.specs.Walk.{name, reference, value as value_at, literal as literal_at}
-use Rattle.normal_steps.specs.Limits.{most_note}
 use Rattle.normal_steps.specs.Parts.{part}
-use Rattle.normal_steps.specs.declared.words.Named.{Named}
-use Rattle.normal_steps.specs.declared.words.Named.TheVariants.{At, Bad as no_name}
 use Rattle.normal_steps.specs.declared.marks.Referred.{Referred}
-use Rattle.normal_steps.specs.declared.marks.Referred.TheVariants.{To as to_entry, Bad as no_reference}
 use Rattle.normal_steps.specs.declared.marks.Valued.{Valued}
-use Rattle.normal_steps.specs.declared.marks.Valued.TheVariants.{To as to_value, Bad as no_value}
 
 -- ---------------------------------------------------------------- source names
 
@@ -23,15 +20,15 @@ pub record NameAt (s : Text) (at from to : ℕ) : Type 0 where
   pub some : from < to
   pub inside : to ≤ length s
 
-abbrev pub NameIs : Text → ℕ → Named → Type 0
-NameIs s at (At from to) = NameAt s at from to
-NameIs s at no_name = name (drop at s) ≡ stop
+abbrev pub NameIs : Text → ℕ → Option Part → Type 0
+NameIs s at (Some p) = NameAt s at p.from p.to
+NameIs s at None = name (drop at s) ≡ stop
 
 -- ---------------------------------------------------------------- references
 
 -- all indexes that are larger answer with this one, which no table reaches
 abbrev pub most_index : ℕ
-most_index = most_note
+most_index = most
 
 pub record RefAt (s : Text) (at i end : ℕ) : Type 0 where
   pub index : ℕ
@@ -40,9 +37,9 @@ pub record RefAt (s : Text) (at i end : ℕ) : Type 0 where
   pub behind : at < end
   pub inside : end ≤ length s
 
-abbrev pub RefIs : Text → ℕ → Referred → Type 0
-RefIs s at (to_entry i end) = RefAt s at i end
-RefIs s at no_reference = reference (drop at s) ≡ stop
+abbrev pub RefIs : Text → ℕ → Option Referred → Type 0
+RefIs s at (Some r) = RefAt s at r.index r.end
+RefIs s at None = reference (drop at s) ≡ stop
 
 -- ---------------------------------------------------------------- literals
 
@@ -58,10 +55,10 @@ pub record Value (o : Rd Ty) (s : Text) (to kind : ℕ) (minus : Bool) (from : �
   pub some : from < to
   pub inside : to ≤ length s
 
-abbrev pub ValueIs : Text → ℕ → Bool → ℕ → Valued → Type 0
-ValueIs s c g at (to_value to kind minus from) = Value (value_at (with_code kind_code c all_kinds) g (drop at s)) s to kind minus from × (at ≤ from)
-ValueIs s c g at no_value = value_at (with_code kind_code c all_kinds) g (drop at s) ≡ stop
+abbrev pub ValueIs : Text → ℕ → Bool → ℕ → Option Valued → Type 0
+ValueIs s c g at (Some l) = Value (value_at (with_code kind_code c all_kinds) g (drop at s)) s l.end l.kind l.minus l.from × (at ≤ l.from)
+ValueIs s c g at None = value_at (with_code kind_code c all_kinds) g (drop at s) ≡ stop
 
-abbrev pub LitIs : Text → ℕ → Valued → Type 0
-LitIs s at (to_value to kind minus from) = Value (literal_at (drop at s)) s to kind minus from × (at < from)
-LitIs s at no_value = literal_at (drop at s) ≡ stop
+abbrev pub LitIs : Text → ℕ → Option Valued → Type 0
+LitIs s at (Some l) = Value (literal_at (drop at s)) s l.end l.kind l.minus l.from × (at < l.from)
+LitIs s at None = literal_at (drop at s) ≡ stop

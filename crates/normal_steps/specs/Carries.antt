@@ -1,8 +1,8 @@
 -- What the state and the work slices of the writing mean in the walk with numbers. `out` has what is written. Four slices of numbers have the
 -- rest: `ends` and `words` the nodes, two numbers each; `tables` the table, and from the middle on what is kept with each node; `chains` the
 -- buckets, and from the middle on the chains. What is behind them may be anything.
-use Rattle.std.specs.Prelude.{List, [], ◌∷◌, ◌≡◌, ℕ, suc, ◌+◌, ◌*◌, ◌≤◌, ◌<◌, max, length, drop, get_or}
-use Rattle.std.proofs.Math.Option.{Option, none, some}
+use Rattle.std.specs.Prelude.{List, [], ◌∷◌, ◌≡◌, ℕ, suc, ◌+◌, ◌*◌, ◌≤◌, ◌<◌, max, length, drop, get_or, Option, Some, None}
+use Rattle.std.proofs.Math.Option.{Option as Place, none, some}
 use Prim.Native.Char.{code}
 use Rattle.grammar.specs.Text.{Text}
 use Rattle.grammar.specs.Limits.{most_symbol_bytes}
@@ -16,9 +16,8 @@ use Rattle.normal_steps.specs.Limits.{middle, out_length}
 use Rattle.normal_steps.specs.Rows.{nodes_of}
 use Rattle.normal_steps.specs.Chains.{Findable}
 use Rattle.normal_steps.specs.States.{written_to}
+use Rattle.normal_steps.specs.declared.state.State.{State}
 use Rattle.normal_steps.specs.declared.state.Writer.{Writer}
-use Rattle.normal_steps.specs.declared.state.Told.{Told}
-use Rattle.normal_steps.specs.declared.state.Told.TheVariants.{Number, Bad}
 
 -- ---------------------------------------------------------------- the work slices
 
@@ -32,18 +31,9 @@ pub record Work : Type 0 where
 abbrev pub work : Text → Text → Text → Text → Text → Work
 work out ends words tables chains = record { out = out; ends = ends; words = words; tables = tables; chains = chains }
 
--- where some slices alone are lent, the others stay as they are
-abbrev pub out_to : Work → Text → Work
-out_to ws out = work out ws.ends ws.words ws.tables ws.chains
-
-abbrev pub ends_to : Work → Text → Work
-ends_to ws ends = work ws.out ends ws.words ws.tables ws.chains
-
-abbrev pub tables_to : Work → Text → Work
-tables_to ws tables = work ws.out ws.ends ws.words tables ws.chains
-
-abbrev pub notes_to : Work → Text → Text → Text → Text → Work
-notes_to ws ends words tables chains = work ws.out ends words tables chains
+-- those of a writer
+abbrev pub slices_of : Writer → Work
+slices_of w = work w.out.now w.ends.now w.words.now w.tables.now w.chains.now
 
 -- the slices of numbers have their lengths
 pub record Sized (e w t c : Text) : Type 0 where
@@ -55,7 +45,7 @@ pub record Sized (e w t c : Text) : Type 0 where
 -- ---------------------------------------------------------------- the table
 
 -- what is kept with a node: 0, or its place in the table without later doubles and 1
-abbrev pub place_kept : Option ℕ → ℕ
+abbrev pub place_kept : Place ℕ → ℕ
 place_kept none = 0
 place_kept (some i) = suc i
 
@@ -78,7 +68,7 @@ abbrev pub most_number : ℕ
 most_number = 2 * most_symbol_bytes
 
 -- the state and the slices hold what is kept
-pub record Carries (s : Text) (ws : Work) (p : Writer) (σ : Notes) : Type 0 where
+pub record Carries (s : Text) (ws : Work) (p : State) (σ : Notes) : Type 0 where
   pub source : length s ≤ most_symbol_bytes
   pub place : p.at ≤ length s
   pub rest : σ.rest ≡ drop p.at s
@@ -95,53 +85,39 @@ pub record Carries (s : Text) (ws : Work) (p : Writer) (σ : Notes) : Type 0 whe
   pub few_args : p.args ≤ p.at
   pub short : p.out + 1 ≤ 4 * p.at
 
-abbrev pub Ready : Text → Work → Writer → Type 0
-Ready s ws p = (σ : Notes) × Carries s ws p σ
+-- the writing holds what is kept
+abbrev pub Held : Writer → Notes → Type 0
+Held w σ = Carries w.s.now (slices_of w) w.state σ
 
-abbrev pub ReadyOut : Text → Text → Writer → Type 0
-ReadyOut s out p = (ws : Work) × Ready s (out_to ws out) p
+abbrev pub Ready : Writer → Type 0
+Ready w = (σ : Notes) × Held w σ
 
-abbrev pub ReadyEnds : Text → Text → Writer → Type 0
-ReadyEnds s ends p = (ws : Work) × Ready s (ends_to ws ends) p
-
-abbrev pub ReadyTables : Text → Text → Writer → Type 0
-ReadyTables s tables p = (ws : Work) × Ready s (tables_to ws tables) p
-
-abbrev pub ReadyBoth : Text → Text → Text → Writer → Type 0
-ReadyBoth s out tables p = (ws : Work) × Ready s (tables_to (out_to ws out) tables) p
-
-abbrev pub ReadyThree : Text → Text → Text → Text → Writer → Type 0
-ReadyThree s out ends tables p = (ws : Work) × Ready s (tables_to (ends_to (out_to ws out) ends) tables) p
-
-abbrev pub ReadyNotes : Text → Text → Text → Text → Text → Writer → Type 0
-ReadyNotes s ends words tables chains p = (ws : Work) × Ready s (notes_to ws ends words tables chains) p
-
--- the number d has the tag c, whatever else is held
-abbrev pub Tag : Text → Writer → ℕ → ℕ → Type 0
-Tag ends p d c = (s : Text) (ws : Work) (σ : Notes) → Carries s (ends_to ws ends) p σ → c ≡ tag_of σ.nodes d
+-- the number d has the tag c
+abbrev pub Tag : Writer → ℕ → ℕ → Type 0
+Tag w d c = (σ : Notes) → Held w σ → c ≡ tag_of σ.nodes d
 
 -- d is the number of a node
-abbrev pub Numbered : Writer → ℕ → Type 0
+abbrev pub Numbered : State → ℕ → Type 0
 Numbered p d = (least_number ≤ d) × (d < least_number + p.nodes)
 
 -- there is room for so many nodes and entries more
-pub record Room (n t : ℕ) (p : Writer) : Type 0 where
+pub record Room (n t : ℕ) (p : State) : Type 0 where
   pub nodes : p.nodes + n ≤ p.at
   pub table : p.table + t ≤ p.at
   pub args : p.args + n ≤ p.at
 
 -- there is room for so many bytes more
-abbrev pub Spare : ℕ → Writer → Type 0
+abbrev pub Spare : ℕ → State → Type 0
 Spare o p = p.out + o + 1 ≤ 4 * p.at
 
 -- a tree is written from the place b on, and a reference, of five bytes at most, fits in its stead
-pub record Stretch (b : ℕ) (p : Writer) : Type 0 where
+pub record Stretch (b : ℕ) (p : State) : Type 0 where
   pub stands : b ≤ p.out
   pub fits : b + 9 ≤ 4 * p.at
   pub spare : p.out + 4 ≤ 4 * p.at
 
 -- no more than that was taken, nothing was read, and what was written before the place b stands
-pub record Took (n t o b : ℕ) (p p' : Writer) : Type 0 where
+pub record Took (n t o b : ℕ) (p p' : State) : Type 0 where
   pub at : p'.at ≡ p.at
   pub nodes : p'.nodes ≤ p.nodes + n
   pub more : p.nodes ≤ p'.nodes
@@ -151,7 +127,7 @@ pub record Took (n t o b : ℕ) (p p' : Writer) : Type 0 where
   pub stands : b ≤ p'.out
 
 -- bytes were read, and what was taken is within them; k is 1 where one byte made no node and no entry, and c bytes are to spare
-pub record Spent (k c b : ℕ) (p p' : Writer) : Type 0 where
+pub record Spent (k c b : ℕ) (p p' : State) : Type 0 where
   pub at : p.at + k ≤ p'.at
   pub nodes : p'.nodes + p.at + k ≤ p.nodes + p'.at
   pub table : p'.table + p.at + k ≤ p.table + p'.at
@@ -162,33 +138,37 @@ pub record Spent (k c b : ℕ) (p p' : Writer) : Type 0 where
 -- ---------------------------------------------------------------- what a step promises
 
 -- the answer is that of the walk with numbers, and L holds of the next state
-pub data Refines (s : Text) (L : Writer → Type 0) (ws : Work) : Told → Got ℕ → Type 0 where
-  tells : {p : Writer} {d : ℕ} {σ : Notes} → Carries s ws p σ → L p → d < most_number → Refines s L ws (Number p d) (got d σ)
-  refuses : Refines s L ws Bad bad
+pub data Refines (s : Text) (L : State → Type 0) (ws : Work) (p : State) : Option ℕ → Got ℕ → Type 0 where
+  tells : {d : ℕ} {σ : Notes} → Carries s ws p σ → L p → d < most_number → Refines s L ws p (Some d) (got d σ)
+  refuses : Refines s L ws p None bad
+
+-- a writer w went to w', and the answer is r
+abbrev pub Answers : (State → Type 0) → Writer → Option ℕ → Got ℕ → Type 0
+Answers L w' r g = Refines w'.s.now L (slices_of w') w'.state r g
 
 -- a reading of j bytes at least
-abbrev pub Reads : ℕ → ℕ → Noter ℕ → Text → Work → Work → Writer → Told → Type 0
-Reads j b f s ws ws' p r = (σ : Notes) → Carries s ws p σ → Refines s (λ p'. (p.at + j ≤ p'.at) × Spent 1 4 b p p') ws' r (f σ)
+abbrev pub Reads : ℕ → ℕ → Noter ℕ → Writer → Writer → Option ℕ → Type 0
+Reads j b f w w' r = (σ : Notes) → Held w σ → Answers (λ p'. (w.state.at + j ≤ p'.at) × Spent 1 4 b w.state p') w' r (f σ)
 
 -- a reading with fuel, which is never below the number of bytes left and e
-abbrev pub Fueled : ℕ → ℕ → ℕ → ℕ → (ℕ → Noter ℕ) → Text → Work → Work → Writer → Told → Type 0
-Fueled k c b e f s ws ws' p r =
-    (σ : Notes) → Carries s ws p σ → (m : ℕ) → length s + e ≤ m + p.at → Refines s (Spent k c b p) ws' r (f m σ)
+abbrev pub Fueled : ℕ → ℕ → ℕ → ℕ → (ℕ → Noter ℕ) → Writer → Writer → Option ℕ → Type 0
+Fueled k c b e f w w' r =
+    (σ : Notes) → Held w σ → (m : ℕ) → length w.s.now + e ≤ m + w.state.at → Answers (Spent k c b w.state) w' r (f m σ)
 
--- a step that reads nothing
-abbrev pub Steps : ℕ → ℕ → ℕ → ℕ → Noter ℕ → Text → Work → Work → Writer → Told → Type 0
-Steps x y z b f s ws ws' p r = (σ : Notes) → Carries s ws p σ → Refines s (Took x y z b p) ws' r (f σ)
+-- a step that reads nothing; one that is never refused has the answer `Some`
+abbrev pub Steps : ℕ → ℕ → ℕ → ℕ → Noter ℕ → Writer → Writer → Option ℕ → Type 0
+Steps x y z b f w w' r = (σ : Notes) → Held w σ → Answers (Took x y z b w.state) w' r (f σ)
 
--- a step that is never refused
-pub record Went (s : Text) (ws : Work) (L : Writer → Type 0) (p : Writer) (σ : Notes) : Type 0 where
+-- a step without an answer
+pub record Went (s : Text) (ws : Work) (L : State → Type 0) (p : State) (σ : Notes) : Type 0 where
   pub holds : Carries s ws p σ
   pub limits : L p
 
-abbrev pub Does : ℕ → ℕ → ℕ → ℕ → (Notes → Notes) → Text → Work → Work → Writer → Writer → Type 0
-Does x y z b f s ws ws' p p' = (σ : Notes) → Carries s ws p σ → Went s ws' (Took x y z b p) p' (f σ)
+abbrev pub Does : ℕ → ℕ → ℕ → ℕ → (Notes → Notes) → Writer → Writer → Type 0
+Does x y z b f w w' = (σ : Notes) → Held w σ → Went w'.s.now (slices_of w') (Took x y z b w.state) w'.state (f σ)
 
 -- what is before the place `to` was read, k bytes were written, and nothing was noted
-pub record Passed (to k : ℕ) (p p' : Writer) : Type 0 where
+pub record Passed (to k : ℕ) (p p' : State) : Type 0 where
   pub at : p'.at ≡ to
   pub out : p'.out ≡ p.out + k
   pub nodes : p'.nodes ≡ p.nodes
@@ -196,16 +176,16 @@ pub record Passed (to k : ℕ) (p p' : Writer) : Type 0 where
   pub args : p'.args ≡ p.args
 
 -- the next byte was written, and taken
-abbrev pub Copies : Text → Text → Text → Writer → Writer → Type 0
-Copies s o o' p p' =
-    Passed (p.at + 1) 1 p p'
-    × ((ws : Work) (σ : Notes) → Carries s (out_to ws o) p σ → (c : ℕ) (t : Text) → σ.rest ≡ c ∷ t → Carries s (out_to ws o') p' (put (c ∷ []) (go_to t σ)))
+abbrev pub Copies : Writer → Writer → Type 0
+Copies w w' =
+    Passed (w.state.at + 1) 1 w.state w'.state
+    × ((σ : Notes) → Held w σ → (c : ℕ) (t : Text) → σ.rest ≡ c ∷ t → Held w' (put (c ∷ []) (go_to t σ)))
 
 -- a text was written
-abbrev pub Puts : Text → Text → Text → Writer → Writer → Type 0
-Puts w o o' p p' =
-    (p' ≡ written_to p (p.out + length w))
-    × ((s : Text) (ws : Work) (σ : Notes) → Carries s (out_to ws o) p σ → p.out + length w + 1 ≤ 4 * p.at → Carries s (out_to ws o') p' (put w σ))
+abbrev pub Puts : Text → Writer → Writer → Type 0
+Puts t w w' =
+    (w'.state ≡ written_to w.state (w.state.out + length t))
+    × ((σ : Notes) → Held w σ → w.state.out + length t + 1 ≤ 4 * w.state.at → Held w' (put t σ))
 
 -- ---------------------------------------------------------------- readings and steps
 
@@ -230,5 +210,5 @@ wraps c t from σ = when (may_stand c (tag_of σ.nodes t)) (enter (wrap_node c t
 abbrev pub closed : Notes → Notes
 closed σ = put (code "E" ∷ []) σ
 
-abbrev pub Closes : Text → Text → Writer → Writer → Type 0
-Closes o o' p p' = (s : Text) (ws : Work) → Does 0 0 1 p.out closed s (out_to ws o) (out_to ws o') p p'
+abbrev pub Closes : Writer → Writer → Type 0
+Closes w w' = Does 0 0 1 w.state.out closed w w'

@@ -1,6 +1,5 @@
 pub mod Limits
 pub mod Parts
-pub mod Alphabets
 pub mod Answers
 pub mod Leads
 pub mod WrittenAt

@@ -1,11 +1,12 @@
-// The state of the writing of a normal symbol, by value, and what a step answers.
+// The state of the writing of a normal symbol, and the slices that it works in.
 ghost use Rattle.std.specs.Prelude.{◌≡◌};
-ghost use Rattle.normal_steps.specs.States.{begun_at, moved_to, written_to, noted_to, entered_to, counted_to};
+ghost use Rattle.normal_steps.specs.States.{begun_at};
 
-use grammar::state::Parser;
+use grammar::state::{Parser, Part};
 
+// What the writing has come to.
 #[derive(Clone, Copy)]
-pub struct Writer {
+pub struct State {
     // the place in the symbol of the next byte to be read
     pub at: usize,
     // the bytes of the normal symbol that are written
@@ -20,27 +21,12 @@ pub struct Writer {
     pub args: usize,
 }
 
-// A tree was written, and has the number; or the symbol is outside the class.
-#[derive(Clone, Copy)]
-pub enum Told {
-    Number(Writer, usize),
-    Bad,
-}
-
-impl Writer {
-    // Where the second half of a slice of numbers begins.
-    pub const MIDDLE: usize = Parser::SYMBOL;
-
-    pub const OUT: usize = 4 * Parser::SYMBOL;
-
-    // The number of the first node.
-    pub const LEAST: usize = 256;
-
+impl State {
     // Nothing is read behind `at`, and `out` bytes are written.
     pub fn begun(at: usize, out: usize) -> Self
         ensures { result ≡ begun_at at out }
     {
-        Writer {
+        State {
             at,
             out,
             nodes: 0,
@@ -49,40 +35,39 @@ impl Writer {
             args: 0,
         }
     }
+}
 
-    pub fn moved(mut self, at: usize) -> Self
-        ensures { result ≡ moved_to self at }
-    {
-        self.at = at;
-        self
-    }
+// A node to be found or added: its tag, the number below it, and the place of its word in the symbol.
+#[derive(Clone, Copy)]
+pub struct Row {
+    pub tag: usize,
+    pub of: usize,
+    pub word: Part,
+}
 
-    pub fn written(mut self, out: usize) -> Self
-        ensures { result ≡ written_to self out }
-    {
-        self.out = out;
-        self
-    }
+// A symbol that is read, and its normal symbol, written in lent slices.
+#[derive(Drop)]
+pub struct Writer<'a> {
+    pub s: &'a [u8],
+    // what is written
+    pub out: &'a mut [u8],
+    // two numbers for each node: its tag and the number below
+    pub ends: &'a mut [u16],
+    // two for each node: where its word begins and ends in the symbol
+    pub words: &'a mut [u16],
+    // the table, and from the middle on the place that a node has in the table without later doubles
+    pub tables: &'a mut [u16],
+    // the newest node of each bucket, and from the middle on the node before it
+    pub chains: &'a mut [u16],
+    pub state: State,
+}
 
-    pub fn noted(mut self, nodes: usize) -> Self
-        ensures { result ≡ noted_to self nodes }
-    {
-        self.nodes = nodes;
-        self
-    }
+impl Writer<'_> {
+    // Where the second half of a slice of numbers begins.
+    pub const MIDDLE: usize = Parser::SYMBOL;
 
-    pub fn entered(mut self, table: usize, firsts: usize) -> Self
-        ensures { result ≡ entered_to self table firsts }
-    {
-        self.table = table;
-        self.firsts = firsts;
-        self
-    }
+    pub const OUT: usize = 4 * Parser::SYMBOL;
 
-    pub fn counted(mut self, args: usize) -> Self
-        ensures { result ≡ counted_to self args }
-    {
-        self.args = args;
-        self
-    }
+    // The number of the first node.
+    pub const LEAST: usize = 256;
 }

@@ -1,75 +1,42 @@
 // Identifiers, and source names: an identifier behind its length.
 ghost use Rattle.std.specs.Prelude.{◌≡◌, ◌≤◌, length};
 ghost use Rattle.grammar.specs.Text.{same};
-ghost use Rattle.catalogue.specs.Bytes.{all};
 ghost use Rattle.catalogue.specs.Class.{word_byte, reserved, listed, name_ok};
 ghost use Rattle.normal_walk.specs.Walk.{capital};
 ghost use Rattle.normal_steps.specs.Parts.{part};
-ghost use Rattle.normal_steps.specs.Alphabets.{in_alphabet};
 ghost use Rattle.normal_steps.specs.Answers.{NameIs};
 
+use grammar::state::Part;
 use grammar::{numbers, text};
-use store::stack;
 
-#[derive(Clone, Copy)]
-pub enum Named {
-    At(usize, usize),
-    Bad,
-}
-
-// Letters, digits and `_`; or digits and capitals.
-#[derive(Clone, Copy)]
-pub enum Alphabet {
-    Words,
-    Capitals,
-}
+const RESERVED: [&[u8]; 13] = [
+    b"void",
+    b"wchar_t",
+    b"bool",
+    b"char",
+    b"short",
+    b"int",
+    b"long",
+    b"__int128",
+    b"float",
+    b"double",
+    b"__float128",
+    b"true",
+    b"false",
+];
 
 // A letter, a digit or `_`.
 fn word_byte(c: u8) -> bool
     ensures { result ≡ word_byte c }
 {
-    // small letters first, since most bytes of names are
-    if b'a' <= c {
-        return c <= b'z';
-    }
-    if numbers::digit_value(c) < 36 {
-        return true;
-    }
-    c == b'_'
+    matches!(c, b'a'..=b'z' | b'A'..=b'Z' | b'0'..=b'9' | b'_')
 }
 
 // A digit or a capital.
-fn capital_byte(c: u8) -> bool
+pub fn capital_byte(c: u8) -> bool
     ensures { result ≡ capital c }
 {
-    match c {
-        b'0'..=b'9' => true,
-        b'A'..=b'Z' => true,
-        _ => false,
-    }
-}
-
-fn in_alphabet(alphabet: Alphabet, c: u8) -> bool
-    ensures { result ≡ in_alphabet alphabet c }
-{
-    match alphabet {
-        Alphabet::Words => word_byte(c),
-        Alphabet::Capitals => capital_byte(c),
-    }
-}
-
-pub fn all_in(s: &[u8], from: usize, to: usize, alphabet: Alphabet) -> bool
-    requires { to ≤ length s.now }
-    ensures { result ≡ all (in_alphabet alphabet) (part s.now from to) }
-{
-    let mut i = from;
-    while i < to {
-        if !in_alphabet(alphabet, s[i]) {
-            return false;
-        }
-        i += 1;
-    }
-    true
+    matches!(c, b'0'..=b'9' | b'A'..=b'Z')
 }
 
 // Whether a part is the word.
@@ -77,10 +44,7 @@ pub fn is_word(s: &[u8], from: usize, to: usize, word: &[u8]) -> bool
     requires { (from ≤ to) × (to ≤ length s.now) }
     ensures { result ≡ same (part s.now from to) word.now }
 {
-    if to - from != word.len() {
-        return false;
-    }
-    text::starts_with(s, from, word)
+    &s[from..to] == word
 }
 
 // Whether two parts are the same word.
@@ -88,31 +52,23 @@ pub fn same_word(s: &[u8], a: usize, b: usize, from: usize, to: usize) -> bool
     requires { ((a ≤ b) × (b ≤ length s.now)) × ((from ≤ to) × (to ≤ length s.now)) }
     ensures { result ≡ same (part s.now a b) (part s.now from to) }
 {
-    let n = b - a;
-    if n != to - from {
-        return false;
-    }
-    stack::same_part(s, a, s, from, n)
+    s[a..b] == s[from..to]
 }
 
-// No test ends the others, since most names are not reserved.
-fn is_reserved(s: &[u8], from: usize, to: usize) -> bool
-    requires { (from ≤ to) × (to ≤ length s.now) }
-    ensures { result ≡ listed (part s.now from to) reserved }
+fn is_reserved(word: &[u8]) -> bool
+    ensures { result ≡ listed word.now reserved }
 {
-    is_word(s, from, to, b"void")
-        | is_word(s, from, to, b"wchar_t")
-        | is_word(s, from, to, b"bool")
-        | is_word(s, from, to, b"char")
-        | is_word(s, from, to, b"short")
-        | is_word(s, from, to, b"int")
-        | is_word(s, from, to, b"long")
-        | is_word(s, from, to, b"__int128")
-        | is_word(s, from, to, b"float")
-        | is_word(s, from, to, b"double")
-        | is_word(s, from, to, b"__float128")
-        | is_word(s, from, to, b"true")
-        | is_word(s, from, to, b"false")
+    RESERVED.iter().any(|w| word == *w)
+}
+
+// Whether a word may be a source name.
+fn is_name(word: &[u8]) -> bool
+    ensures { result ≡ name_ok word.now }
+{
+    match word {
+        [] | [b'0'..=b'9', ..] => false,
+        _ => word.iter().all(|c| word_byte(*c)) && !is_reserved(word),
+    }
 }
 
 // Whether a part may be a source name.
@@ -120,41 +76,21 @@ pub fn word_ok(s: &[u8], from: usize, to: usize) -> bool
     requires { to ≤ length s.now }
     ensures { result ≡ name_ok (part s.now from to) }
 {
-    if to <= from {
-        return false;
-    }
-    if numbers::digit_value(s[from]) < 10 {
-        return false;
-    }
-    if !all_in(s, from, to, Alphabet::Words) {
-        return false;
-    }
-    // no reserved word is longer
-    if 10 < to - from {
-        return true;
-    }
-    !is_reserved(s, from, to)
+    from < to && is_name(&s[from..to])
 }
 
 // <source-name> ::= <number> <identifier>, the number without leading zero
-pub fn source_name(s: &[u8], at: usize) -> Named
+pub fn source_name(s: &[u8], at: usize) -> Option<Part>
     ensures { NameIs s.now at result }
 {
-    if text::starts_with(s, at, b"0") {
-        return Named::Bad;
+    if text::here(s, at, b'0') {
+        return None;
     }
     let length = numbers::digits::<10>(s, at);
     let from = length.next;
-    if s.len() <= from {
-        return Named::Bad;
+    let to = from.checked_add(length.value as usize)?;
+    if s.len() < to || !word_ok(s, from, to) {
+        return None;
     }
-    let left = (s.len() - from) as u64;
-    if left < length.value {
-        return Named::Bad;
-    }
-    let to = from + length.value as usize;
-    if !word_ok(s, from, to) {
-        return Named::Bad;
-    }
-    Named::At(from, to)
+    Some(Part { from, to })
 }

@@ -9,9 +9,9 @@ ghost use Rattle.normal_steps.specs.Carries.{work, Sized, Ready};
 ghost use Rattle.normal_writer.specs.Writes.{Plain, Scoped, Functions, Types, Writes};
 
 use crate::cycle;
+use grammar::state::Part;
 use grammar::text as bytes;
 use normal_steps::state::{Told, Writer};
-use normal_steps::words::Named;
 use normal_steps::{memory, steps, words};
 
 // The normal symbol is written; or the symbol is outside the class.
@@ -43,7 +43,7 @@ fn plain(s: &[u8], out: &mut [u8]) -> Headed
     requires { (length s.now ≤ most_symbol_bytes) × (length out.old ≡ out_length) }
     ensures { Plain s.now out.new result }
 {
-    let Named::At(from, to) = words::source_name(s, 2) else {
+    let Some(Part { from, to }) = words::source_name(s, 2) else {
         return Headed::Bad;
     };
     let begun = begin(out, b"_Z");

@@ -1,5 +1,5 @@
 -- The nodes that can be found: what a search finds, and a node more. Assumes nothing.
-use Rattle.std.specs.Prelude.{Bool, true, false, ◌≡◌, refl, ℕ, suc, ◌+◌, ◌*◌, ◌≤◌, ◌<◌, ltb, length, get_or}
+use Rattle.std.specs.Prelude.{Bool, true, false, ◌≡◌, refl, ℕ, suc, ◌+◌, ◌*◌, ◌≤◌, ◌<◌, ltb, length, get_or, Some, None}
 use Rattle.std.proofs.Math.Option.{none}
 use Rattle.std.proofs.Common.{sym, ap, subst, ◌∙◌, arith, ltb-true, ltb-false}
 use Rattle.grammar.specs.Text.{Text}
@@ -11,7 +11,7 @@ use Rattle.normal_steps.specs.Rows.{node_at, nodes_of}
 use Rattle.normal_steps.specs.Chains.{bucket_of, Linked, Findable}
 use Rattle.normal_steps.specs.Carries.{Sized}
 use Rattle.normal_steps.specs.Seeks.{Sought}
-use Rattle.normal_steps.specs.Laws.Seeks.{sought_at, sought_nowhere, none_passes}
+use Rattle.normal_steps.specs.Laws.Seeks.{none_passes}
 use Rattle.normal_steps.specs.Laws.Rows.{nodes_at, seek_none, seek_some, two_at, two_size, two_first, two_second, two_old, node_old, node_new}
 use Rattle.normal_steps.specs.Laws.Chains.{Left, left_none, linked_at, linked_more}
 
@@ -19,15 +19,16 @@ module _ {s e w c : Text} {n : ℕ} (h : Findable s e w c n) where
   -- ---------------------------------------------------------------- the search
 
   module _ (x : Node) where
-    pub found_at : (i : ℕ) → i < n → same_node x (node_at s e w i) ≡ true → Sought (same_node x) (nodes_of s e w n) n i
-    found_at i l t =
-        sought_at (same_node x) (nodes_of s e w n) n i l
-        (seek_some s e w (same_node x) n i l t λ k m u.
-        h.distinct k i m l
-        (ap (λ (y : Node). same_node y (node_at s e w i)) (sym (same_node_eq x (node_at s e w k) u)) ∙ t))
+    pub found_at : (i : ℕ) → i < n → same_node x (node_at s e w i) ≡ true → Sought (same_node x) (nodes_of s e w n) n (Some i)
+    found_at i l t = (
+      l,
+      seek_some s e w (same_node x) n i l t λ k m u.
+          h.distinct k i m l
+          (ap (λ (y : Node). same_node y (node_at s e w i)) (sym (same_node_eq x (node_at s e w k) u)) ∙ t),
+    )
 
-    pub found_none : {bound i : ℕ} → Left (node_at s e w) n x bound i → bound ≤ i → Sought (same_node x) (nodes_of s e w n) n n
-    found_none f m = sought_nowhere (same_node x) (nodes_of s e w n) n (seek_none s e w (same_node x) n (left_none h.linked x f m))
+    pub found_none : {bound i : ℕ} → Left (node_at s e w) n x bound i → bound ≤ i → Sought (same_node x) (nodes_of s e w n) n None
+    found_none f m = seek_none s e w (same_node x) n (left_none h.linked x f m)
 
   -- ---------------------------------------------------------------- a node more
 

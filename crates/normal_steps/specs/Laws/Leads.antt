@@ -1,11 +1,13 @@
 -- Laws of Leads.antt. Assumes nothing.
-use Rattle.std.specs.Prelude.{Bool, ◌≡◌, ℕ}
+use Rattle.std.specs.Prelude.{Bool, ◌||◌, ◌≡◌, ℕ, map}
 use Rattle.std.proofs.Math.Bool.{true, false}
 use Rattle.std.proofs.lemmas.Bool.{false≢true}
+use Rattle.std.proofs.lemmas.Bool.Decides.{nat_tests}
+use Rattle.std.specs.List.{list_any}
 use mathlib.Core.List.{List, [], ◌∷◌}
 use Rattle.std.proofs.Math.Option.{Option, none, some}
 use Rattle.std.proofs.Math.Path.{refl, ap}
-use Rattle.std.proofs.Common.{sym, subst, arith, eqb-true, ne_eqb}
+use Rattle.std.proofs.Common.{sym, subst, arith, eqb-true}
 use Rattle.std.proofs.Math.Dec.{eqb}
 use Rattle.grammar.specs.Text.{if◌then◌otherwise◌, choose, digit}
 use Rattle.catalogue.specs.Tree.{Letter as Letters, Wrap as Wraps, letter_code, wrap_code}
@@ -17,18 +19,14 @@ use Rattle.normal_steps.specs.Leads.{class, there}
 -- ---------------------------------------------------------------- the one that has a byte
 
 module _ {A : Type 0} (f : A → ℕ) (c : ℕ) where
-  -- what `_` of a match knows: the byte is none of the arms' bytes
-  abbrev none_of : Type 0 → List A → Type 0
-  none_of B [] = B
-  none_of B (x ∷ xs) = none_of (B × (c ≡ f x → ⊥)) xs
-
-  missed : (B : Type 0) (xs : List A) → none_of B xs → B × (with_code f c xs ≡ none)
+  pub there_any : (xs : List A) → there (with_code f c xs) ≡ list_any (eqb c) (map f xs)
   unfolding with_code if◌then◌otherwise◌
-  missed B [] h = (h, refl)
-  missed B (x ∷ xs) h = let (g, e) = missed (B × (c ≡ f x → ⊥)) xs h in (g.0, rw (ne_eqb c (f x) g.1) e)
-
-  pub uncoded : (xs : List A) → none_of (Unit {0}) xs → with_code f c xs ≡ none
-  uncoded xs h = (missed (Unit {0}) xs h).1
+  there_any [] = refl
+  there_any (x ∷ xs) = go (eqb c (f x)) (there_any xs)
+    where
+      go : (q : Bool) → there (with_code f c xs) ≡ list_any (eqb c) (map f xs) → there (if q then some x otherwise with_code f c xs) ≡ (q || list_any (eqb c) (map f xs))
+      go true e = refl
+      go false e = e
 
   pub coded : (xs : List A) (y : A) → with_code f c xs ≡ some y → f y ≡ c
   unfolding with_code if◌then◌otherwise◌
@@ -39,27 +37,8 @@ module _ {A : Type 0} (f : A → ℕ) (c : ℕ) where
       go true g h e' = let z : x ≡ y = cc in rw (← z) (sym (eqb-true c (f x) g))
       go false g h e' = h e'
 
--- ---------------------------------------------------------------- wrappers and letters
-
-pub a_wrapper : (o : Option Wraps) (x : First) → there o ≡ true → class (choose o lead_wrap x) ≡ Wrap
-unfolding choose
-a_wrapper none x h = absurd (false≢true h)
-a_wrapper (some q) x h = refl
-
-pub no_wrapper : (o : Option Wraps) (x : First) → there o ≡ false → choose o lead_wrap x ≡ x
-unfolding choose
-no_wrapper none x h = refl
-no_wrapper (some q) x h = absurd (false≢true (sym h))
-
-pub a_letter : (o : Option Letters) (x : First) → there o ≡ true → class (choose o lead_letter x) ≡ Letter
-unfolding choose
-a_letter none x h = absurd (false≢true h)
-a_letter (some l) x h = refl
-
-pub no_letter : (o : Option Letters) (x : First) → there o ≡ false → choose o lead_letter x ≡ x
-unfolding choose
-no_letter none x h = refl
-no_letter (some l) x h = absurd (false≢true (sym h))
+-- for a test of the bytes
+pub ruleset bytes = (there_any, nat_tests)
 
 -- ---------------------------------------------------------------- what a class says of the byte
 

@@ -1,5 +1,5 @@
 -- What the writing holds after a source name, a reference or a literal was read. Assumes nothing.
-use Rattle.std.specs.Prelude.{Bool, true, false, [], ◌∷◌, ◌++◌, ◌≡◌, ℕ, suc, ◌+◌, ◌-◌, ◌≤◌, ◌<◌, take, drop}
+use Rattle.std.specs.Prelude.{Bool, true, false, [], ◌∷◌, ◌++◌, ◌≡◌, ℕ, suc, ◌+◌, ◌-◌, ◌*◌, ◌≤◌, ◌<◌, take, drop}
 use Rattle.std.proofs.Common.{append_assoc, sym, ap, ◌∙◌, length-append, take_at}
 use Rattle.std.proofs.Math.Option.{some}
 use Rattle.std.proofs.Math.Path.{refl, subst}
@@ -16,35 +16,27 @@ use Rattle.normal_walk.proofs.Laws.Leaves.{Literal, lit_sound}
 use Rattle.normal_walk.proofs.Laws.Sizes.{name_length}
 use Rattle.normal_nodes.specs.Nodes.{node, Notes, Got, got, bad, notes, put, go_to, settled, signed_kind, with_node, number_of, at_reference}
 use Rattle.normal_nodes.specs.Laws.Nodes.{kind_below}
-use Rattle.normal_steps.specs.Limits.{most_note}
+use Rattle.normal_steps.specs.Limits.{most_note, out_length}
 use Rattle.normal_steps.specs.Parts.{part}
 use Rattle.normal_steps.specs.Laws.Parts.{part_length}
-use Rattle.normal_steps.specs.Answers.{NameAt, NameIs, RefAt, RefIs, Value, LitIs}
+use Rattle.normal_steps.specs.Answers.{NameAt, RefAt, Value}
 use Rattle.normal_steps.specs.Laws.Leaves.{no_entry, entry_told}
-use Rattle.normal_steps.specs.States.{moved_to}
-use Rattle.normal_steps.specs.Carries.{Work, out_to, Carries, Room, Stretch, Puts, notes_node, at_literal, Passed}
+use Rattle.normal_steps.specs.States.{moved_to, written_to}
+use Rattle.normal_steps.specs.Carries.{Work, Carries, Room, Stretch, notes_node, at_literal, Passed}
 use Rattle.normal_steps.specs.Laws.Slices.{out_size}
-use Rattle.normal_steps.specs.Laws.Moves.{put_moved}
+use Rattle.normal_steps.specs.Laws.Moves.{holds_moved}
 use Rattle.normal_steps.specs.Laws.Limits.{passed_none, passed_more, room_for, stretch_for}
 use Rattle.normal_steps.specs.Laws.Steps.{with_some}
-use Rattle.normal_steps.specs.declared.state.Writer.{Writer}
-use Rattle.normal_steps.specs.declared.words.Named.{Named}
-use Rattle.normal_steps.specs.declared.words.Named.TheVariants.{At, Bad as no_name}
-use Rattle.normal_steps.specs.declared.marks.Referred.{Referred}
-use Rattle.normal_steps.specs.declared.marks.Referred.TheVariants.{To as to_entry, Bad as no_reference}
-use Rattle.normal_steps.specs.declared.marks.Valued.{Valued}
-use Rattle.normal_steps.specs.declared.marks.Valued.TheVariants.{To as to_value, Bad as no_value}
+use Rattle.normal_steps.specs.declared.state.State.{State}
+
+-- a part of the symbol as another name of it has it
+pub same_part : {s s' : Text} (from to : ℕ) → s' ≡ s → part s' from to ≡ part s from to
+same_part from to e = ap (λ (t : Text). part t from to) e
 
 -- ---------------------------------------------------------------- source names
 
 abbrev name_of : Text → ℕ → ℕ → Text
 name_of s from to = name_bytes (part s from to)
-
-pub no_name_at : (s : Text) (at : ℕ) {r : Named} → NameIs s at r → r ≡ no_name → name (drop at s) ≡ stop
-no_name_at s at x e = subst (NameIs s at) e x
-
-pub name_at : (s : Text) (at : ℕ) {r : Named} {from to : ℕ} → NameIs s at r → r ≡ At from to → NameAt s at from to
-name_at s at x e = subst (NameIs s at) e x
 
 module _ {s : Text} {at from to : ℕ} (x : NameAt s at from to) where
   pub name_size : (length (name_of s from to) ≡ to - at) × (at + 2 ≤ to)
@@ -56,19 +48,16 @@ module _ {s : Text} {at from to : ℕ} (x : NameAt s at from to) where
       let m = x.inside in
       (omega arith, omega arith)
 
-  module _ {ws : Work} {p : Writer} {σ : Notes} (h : Carries s ws p σ) (b : at ≡ p.at) where
-    pub name_fits : {q : Writer} → q ≡ moved_to p to → q.out + length (name_of s from to) ≤ length ws.out
-    name_fits e = let z = name_size in let i = x.inside in omega (arith, out_size h, ap (λ (y : Writer). y.out) e)
+  module _ {ws : Work} {p : State} {σ : Notes} (h : Carries s ws p σ) (b : at ≡ p.at) where
+    pub name_fits : p.out + length (name_of s from to) ≤ length ws.out
+    name_fits = let z = name_size in let i = x.inside in omega (arith, out_size h)
 
-    module _ {o' : Text} {q r : Writer} (e : q ≡ moved_to p to) (y : Puts (name_of s from to) ws.out o' q r) where
+    module _ {r : State} (y : r ≡ written_to (moved_to p to) (p.out + length (name_of s from to))) where
       pub name_wrote : Passed to (to - at) p r
       name_wrote =
           let z = name_size in
           let l : 0 + length (name_of s from to) ≡ to - at = omega arith in
-          subst (λ (k : ℕ). Passed to k p r) l (passed_more (length (name_of s from to)) (passed_none p e) y.0)
-
-      pub name_held : Carries s (out_to ws o') r (put (name_of s from to) (go_to (drop to s) σ))
-      name_held = let z = name_size in put_moved h (name_of s from to) e y (omega arith) x.inside (omega arith)
+          subst (λ (k : ℕ). Passed to k p r) l (passed_more (length (name_of s from to)) (passed_none p refl) y)
 
       pub name_room : Room 1 1 r
       name_room = let z = name_size in room_for h name_wrote (omega arith)
@@ -76,15 +65,15 @@ module _ {s : Text} {at from to : ℕ} (x : NameAt s at from to) where
       pub name_stretch : Stretch p.out r
       name_stretch = let z = name_size in stretch_for h name_wrote (omega arith) (omega arith)
 
+    -- as the writing tells it
+    pub name_held : {s' : Text} {ws' : Work} {r : State}
+        → ((τ : Notes) → Carries s ws (moved_to p to) τ → p.out + length (name_of s from to) + 1 ≤ 4 * to → Carries s' ws' r (put (name_of s from to) τ))
+        → Carries s' ws' r (put (name_of s from to) (go_to (drop to s) σ))
+    name_held f = let z = name_size in f _ (holds_moved h to (omega arith) x.inside) (omega (arith, h.short))
+
 -- ---------------------------------------------------------------- references
 
-pub no_reference_at : (s : Text) (at : ℕ) {r : Referred} → RefIs s at r → r ≡ no_reference → reference (drop at s) ≡ stop
-no_reference_at s at x e = subst (RefIs s at) e x
-
-pub reference_at : (s : Text) (at : ℕ) {r : Referred} {i end : ℕ} → RefIs s at r → r ≡ to_entry i end → RefAt s at i end
-reference_at s at x e = subst (RefIs s at) e x
-
-module _ {s : Text} {ws : Work} {p : Writer} {σ : Notes} (h : Carries s ws p σ) {i end : ℕ} (x : RefAt s p.at i end) where
+module _ {s : Text} {ws : Work} {p : State} {σ : Notes} (h : Carries s ws p σ) {i end : ℕ} (x : RefAt s p.at i end) where
   same_entry : get_elem? σ.table x.index ≡ get_elem? σ.table i
   same_entry = sym (entry_told σ.table x.index (omega arith)) ∙ ap (get_elem? σ.table) (sym x.told)
 
@@ -105,13 +94,6 @@ module _ {s : Text} {ws : Work} {p : Writer} {σ : Notes} (h : Carries s ws p σ
 
 -- ---------------------------------------------------------------- literals
 
-pub no_literal_at : (s : Text) (at : ℕ) {r : Valued} → LitIs s at r → r ≡ no_value → literal (drop at s) ≡ stop
-no_literal_at s at x e = subst (LitIs s at) e x
-
-pub literal_at : (s : Text) (at : ℕ) {r : Valued} {to kind : ℕ} {g : Bool} {from : ℕ} → LitIs s at r → r ≡ to_value to kind g from
-    → Value (literal (drop at s)) s to kind g from × (at < from)
-literal_at s at x e = subst (LitIs s at) e x
-
 pub signed_below : (k : ℕ) (g : Bool) → k < 256 → signed_kind k g < most_note
 signed_below k true l = omega arith
 signed_below k false l = omega arith
@@ -129,44 +111,56 @@ lit_part s at to t e l m =
     omega (arith, ap length y, length-append (lit_bytes t) (drop to s), length-drop at s, length-drop to s) in
     sym (take_at (lit_bytes t) (drop to s) (suc (to - at)) z) ∙ ap (take (suc (to - at))) y
 
-module _ {s : Text} {ws : Work} {p : Writer} {σ : Notes} (h : Carries s ws p σ) {to kind : ℕ} {g : Bool} {from : ℕ}
+module _ {s : Text} {ws : Work} {p : State} {σ : Notes} (h : Carries s ws p σ) {to kind : ℕ} {g : Bool} {from : ℕ}
     (x : Value (literal (drop p.at s)) s to kind g from) (b : p.at < from) where
   abbrev marked : Notes
   marked = put (code "L" ∷ []) (go_to (drop to s) σ)
 
-  pub literal_is : (m : ℕ) → m ≡ signed_kind kind g
-      → at_literal σ ≡ notes_node (node (code "L") m (part s from (to - 1))) (put (part s p.at to) marked)
-  literal_is m e =
+  -- where the parts are known by other names
+  pub literal_is : {m : ℕ} {n u : Text} → m ≡ signed_kind kind g → n ≡ part s from (to - 1) → u ≡ part s p.at to
+      → at_literal σ ≡ notes_node (node (code "L") m n) (put u marked)
+  literal_is {m} {n} {u} e a d =
       let f : signed_kind (kind_code x.of) g ≡ m = ap (λ (k : ℕ). signed_kind k g) x.byte ∙ sym e in
-      let z : σ.out ++ lit_bytes (lit x.of g (part s from (to - 1))) ≡ (σ.out ++ (code "L" ∷ [])) ++ part s p.at to =
+      let z : σ.out ++ lit_bytes (lit x.of g (part s from (to - 1))) ≡ (σ.out ++ (code "L" ∷ [])) ++ u =
       ap (λ (w : Text). σ.out ++ w) (lit_part s p.at to (lit x.of g (part s from (to - 1))) x.is (omega arith) x.inside)
-      ∙ sym (append_assoc σ.out (code "L" ∷ []) (part s p.at to)) in
+      ∙ sym (append_assoc σ.out (code "L" ∷ []) (part s p.at to))
+      ∙ ap (λ (w : Text). (σ.out ++ (code "L" ∷ [])) ++ w) (sym d) in
       with_some _ (ap literal h.rest ∙ x.is)
-      ∙ ap (λ (j : ℕ). by j (σ.out ++ lit_bytes (lit x.of g (part s from (to - 1))))) f
-      ∙ ap (by m) z
+      ∙ ap (λ (j : ℕ). by j (part s from (to - 1)) (σ.out ++ lit_bytes (lit x.of g (part s from (to - 1))))) f
+      ∙ ap (by m (part s from (to - 1))) z
+      ∙ ap (λ (w : Text). by m w ((σ.out ++ (code "L" ∷ [])) ++ u)) (sym a)
     where
-      by : ℕ → Text → Got ℕ
-      by j w =
-          got (number_of (node (code "L") j (part s from (to - 1))) σ.nodes)
-          (notes w (with_node (node (code "L") j (part s from (to - 1))) σ.nodes) σ.table σ.args (drop to s))
+      by : ℕ → Text → Text → Got ℕ
+      by j n w =
+          got (number_of (node (code "L") j n) σ.nodes)
+          (notes w (with_node (node (code "L") j n) σ.nodes) σ.table σ.args (drop to s))
 
   pub literal_kind : kind < 256
   literal_kind = omega (arith, kind_below x.of, x.byte)
 
-  module _ {o' : Text} {q r : Writer} (e : q ≡ moved_to p to) (y : Puts (code "L" ∷ []) ws.out o' q r) where
-    pub literal_marked : Carries s (out_to ws o') r marked
-    literal_marked = put_moved h (code "L" ∷ []) e y (omega (arith, x.some)) x.inside (omega (arith, x.some))
+  -- as the writing tells it
+  pub literal_marked : {s' : Text} {ws' : Work} {q : State}
+      → ((τ : Notes) → Carries s ws (moved_to p to) τ → p.out + 1 + 1 ≤ 4 * to → Carries s' ws' q (put (code "L" ∷ []) τ))
+      → Carries s' ws' q marked
+  literal_marked f = f _ (holds_moved h to (omega (arith, x.some)) x.inside) (omega (arith, h.short, x.some))
 
-    module _ {o'' : Text} {u : Writer} (z : Puts (part s p.at to) o' o'' r u) where
-      pub literal_wrote : Passed to (to - p.at + 1) p u
-      literal_wrote =
-          let l : 0 + 1 + length (part s p.at to) ≡ to - p.at + 1 = omega (arith, part_length s p.at to x.inside) in
-          subst (λ (k : ℕ). Passed to k p u) l (passed_more (length (part s p.at to)) (passed_more 1 (passed_none p e) y.0) z.0)
+  module _ {u : Text} (a : u ≡ part s p.at to) where
+    literal_length : length u ≡ to - p.at
+    literal_length = ap length a ∙ part_length s p.at to x.inside
 
-      pub literal_held : Carries s (out_to ws o'') u (put (part s p.at to) marked)
-      literal_held =
-          let w = passed_more 1 (passed_none p e) y.0 in
-          z.1 s ws marked literal_marked (omega (arith, part_length s p.at to x.inside, x.some))
+    module _ {q : State} (y : q ≡ written_to (moved_to p to) (p.out + 1)) where
+      pub literal_spare : q.out + length u + 1 ≤ 4 * q.at
+      literal_spare =
+          omega (arith, literal_length, h.short, x.some, ap (λ (z : State). z.out) y, ap (λ (z : State). z.at) y)
 
-      pub literal_room : Room 1 1 u
-      literal_room = room_for h literal_wrote (omega (arith, x.some))
+      pub literal_fits : q.out + (to - p.at) ≤ out_length
+      literal_fits = omega (arith, literal_length, literal_spare, h.source, x.inside, ap (λ (z : State). z.at) y)
+
+      module _ {r : State} (z : r ≡ written_to q (q.out + length u)) where
+        pub literal_wrote : Passed to (to - p.at + 1) p r
+        literal_wrote =
+            let l : 0 + 1 + length u ≡ to - p.at + 1 = omega (arith, literal_length) in
+            subst (λ (k : ℕ). Passed to k p r) l (passed_more (length u) (passed_more 1 (passed_none p refl) y) z)
+
+        pub literal_room : Room 1 1 r
+        literal_room = room_for h literal_wrote (omega (arith, x.some))

@@ -1,5 +1,5 @@
 -- Source names, references and literals of the walk, as the code finds their parts. Assumes nothing.
-use Rattle.std.specs.Prelude.{Bool, true, false, not, ◌&&◌, List, [], ◌∷◌, ◌≡◌, ℕ, zero, suc, ◌+◌, ◌-◌, ◌≤◌, ◌<◌, min, length, take, drop, get_or}
+use Rattle.std.specs.Prelude.{Bool, true, false, not, ◌&&◌, List, [], ◌∷◌, ◌≡◌, ℕ, zero, suc, ◌+◌, ◌-◌, ◌≤◌, ◌<◌, min, length, take, drop, get_or, Option as Maybe, Some, None}
 use Rattle.std.proofs.lemmas.Bool.{false≢true, lt-leb}
 use Rattle.std.proofs.Common.{⊎_elim, sym, ◌∙◌, le-leb}
 use Rattle.std.proofs.Math.Option.{Option, none, some}
@@ -11,25 +11,29 @@ use Rattle.grammar.specs.Text.{Text, if◌then◌otherwise◌, choose, starts, r
 use Rattle.grammar.specs.Grammar.{index}
 use Rattle.catalogue.specs.Bytes.{all}
 use Rattle.catalogue.specs.Tree.{Kind, Ty, lit, kind_code}
-use Rattle.catalogue.specs.Class.{word_byte, reserved, listed, name_ok, leading_zero, lit_ok}
+use Rattle.catalogue.specs.Class.{word_byte, reserved, listed, name_ok, lit_ok}
 use Rattle.catalogue.specs.Recogniser.{Rd, rd, stop, if_next, cut, read_name, with_code, all_kinds}
-use Rattle.normal_walk.specs.Walk.{keep, name, capital, canonical, reference, value as value_at, literal as literal_at}
+use Rattle.normal_walk.specs.Walk.{keep, name, canonical, reference, value as value_at, literal as literal_at}
 use Rattle.normal_steps.specs.Parts.{part}
-use Rattle.normal_steps.specs.Laws.Parts.{part_more, run_is, past_is}
+use Rattle.normal_steps.specs.Laws.Parts.{run_is, past_is}
 use Rattle.grammar.specs.Laws.Places.{rest_some, rest_none, starts_inside}
 use Rattle.normal_steps.specs.Laws.Tests.{next_here, next_not, first_zero, lt_or_le}
 use Rattle.normal_steps.specs.Answers.{RefAt, most_index, Value, ValueIs, LitIs, valid_by}
 use Rattle.normal_steps.specs.Laws.Leads.{coded}
 use Rattle.normal_steps.specs.declared.marks.Valued.{Valued}
-use Rattle.normal_steps.specs.declared.marks.Valued.TheVariants.{To, Bad}
 
 -- ---------------------------------------------------------------- source names
 
 -- the rules of an identifier, tested from the first byte on
-pub name_rules : (s : Text) (from to : ℕ) → from < to → to ≤ length s
-    → name_ok (part s from to) ≡ (not (digit 10 (get_or s from 0)) && (all word_byte (part s from to) && not (listed (part s from to) reserved)))
+pub name_rules : (n : Text) → 0 < length n → name_ok n ≡ (not (digit 10 (get_or n 0 0)) && (all word_byte n && not (listed n reserved)))
 unfolding name_ok
-name_rules s from to h l = rw (part_more s from to h l) refl
+name_rules [] h = absurd (omega arith)
+name_rules (c ∷ n) h = refl
+
+pub name_none : (n : Text) → length n ≡ 0 → name_ok n ≡ false
+unfolding name_ok
+name_none [] h = refl
+name_none (c ∷ n) h = absurd (omega arith)
 
 pub name_some : (n : Text) → name_ok n ≡ true → 0 < length n
 unfolding name_ok
@@ -67,12 +71,13 @@ module _ (s : Text) (at from : ℕ) (e : from ≡ at + length (run (digit 10) (d
     name_is : name (drop at s) ≡ named (cut size (drop from s))
     name_is = by_read (cut size (drop from s)) cut_is
 
-    pub name_end : length s ≤ from → name (drop at s) ≡ stop
-    name_end l = name_is ∙ ap (λ (t : Text). named (cut size t)) (rest_none s from l) ∙ named_none size
-
-    pub name_long : from ≤ length s → length s < from + size → name (drop at s) ≡ stop
+    -- the bytes end before the name does
+    pub name_long : length s < from + size → name (drop at s) ≡ stop
     unfolding cut if◌then◌otherwise◌
-    name_long w l = name_is ∙ rw (lt-leb size (length (drop from s)) (omega (arith, length-drop from s))) refl
+    name_long l = ⊎_elim
+        (λ (k : size < 1). name_is ∙ ap (λ (t : Text). named (cut size t)) (rest_none s from (omega arith)) ∙ named_none size)
+        (λ (k : 1 ≤ size). name_is ∙ rw (lt-leb size (length (drop from s)) (omega (arith, length-drop from s))) refl)
+        (lt_or_le size 1)
 
     pub name_by : (to : ℕ) → to ≡ from + size → to ≤ length s → name (drop at s) ≡ keep (name_ok (part s from to)) (rd (part s from to) (drop to s))
     unfolding cut if◌then◌otherwise◌
@@ -116,17 +121,13 @@ module _ (s : Text) (at end : ℕ) (e : end ≡ at + length (run (digit 36) (dro
   ref_by h = by_end ∙ next_here 95 told stop s end h
 
   module _ (h : starts (drop end s) (95 ∷ []) ≡ true) where
-    pub ref_small : all capital (part s at end) ≡ false → reference (drop at s) ≡ stop
-    ref_small p = ref_by h ∙ rw p refl
+    pub ref_wrong : canonical (part s at end) ≡ false → reference (drop at s) ≡ stop
+    ref_wrong p = ref_by h ∙ rw p refl
 
-    pub ref_zero : all capital (part s at end) ≡ true → leading_zero (part s at end) ≡ true → reference (drop at s) ≡ stop
-    ref_zero p q = ref_by h ∙ rw (p, q) refl
-
-    pub ref_right : all capital (part s at end) ≡ true → leading_zero (part s at end) ≡ false
-        → (i : ℕ) → i ≡ min (index 36 (run (digit 36) (drop at s))) most_index → RefAt s at i (end + 1)
-    ref_right p q i m = record {
+    pub ref_right : canonical (part s at end) ≡ true → (i : ℕ) → i ≡ min (index 36 (run (digit 36) (drop at s))) most_index → RefAt s at i (end + 1)
+    ref_right p i m = record {
       index = index 36 (run (digit 36) (drop at s));
-      is = ref_by h ∙ rw (p, q) refl;
+      is = ref_by h ∙ rw p refl;
       told = m;
       behind = omega arith;
       inside = omega (arith, starts_inside s end 95 h);
@@ -207,7 +208,7 @@ module _ (s : Text) (at : ℕ) where
     literal_plain h = by_sign ∙ next_not 110 (of_kind true) (of_kind false (drop (at + 1) s)) (drop (at + 1) s) h
 
 -- a value's answer is the literal's
-pub from_value : (s : Text) (at kind : ℕ) (g : Bool) (from : ℕ) (r : Valued) → at < from
+pub from_value : (s : Text) (at kind : ℕ) (g : Bool) (from : ℕ) (r : Maybe Valued) → at < from
     → literal_at (drop at s) ≡ value_at (with_code kind_code kind all_kinds) g (drop from s) → ValueIs s kind g from r → LitIs s at r
-from_value s at kind g from (To to k m f) l e v = (record { of = v.0.of; byte = v.0.byte; is = e ∙ v.0.is; some = v.0.some; inside = v.0.inside }, omega arith)
-from_value s at kind g from Bad l e v = e ∙ v
+from_value s at kind g from (Some x) l e v = (record { of = v.0.of; byte = v.0.byte; is = e ∙ v.0.is; some = v.0.some; inside = v.0.inside }, omega arith)
+from_value s at kind g from None l e v = e ∙ v

@@ -1,21 +1,18 @@
 -- What the state of the writing holds at another place, and the byte there. Assumes nothing.
-use Rattle.std.specs.Prelude.{true, false, [], ◌∷◌, ◌≡◌, refl, ℕ, ◌+◌, ◌*◌, ◌≤◌, ◌<◌, length, drop, get_or}
+use Rattle.std.specs.Prelude.{true, false, [], ◌∷◌, ◌≡◌, refl, ℕ, ◌+◌, ◌≤◌, ◌<◌, length, drop, get_or}
 use Rattle.std.proofs.Common.{sym, ap, subst, ◌∙◌, arith, length-drop, drop-drop}
 use Rattle.grammar.specs.Text.{Text, starts}
 use Rattle.grammar.specs.Laws.Places.{rest_some, rest_none}
 use Rattle.grammar.specs.Laws.NameSteps.{starts_one}
 use Rattle.catalogue.specs.Recogniser.{if_next}
-use Rattle.normal_nodes.specs.Nodes.{Notes, put, go_to, counted}
+use Rattle.normal_nodes.specs.Nodes.{Notes, go_to, counted}
 use Rattle.normal_steps.specs.Laws.Tests.{next_not}
 use Rattle.normal_steps.specs.States.{moved_to, counted_to}
-use Rattle.normal_steps.specs.Carries.{Work, out_to, Carries, Ready, ReadyOut, ReadyEnds, ReadyTables, ReadyBoth, ReadyThree, ReadyNotes, Copies, Puts}
+use Rattle.normal_steps.specs.Carries.{Work, Carries, Ready, Copies}
+use Rattle.normal_steps.specs.declared.state.State.{State}
 use Rattle.normal_steps.specs.declared.state.Writer.{Writer}
 
--- what a method hands back holds what its equation says
-pub by_state : {s : Text} {ws : Work} {p q : Writer} {σ : Notes} → q ≡ p → Carries s ws p σ → Carries s ws q σ
-by_state {s} {ws} {p} {q} {σ} e h = subst (λ (x : Writer). Carries s ws x σ) (sym e) h
-
-module _ {s : Text} {ws : Work} {p : Writer} {σ : Notes} (h : Carries s ws p σ) where
+module _ {s : Text} {ws : Work} {p : State} {σ : Notes} (h : Carries s ws p σ) where
   pub holds_moved : (to : ℕ) → p.at ≤ to → to ≤ length s → Carries s ws (moved_to p to) (go_to (drop to s) σ)
   holds_moved to l k = record {
     source = h.source;
@@ -77,42 +74,9 @@ module _ {s : Text} {ws : Work} {p : Writer} {σ : Notes} (h : Carries s ws p σ
         (cc, cc)
 
     -- the state one byte on
-    pub holds_next : {q : Writer} → q ≡ moved_to p (p.at + 1) → Carries s ws q (go_to t σ)
-    holds_next {q} g =
-        by_state g
-        (subst (λ (r : Text). Carries s ws (moved_to p (p.at + 1)) (go_to r σ)) (sym next_byte.1) (holds_moved (p.at + 1) (omega arith) (omega (arith, some_left))))
+    pub holds_next : Carries s ws (moved_to p (p.at + 1)) (go_to t σ)
+    holds_next =
+        subst (λ (r : Text). Carries s ws (moved_to p (p.at + 1)) (go_to r σ)) (sym next_byte.1) (holds_moved (p.at + 1) (omega arith) (omega (arith, some_left)))
 
-  -- a text is written at another place
-  pub put_moved : (w : Text) {o' : Text} {q r : Writer} {to : ℕ} → q ≡ moved_to p to → Puts w ws.out o' q r
-      → p.at ≤ to → to ≤ length s → p.out + length w + 1 ≤ 4 * to → Carries s (out_to ws o') r (put w (go_to (drop to s) σ))
-  put_moved w {o'} {q} {r} {to} e x l k b =
-      x.1 s ws (go_to (drop to s) σ) (by_state e (holds_moved to l k)) (omega (arith, ap (λ (x : Writer). x.at) e, ap (λ (x : Writer). x.out) e))
-
-module _ {s : Text} {ws : Work} {p : Writer} where
-  pub moved_ready : {q : Writer} → q ≡ moved_to p (p.at + 1) → p.at < length s → Ready s ws p → Ready s ws q
-  moved_ready e l (σ, h) = (_, holds_next h (first_byte h l) e)
-
-  pub copied_ready : {o' : Text} {q : Writer} → Copies s ws.out o' p q → p.at < length s → Ready s ws p → Ready s (out_to ws o') q
-  copied_ready k l (σ, h) = (_, k.1 ws σ h _ _ (first_byte h l))
-
-  -- some slices alone are lent
-  pub ready_out : Ready s ws p → ReadyOut s ws.out p
-  ready_out w = (ws, w)
-
-  pub ready_ends : Ready s ws p → ReadyEnds s ws.ends p
-  ready_ends w = (ws, w)
-
-  pub ready_tables : Ready s ws p → ReadyTables s ws.tables p
-  ready_tables w = (ws, w)
-
-  pub ready_both : Ready s ws p → ReadyBoth s ws.out ws.tables p
-  ready_both w = (ws, w)
-
-  pub ready_three : Ready s ws p → ReadyThree s ws.out ws.ends ws.tables p
-  ready_three w = (ws, w)
-
-  pub ready_notes : Ready s ws p → ReadyNotes s ws.ends ws.words ws.tables ws.chains p
-  ready_notes w = (ws, w)
-
-abbrev pub work_of : {s : Text} {ws : Work} {p : Writer} {σ : Notes} → Carries s ws p σ → Work
-work_of {ws = ws} h = ws
+pub copied_ready : (w w' : Writer) → Copies w w' → w.state.at < length w.s.now → Ready w → Ready w'
+copied_ready w w' k l (σ, h) = (_, k.1 σ h _ _ (first_byte h l))

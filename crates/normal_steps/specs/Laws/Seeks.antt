@@ -9,7 +9,6 @@ use Prim.Native.Nat.{ℕ, zero, suc, ◌<◌}
 use Rattle.std.proofs.Math.ListN.{get_elem?}
 use Rattle.grammar.specs.Text.{if◌then◌otherwise◌}
 use Rattle.normal_nodes.specs.Nodes.{later, seek_by}
-use Rattle.normal_steps.specs.Seeks.{Sought}
 
 none_later : (o : Option ℕ) → later o ≡ none → o ≡ none
 none_later none e = refl
@@ -78,9 +77,3 @@ module _ {A : Type 0} (p : A → Bool) where
       go : (q : Bool) → (seek_by p xs ≡ none → ⊥) → (if q then some 0 otherwise later (seek_by p xs)) ≡ none → ⊥
       go true g h = none-ne-some 0 (sym h)
       go false g h = g (none_later (seek_by p xs) h)
-
-  pub sought_at : (xs : List A) (n i : ℕ) → i < n → seek_by p xs ≡ some i → Sought p xs n i
-  sought_at xs n i l e = record { found = λ _. e; missing = λ m. absurd (omega arith) }
-
-  pub sought_nowhere : (xs : List A) (n : ℕ) → seek_by p xs ≡ none → Sought p xs n n
-  sought_nowhere xs n e = record { found = λ h. absurd (omega arith); missing = λ _. e }

@@ -1,18 +1,12 @@
-use mathlib.Core.Path.{refl, sym, ap, ◌∙◌}
-use mathlib.Core.Bool.{not}
-use Rattle.catalogue.specs.Class.{numeral}
-use Rattle.normal_steps.specs.Parts.{part}
-use Rattle.normal_steps.specs.Laws.Parts.{part_none, part_length}
-use Rattle.normal_steps.specs.Laws.Tests.{numeral_is}
-use native.Mathlib.Omega.{arith}
+use Rattle.std.proofs.Common.{◌<◌, length, not, sym, ap, ◌∙◌, arith}
+use Rattle.std.proofs.lemmas.Bool.Decides.{nat_tests}
+use Rattle.normal_steps.specs.Laws.Tests.{numeral_is, numeral_none}
 use Rattle.normal_steps.proofs.marks.numeral.Goals as goal
 
-pub returns-then-to-from : goal.returns-then-to-from
-unfolding numeral
-returns-then-to-from c =
-    rw (part_none c.args.s.now c.args.from c.args.to (omega arith)) refl
+pub returns-then-not-is_empty : goal.returns-then-not-is_empty
+returns-then-not-is_empty c =
+    let l : 0 < length c.args.digits.now = grind (arith, nat_tests) in
+    ap not c.leading_zero.ensures ∙ sym (numeral_is c.args.digits.now l c.requires)
 
-pub returns : goal.returns
-returns c =
-    let n = part_length c.args.s.now c.args.from c.args.to (omega arith) in
-    ap not c.leading_zero.ensures ∙ sym (numeral_is (part c.args.s.now c.args.from c.args.to) (omega arith) c.requires.1.1)
+pub returns-else-not-is_empty : goal.returns-else-not-is_empty
+returns-else-not-is_empty c = grind (arith, nat_tests, numeral_none)

@@ -12,14 +12,14 @@ returns-in_default c =
 
 pub put_name-requires : goal.put_name-requires
 put_name-requires c =
-    let h = subst (NameIs c.args.s.now 2) c.in-At.is c.source_name.ensures in
+    let h = subst (NameIs c.args.s.now 2) c.in-Some.is c.source_name.ensures in
     let e = ap (λ (q : Writer). q.out) c.moved.ensures ∙ ap (λ (q : Writer). q.out) c.begin-begun.ensures.0 in
     (omega (arith, h.some), (h.inside, (omega (arith, h.inside), omega (arith, e, plain_size h, h.inside, c.begin-begun.ensures.1.size))))
 
 pub returns : goal.returns
 returns c =
-    let h = subst (NameIs c.args.s.now 2) c.in-At.is c.source_name.ensures in
+    let h = subst (NameIs c.args.s.now 2) c.in-Some.is c.source_name.ensures in
     plain_heads h (c.moved.ensures ∙ ap
-    (λ (q : Writer). moved_to q c.in-At.to)
+    (λ (q : Writer). moved_to q c.in-Some.field-0.to)
     c.begin-begun.ensures.0) c.requires.0
     c.begin-begun.ensures.1 c.put_name.ensures
