@@ -1,8 +1,8 @@
 use Rattle.std.proofs.Common.{rules}
 use Rattle.store.specs.Stack.{zeros}
-use Rattle.answer.proofs.work.clear_numbers.Goals as goal
+use Rattle.answer.proofs.work.Numbers.clear.Goals as goal
 
-pub returns : goal.returns
+pub returns-clause-cleared : goal.returns-clause-cleared
 unfolding zeros
-returns c =
+returns-clause-cleared c =
     record { words = search rules; tables = search rules; chains = search rules }

@@ -1,8 +1,8 @@
 use Rattle.std.proofs.Common.{rules}
 use Rattle.store.specs.Stack.{zeros}
-use Rattle.answer.proofs.work.clear.Goals as goal
+use Rattle.answer.proofs.work.Work.clear.Goals as goal
 
-pub returns : goal.returns
+pub returns-clause-cleared : goal.returns-clause-cleared
 unfolding zeros
-returns c =
+returns-clause-cleared c =
     record { text = search rules; store = search rules; ends = search rules }
