@@ -11,7 +11,7 @@ pub struct Number {
 
 impl Number {
     // The value of a number that is 2^64 - 1 or more.
-    pub const PAST: u64 = 18446744073709551615;
+    pub const PAST: u64 = u64::MAX;
 }
 
 // The value of a digit, or 36.
@@ -52,12 +52,12 @@ pub fn write_decimal(out: &mut [u8], end: usize, n: u64) -> usize
 {
     let mut from = end;
     let mut rest = n;
-    while 10 <= rest {
+    loop {
         from -= 1;
         out[from] = b'0' + (rest % 10) as u8;
         rest /= 10;
+        if rest == 0 {
+            return from;
+        }
     }
-    let first = from - 1;
-    out[first] = b'0' + rest as u8;
-    first
 }
