@@ -142,7 +142,7 @@ pub data Refines (s : Text) (L : State → Type 0) (ws : Work) (p : State) : Opt
   tells : {d : ℕ} {σ : Notes} → Carries s ws p σ → L p → d < most_number → Refines s L ws p (Some d) (got d σ)
   refuses : Refines s L ws p None bad
 
--- a writer w went to w', and the answer is r
+-- the answer r of a call that left the writer as w'
 abbrev pub Answers : (State → Type 0) → Writer → Option ℕ → Got ℕ → Type 0
 Answers L w' r g = Refines w'.s.now L (slices_of w') w'.state r g
 

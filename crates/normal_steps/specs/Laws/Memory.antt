@@ -47,33 +47,34 @@ module _ {s : Text} {ws : Work} {p : State} {σ : Notes} (h : Carries s ws p σ)
           limits = record { at = refl; nodes = omega arith; more = omega arith; table = omega arith; out = omega arith; args = omega arith; stands = l.stands };
         })
 
-    module _ (e : kept ≡ 0 → ⊥) where
-      place : table_place d (firsts σ.table) ≡ some (kept - 1)
-      place = kept_some h.tabled b e
+    module _ {i : ℕ} (e : (1 ≤ kept) × (i ≡ kept - 1)) where
+      place : table_place d (firsts σ.table) ≡ some i
+      place = kept_some h.tabled b (λ z. omega (arith, e.0)) ∙ ap some (sym e.1)
 
-      pub index_most : kept - 1 ≤ most_symbol_bytes
+      pub index_most : i ≤ most_symbol_bytes
       unfolding table_place
-      index_most = omega (arith, seek_below _ (firsts σ.table) (kept - 1) place, h.firsts_count, firsts_most h, h.few_entries, h.place, h.source)
+      index_most = omega (arith, seek_below _ (firsts σ.table) i place, h.firsts_count, firsts_most h, h.few_entries, h.place, h.source)
 
-      pub reference_room : from + length (ref_bytes (kept - 1)) ≤ out_length
-      reference_room = omega (arith, ref_length (kept - 1) index_most, l.fits, h.place, h.source)
+      pub reference_room : from + length (ref_bytes i) ≤ out_length
+      reference_room = omega (arith, ref_length i index_most, l.fits, h.place, h.source)
 
-      pub settle_here : (k : ℕ) (o' : Text) → WrittenAt ws.out o' from k (ref_bytes (kept - 1))
+      pub settle_here : {k : ℕ} {o' : Text} → WrittenAt ws.out o' from k (ref_bytes i)
           → Went s (record ws { out = o' }) (Took 0 0 5 from p) (written_to p k) (settled d from σ)
-      settle_here k o' w =
+      settle_here {k} {o'} w =
           let f : length (take from σ.out) ≡ from = length-take-le from σ.out (omega (arith, h.out_count, l.stands)) in
-          subst (λ (τ : Notes). Went s (record ws { out = o' }) (Took 0 0 5 from p) (written_to p k) τ) (sym (settled_by d from (some (kept - 1)) place))
+          let n = ref_length i index_most in
+          subst (λ (τ : Notes). Went s (record ws { out = o' }) (Took 0 0 5 from p) (written_to p k) τ) (sym (settled_by d from (some i) place))
           (record {
-            holds = with_out h (take from σ.out ++ ref_bytes (kept - 1)) o' k
+            holds = with_out h (take from σ.out ++ ref_bytes i) o' k
                 (front_wrote (front_less h.out_is from) (sym f) (omega (arith, f, reference_room)) w)
-                (omega (arith, f, w.end, length-append (take from σ.out) (ref_bytes (kept - 1))))
-                (omega (arith, w.end, ref_length (kept - 1) index_most, l.fits));
+                (omega (arith, f, w.end, length-append (take from σ.out) (ref_bytes i)))
+                (omega (arith, w.end, n, l.fits));
             limits = record {
               at = refl;
               nodes = omega arith;
               more = omega arith;
               table = omega arith;
-              out = omega (arith, w.end, ref_length (kept - 1) index_most);
+              out = omega (arith, w.end, n);
               args = omega arith;
               stands = omega (arith, w.end);
             };
