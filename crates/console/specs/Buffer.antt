@@ -10,29 +10,80 @@ use Rattle.console.specs.declared.buffer.Buffer.{Buffer}
 abbrev pub part : Text → ℕ → ℕ → Text
 part t from to = take (to - from) (drop from t)
 
--- the places are in order and inside, and the line without line feed has no more bytes than are kept of a line
-pub record Placed (size : ℕ) (b : Buffer) : Type 0 where
-  pub first : b.from ≤ b.start
-  pub second : b.start ≤ b.end
-  pub inside : b.end ≤ size
-  pub cut : b.end ≤ b.start + most_kept
+-- the bytes that are used
+abbrev pub used : Buffer → Text
+used b = take b.end b.lines.now
 
-abbrev pub nothing : Buffer
-nothing = record { from = 0; start = 0; end = 0; ended = false }
+-- the complete lines
+abbrev pub waiting : Buffer → Text
+waiting b = part b.lines.now b.from b.start
+
+-- how many bytes the line without line feed has
+abbrev pub kept : Buffer → ℕ
+kept b = b.end - b.start
+
+pub record Nothing (l : Text) (r : Buffer) : Type 0 where
+  pub lines : r.lines.now ≡ l
+  pub from : r.from ≡ 0
+  pub start : r.start ≡ 0
+  pub end : r.end ≡ 0
+
+pub record Skips (n : ℕ) (b r : Buffer) : Type 0 where
+  pub lines : r.lines.now ≡ b.lines.now
+  pub from : r.from ≡ b.from + n
+  pub start : r.start ≡ b.start
+  pub end : r.end ≡ b.end
 
 -- ---------------------------------------------------------------- one chunk more
+
+-- the line without line feed is in front
+pub record Moves (b r : Buffer) : Type 0 where
+  pub is : r.lines.now ≡ part b.lines.now b.start b.end ++ drop (kept b) b.lines.now
+  pub from : r.from ≡ 0
+  pub start : r.start ≡ 0
+  pub end : r.end ≡ kept b
 
 -- what completes a line that has n bytes
 unfoldable pub closing : ℕ → Text
 closing n = if eqb n 0 then [] otherwise line_feed ∷ []
 
--- the line of `used` bytes at the front of `lines` is completed
-pub record Completes (lines lines' : Text) (used : ℕ) (r : Buffer) : Type 0 where
-  pub is : take r.end lines' ≡ take used lines ++ closing used
-  pub ends : r.end ≡ used + length (closing used)
-  pub from : r.from ≡ 0
+pub record EndsLine (b r : Buffer) : Type 0 where
+  pub is : used r ≡ used b ++ (line_feed ∷ [])
+  pub ends : r.end ≡ b.end + 1
+  pub from : r.from ≡ b.from
   pub start : r.start ≡ r.end
-  pub ended : r.ended ≡ true
+  pub size : length r.lines.now ≡ length b.lines.now
+
+pub record Completes (b r : Buffer) : Type 0 where
+  pub is : used r ≡ used b ++ closing (kept b)
+  pub ends : r.end ≡ b.end + length (closing (kept b))
+  pub from : r.from ≡ b.from
+  pub start : r.start ≡ r.end
+  pub size : length r.lines.now ≡ length b.lines.now
+
+-- the first bytes of a part were put behind the others, or all where the line has room for them
+pub record Puts (part : Text) (b r : Buffer) : Type 0 where
+  pub is : used r ≡ used b ++ take (most_kept - kept b) part
+  pub ends : r.end ≡ b.end + length (take (most_kept - kept b) part)
+  pub within : r.end ≤ b.end + length part
+  pub from : r.from ≡ b.from
+  pub start : r.start ≡ b.start
+  pub size : length r.lines.now ≡ length b.lines.now
+
+-- behind the others stand the bytes that are kept of the chunk
+pub record Keeps (chunk : Text) (b r : Buffer) : Type 0 where
+  pub is : used r ≡ used b ++ cut_lines (kept b) chunk
+  pub last : r.end ≡ r.start + column (kept b) chunk
+  pub from : r.from ≡ b.from
+  pub size : length r.lines.now ≡ length b.lines.now
+
+-- what `Keeps` says, as far as `rest` is left of the chunk
+pub record Begun (chunk rest : Text) (b r : Buffer) : Type 0 where
+  pub room : r.end + length rest ≤ length b.lines.now
+  pub is : used b ++ cut_lines (kept b) chunk ≡ used r ++ cut_lines (kept r) rest
+  pub last : column (kept b) chunk ≡ column (kept r) rest
+  pub from : r.from ≡ b.from
+  pub size : length r.lines.now ≡ length b.lines.now
 
 -- what a chunk adds to a line that has n bytes: an empty one is the end of the input, and completes it
 unfoldable pub added : ℕ → Text → Text
@@ -40,12 +91,11 @@ added n [] = closing n
 added n (x ∷ t) = x ∷ t
 
 -- behind the line without line feed, which is now in front, stands what is kept of the chunk
-pub record Adds (chunk lines lines' : Text) (b r : Buffer) : Type 0 where
-  pub is : take r.end lines' ≡ part lines b.start b.end ++ cut_lines (b.end - b.start) (added (b.end - b.start) chunk)
-  pub last : r.end ≡ r.start + column (b.end - b.start) (added (b.end - b.start) chunk)
+pub record Adds (chunk : Text) (b r : Buffer) : Type 0 where
+  pub is : used r ≡ part b.lines.now b.start b.end ++ cut_lines (kept b) (added (kept b) chunk)
+  pub last : r.end ≡ r.start + column (kept b) (added (kept b) chunk)
   pub from : r.from ≡ 0
-  pub ended : r.ended ≡ eqb (length chunk) 0
-  pub placed : Placed (length lines') r
+  pub size : length r.lines.now ≡ length b.lines.now
 
 -- ---------------------------------------------------------------- all chunks so far
 
@@ -55,10 +105,9 @@ completed ended all = if ended then all ++ closing (column 0 all) otherwise all
 
 -- with `all` the input as far as it was read, and `handed` what was handed over: the header and the listing of the lines `done`, each cut to the bytes
 -- that are kept. The buffer has the others, and the line without line feed
-pub record Fed (kind : Kind) (all handed l : Text) (b : Buffer) : Type 0 where
+pub record Fed (kind : Kind) (ended : Bool) (all handed : Text) (b : Buffer) : Type 0 where
   pub done : Text
   pub whole : bytes_taken (lines done) ≡ length done
   pub lists : handed ≡ header ++ listing kind (lines done)
-  pub is : cut_lines 0 (completed b.ended all) ≡ done ++ part l b.from b.end
-  pub last : column 0 (completed b.ended all) ≡ b.end - b.start
-  pub placed : Placed (length l) b
+  pub is : cut_lines 0 (completed ended all) ≡ done ++ part b.lines.now b.from b.end
+  pub last : column 0 (completed ended all) ≡ kept b

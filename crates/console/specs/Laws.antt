@@ -3,3 +3,4 @@ pub mod Buffer
 pub mod Examples
 pub mod Kept
 pub mod Lines
+pub mod Turns

@@ -1,5 +1,5 @@
 pub mod Buffer
-pub mod Kept
+pub mod Failed
 pub mod Output
 pub mod Turns
 pub mod Laws

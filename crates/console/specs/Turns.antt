@@ -1,41 +1,61 @@
--- What a turn leaves, whatever was read and handed over before it. Assumes nothing.
-use Rattle.std.specs.Prelude.{Bool, true, false, ◌&&◌, ◌++◌, ◌≡◌, ◌<◌, ◌≤◌, eqb, length, take}
+-- What the turns of reading and writing leave, whatever was read and handed over before them. Assumes nothing.
+use Rattle.std.specs.Prelude.{Bool, true, false, ◌++◌, ◌≡◌, ℕ, ◌<◌, ◌≤◌, List, eqb, length, take, Option, Result, MatchResult}
+use Rattle.std.specs.Io.KnownBytes.{Appends, Consumes, IsAtEnd, Keeps}
 use Rattle.grammar.specs.Text.{Text}
 use Rattle.listing.specs.declared.listing.Kind.{Kind}
 use Rattle.console.specs.Output.{output}
 use Rattle.console.specs.Buffer.{Fed}
 use Rattle.console.specs.declared.buffer.Buffer.{Buffer}
-use Rattle.console.specs.declared.buffer.Turn.{Turn}
+use Rattle.console.specs.declared.failed.Failed.{Failed}
+use Rattle.console.specs.declared.failed.Failed.TheVariants.{Input, Output}
 
--- the first bytes of the chunk were read, and the first bytes of the output were handed over
-abbrev pub GoesOn : Kind → Text → Text → Text → Text → Buffer → Turn → Type 0
-GoesOn kind chunk out l l' b r =
-    (all handed : Text) → Fed kind all handed l b → Fed kind (all ++ take r.got chunk) (handed ++ take r.put out) l' r.buffer
+-- the bytes that a stream is known to have, if they are known
+abbrev pub Known : Type 0
+Known = Option (List ℕ)
 
--- the input has ended where a read that did not fail gave no byte; after one that failed all is as it was
-pub record ReadsOn (chunk l l' : Text) (b : Buffer) (r : Turn) : Type 0 where
-  pub fed : (kind : Kind) (out : Text) → GoesOn kind chunk out l l' b r
-  pub inside : r.got ≤ length chunk
-  pub ended : r.buffer.ended ≡ (r.goes_on && eqb r.got 0)
-  pub failed : r.goes_on ≡ false → (r.got ≡ 0) × (r.buffer ≡ b)
+-- n bytes were read, the first ones of the chunk: none at the end of the input
+pub record Reads (chunk : Text) (left left' : Known) (b b' : Buffer) (n : ℕ) : Type 0 where
+  pub fed : (kind : Kind) (all handed : Text) → Fed kind false all handed b → Fed kind (eqb n 0) (all ++ take n chunk) handed b'
+  pub inside : n ≤ length chunk
+  pub read : Consumes left left' (take n chunk)
+  pub ended : n ≡ 0 → 0 < length chunk → IsAtEnd left'
+  pub size : length b'.lines.now ≡ length b.lines.now
+
+-- after a read that failed all is as it was
+abbrev pub ReadsOn : Text → Known → Known → Buffer → Buffer → Result ℕ Failed → Type 0
+ReadsOn chunk left left' b b' r = MatchResult r (λ n. Reads chunk left left' b b' n) (λ e. (e ≡ Input) × ((b' ≡ b) × Keeps left left'))
+
+-- the bytes were written, or the first of them
+abbrev pub Writes : {A : Type 0} → Known → Known → Text → Result A Failed → Type 0
+Writes has has' bytes r = MatchResult r (λ _. Appends has has' bytes) (λ e. (e ≡ Output) × ((n : ℕ) × Appends has has' (take n bytes)))
 
 -- what is handed over is the listing of one line at least
-pub record WritesOn (kind : Kind) (l out : Text) (b : Buffer) (r : Turn) : Type 0 where
-  pub fed : (chunk : Text) → GoesOn kind chunk out l l b r
-  pub inside : r.put ≤ length out
-  pub more : (all handed : Text) → Fed kind all handed l b → b.from < r.buffer.from
+pub record WritesOn {A : Type 0} (kind : Kind) (has has' : Known) (b b' : Buffer) (r : Result A Failed) : Type 0 where
+  pub put : Text
+  pub fed : (ended : Bool) (all handed : Text) → Fed kind ended all handed b → Fed kind ended all (handed ++ put) b'
+  pub more : (ended : Bool) (all handed : Text) → Fed kind ended all handed b → b.from < b'.from
+  pub start : b'.start ≡ b.start
+  pub written : Writes has has' put r
+  pub size : length b'.lines.now ≡ length b.lines.now
 
--- where the buffer has lines, some of them are listed; where it has none, the input is read on; at its end there is no more to do
-pub record TurnsOn (kind : Kind) (chunk out l l' : Text) (b : Buffer) (r : Turn) : Type 0 where
-  pub fed : GoesOn kind chunk out l l' b r
-  pub writes : b.from < b.start → WritesOn kind l out b r
-  pub reads : b.from ≡ b.start → b.ended ≡ false → ReadsOn chunk l l' b r
-  pub stops : b.from ≡ b.start → b.ended ≡ true → r.goes_on ≡ false
-
--- some input was read, and some output handed over; where r is true, it is the output for that input
-pub record Ends (kind : Kind) (l : Text) (r : Bool) : Type 0 where
+-- so far some input was read, and its listing written as far as the buffer tells
+pub record Goes (kind : Kind) (ended : Bool) (left left' has has' : Known) (b : Buffer) : Type 0 where
   pub all : Text
   pub handed : Text
-  pub buffer : Buffer
-  pub fed : Fed kind all handed l buffer
-  pub listed : r ≡ true → handed ≡ output kind all
+  pub fed : Fed kind ended all handed b
+  pub read : Consumes left left' all
+  pub written : Appends has has' handed
+
+-- all of the input was read, up to its end, and the output for it written
+pub record Ends (kind : Kind) (chunk : Text) (left left' has has' : Known) : Type 0 where
+  pub all : Text
+  pub read : Consumes left left' all
+  pub ended : 0 < length chunk → IsAtEnd left'
+  pub written : Appends has has' (output kind all)
+
+-- some input was read, and some of the output for it written
+pub record Stops (kind : Kind) (left left' has has' : Known) : Type 0 where
+  pub all : Text
+  pub n : ℕ
+  pub read : Consumes left left' all
+  pub written : Appends has has' (take n (output kind all))

@@ -1,5 +1,6 @@
 // The entry: a program is a call of it.
-use crate::lines::MOST_KEPT;
+use crate::buffer::MOST_KEPT;
+use crate::output::Lister;
 use crate::turns::list_input;
 use answer::work;
 use listing::listing::{Kind, NAME};
@@ -13,28 +14,18 @@ const CHUNK: usize = 65536;
 pub fn run<R: Read, W: Write, E: Write>(input: &mut R, output: &mut W, errors: &mut E, kind: Kind) {
     let mut chunk = [0u8; CHUNK];
     let mut lines = [0u8; CHUNK + MOST_KEPT + 1];
-    let mut out = [0u8; CHUNK];
-    let mut name = [0u8; NAME];
-    let mut text = [0u8; work::TEXT];
-    let mut store = [0u8; work::STORE];
-    let mut ends = [0u16; work::NUMBERS];
-    let mut words = [0u16; work::NUMBERS];
-    let mut tables = [0u16; work::NUMBERS];
-    let mut chains = [0u16; work::NUMBERS];
-    list_input(
+    let mut lister = Lister {
         kind,
-        input,
-        output,
-        errors,
-        &mut chunk,
-        &mut lines,
-        &mut out,
-        &mut name,
-        &mut text,
-        &mut store,
-        &mut ends,
-        &mut words,
-        &mut tables,
-        &mut chains,
-    );
+        out: &mut [0u8; CHUNK],
+        name: &mut [0u8; NAME],
+        text: &mut [0u8; work::TEXT],
+        store: &mut [0u8; work::STORE],
+        ends: &mut [0u16; work::NUMBERS],
+        words: &mut [0u16; work::NUMBERS],
+        tables: &mut [0u16; work::NUMBERS],
+        chains: &mut [0u16; work::NUMBERS],
+    };
+    if let Err(failed) = list_input(input, output, &mut chunk, &mut lines, &mut lister) {
+        let _ = writeln!(errors, "{failed}");
+    }
 }

@@ -1,43 +1,23 @@
 // Standard input.
-ghost use Rattle.std.specs.Prelude.{false, ◌≡◌, ◌+◌, ◌≤◌, length};
+ghost use Rattle.std.specs.Prelude.{◌≡◌, ◌+◌, ◌≤◌, length};
 ghost use Rattle.listing.specs.Cut.{most_kept};
-ghost use Rattle.console.specs.Buffer.{Placed};
 ghost use Rattle.console.specs.Turns.{ReadsOn};
 
-use crate::buffer::{Buffer, Turn, add_chunk};
-use crate::stream::write_whole;
-use std::io::{Read, Write};
+use crate::buffer::Buffer;
+use crate::failed::Failed;
+use std::io::Read;
 
-// Reads once, and puts what was read into the buffer. A read of no bytes is the end of the input.
-pub fn read_some<R: Read, E: Write>(
+// Reads once, and puts what was read into the buffer. Returned is how many bytes they are: none at the end of the input.
+pub fn read_some<R: Read>(
     input: &mut R,
-    errors: &mut E,
     chunk: &mut [u8],
-    lines: &mut [u8],
-    buffer: Buffer,
-) -> Turn
-    requires placed { Placed (length lines.old) buffer × (most_kept + 1 + length chunk.old ≤ length lines.old) }
-    requires ended_value { (buffer.ended ≡ false) × (buffer.from ≡ buffer.start) }
-    ensures { ReadsOn chunk.new lines.old lines.new buffer result }
+    buffer: &mut Buffer<'_>,
+) -> Result<usize, Failed>
+    requires room { most_kept + 1 + length chunk.old ≤ length buffer.old.lines.now }
+    requires all_listed { buffer.old.from ≡ buffer.old.start }
+    ensures { ReadsOn chunk.new (R.remaining input.old) (R.remaining input.new) buffer.old buffer.new result }
 {
-    match input.read(chunk) {
-        Ok(n) => {
-            let next = add_chunk(&chunk[..n], lines, buffer);
-            Turn {
-                buffer: next,
-                got: n,
-                put: 0,
-                goes_on: true,
-            }
-        }
-        Err(_) => {
-            write_whole(errors, b"patch names: standard input can't be read\n");
-            Turn {
-                buffer: buffer,
-                got: 0,
-                put: 0,
-                goes_on: false,
-            }
-        }
-    }
+    let n = input.read(chunk).map_err(|_| Failed::Input)?;
+    buffer.add_chunk(&chunk[..n]);
+    Ok(n)
 }

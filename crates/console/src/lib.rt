@@ -3,8 +3,8 @@
 
 mod buffer;
 pub mod entry;
+mod failed;
 mod input;
-mod lines;
 mod output;
 mod stream;
 mod turns;

@@ -1,104 +1,71 @@
 // Standard output.
-ghost use Rattle.std.specs.Prelude.{◌++◌, ◌≡◌, ◌≤◌, ◌<◌, length, drop};
+ghost use Rattle.std.specs.Prelude.{◌≡◌, ◌≤◌, ◌<◌, length};
 ghost use Rattle.answer.specs.Told.{normal_slices};
 ghost use Rattle.listing.specs.Listing.{most_line_bytes};
 ghost use Rattle.listing.specs.Kinds.{LongFor};
 ghost use Rattle.console.specs.Output.{header};
-ghost use Rattle.console.specs.Buffer.{Placed};
-ghost use Rattle.console.specs.Turns.{WritesOn};
+ghost use Rattle.console.specs.Turns.{Writes};
 
-use crate::buffer::{Buffer, Turn};
+use crate::buffer::Buffer;
+use crate::failed::Failed;
 use crate::stream::write_whole;
-use grammar::text;
 use listing::listing::{Kind, list_lines};
 use std::io::Write;
 
-// Puts the header into `out`. Returned is its length.
-fn put_header(out: &mut [u8]) -> usize
-    requires { 16 ≤ length out.old }
-    ensures { (out.new ≡ header ++ drop 16 out.old) × (result ≡ 16) }
+fn write<W: Write>(output: &mut W, bytes: &[u8]) -> Result<(), Failed>
+    ensures { Writes (W.contents output.old) (W.contents output.new) bytes.now result }
 {
-    let words: &[u8] = b"code,bytes,name\n";
-    text::copy(out, 0, words);
-    16
+    write_whole(output, bytes).map_err(|_| Failed::Output)
 }
 
-// So many bytes were handed over to be written, and whether the write went well.
-#[derive(Clone, Copy)]
-pub struct Handed {
-    pub put: usize,
-    pub went: bool,
+pub fn write_header<W: Write>(output: &mut W) -> Result<(), Failed>
+    ensures { Writes (W.contents output.old) (W.contents output.new) header result }
+{
+    write(output, b"code,bytes,name\n")
 }
 
-// Writes the first n bytes of `out`.
-fn write_front<W: Write, E: Write>(output: &mut W, errors: &mut E, out: &[u8], n: usize) -> Handed
-    requires { n ≤ length out.now }
-    ensures { result.put ≡ n }
-{
-    if write_whole(output, &out[..n]) {
-        return Handed { put: n, went: true };
-    }
-    write_whole(errors, b"patch names: standard output can't be written\n");
-    Handed {
-        put: n,
-        went: false,
-    }
+// What lines are listed with: `out` gets the listing, and the others are the work slices of `list_lines`.
+#[derive(Drop)]
+pub struct Lister<'a> {
+    pub kind: Kind,
+    pub out: &'a mut [u8],
+    pub name: &'a mut [u8],
+    pub text: &'a mut [u8],
+    pub store: &'a mut [u8],
+    pub ends: &'a mut [u16],
+    pub words: &'a mut [u16],
+    pub tables: &'a mut [u16],
+    pub chains: &'a mut [u16],
+    ghost room: { most_line_bytes ≤ length out.now },
+    ghost long_for: { LongFor kind (normal_slices name.now text.now store.now ends.now words.now tables.now chains.now) },
 }
 
-// Writes the header, from the front of `out`.
-pub fn write_header<W: Write, E: Write>(output: &mut W, errors: &mut E, out: &mut [u8]) -> Handed
-    requires { 16 ≤ length out.old }
-    ensures { (out.new ≡ header ++ drop 16 out.old) × (result.put ≡ 16) }
-{
-    let n = put_header(out);
-    write_front(output, errors, out, n)
-}
+impl Lister<'_> {
+    ghost use Rattle.console.specs.Turns.{WritesOn};
 
-// Writes the listing of the first lines in the buffer, as many as fit into `out`, from the front of it.
-pub fn write_some<W: Write, E: Write>(
-    kind: Kind,
-    output: &mut W,
-    errors: &mut E,
-    lines: &[u8],
-    buffer: Buffer,
-    out: &mut [u8],
-    name: &mut [u8],
-    text: &mut [u8],
-    store: &mut [u8],
-    ends: &mut [u16],
-    words: &mut [u16],
-    tables: &mut [u16],
-    chains: &mut [u16],
-) -> Turn
-    requires placed { Placed (length lines.now) buffer × ((buffer.from < buffer.start) × (most_line_bytes ≤ length out.old)) }
-    requires long_for { LongFor kind (normal_slices name.old text.old store.old ends.old words.old tables.old chains.old) }
-    ensures { WritesOn kind lines.now out.new buffer result }
-{
-    let from = buffer.from;
-    let start = buffer.start;
-    let listed = list_lines(
-        kind,
-        &lines[from..start],
-        out,
-        name,
-        text,
-        store,
-        ends,
-        words,
-        tables,
-        chains,
-    );
-    let next = Buffer {
-        from: from + listed.taken,
-        start: start,
-        end: buffer.end,
-        ended: buffer.ended,
-    };
-    let handed = write_front(output, errors, out, listed.written);
-    Turn {
-        buffer: next,
-        got: 0,
-        put: handed.put,
-        goes_on: handed.went,
+    // Writes the listing of the first lines in the buffer, as many as fit into `out`, from the front of it.
+    pub fn write_some<W: Write>(
+        &mut self,
+        output: &mut W,
+        buffer: &mut Buffer<'_>,
+    ) -> Result<(), Failed>
+        requires { buffer.old.from < buffer.old.start }
+        ensures writes { WritesOn self.old.kind (W.contents output.old) (W.contents output.new) buffer.old buffer.new result }
+        ensures kind { self.new.kind ≡ self.old.kind }
+    {
+        let listed = list_lines(
+            self.kind,
+            buffer.waiting(),
+            self.out,
+            self.name,
+            self.text,
+            self.store,
+            self.ends,
+            self.words,
+            self.tables,
+            self.chains,
+        );
+        buffer.skip(listed.taken);
+        write(output, &self.out[..listed.written])
     }
 }

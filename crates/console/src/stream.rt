@@ -1,20 +1,22 @@
 // Bytes to a stream.
-ghost use Rattle.std.specs.Prelude.{IsTrue};
+ghost use Rattle.std.specs.Prelude.{ℕ, take, MatchResult};
 ghost use Rattle.std.specs.Io.KnownBytes.{Appends};
 
+use std::io;
 use std::io::Write;
 
-// Writes all of `bytes`. False where a write failed or took nothing: some of them may have been written then.
-pub fn write_whole<W: Write>(to: &mut W, bytes: &[u8]) -> bool
-    ensures { IsTrue result → Appends (W.contents to.old) (W.contents to.new) bytes.now }
+// Writes all of `bytes`, or the first of them where a write fails or takes nothing. A call that was interrupted has failed.
+pub fn write_whole<W: Write>(to: &mut W, bytes: &[u8]) -> io::Result<()>
+    ensures { MatchResult result (λ _. Appends (W.contents to.old) (W.contents to.new) bytes.now)
+        (λ _. (n : ℕ) × Appends (W.contents to.old) (W.contents to.new) (take n bytes.now)) }
 {
     let mut rest = bytes;
-    while rest.len() > 0 {
-        match to.write(rest) {
-            Ok(0) => return false,
-            Ok(n) => rest = &rest[n..],
-            Err(_) => return false,
+    while !rest.is_empty() {
+        let n = to.write(rest)?;
+        if n == 0 {
+            return Err(io::ErrorKind::WriteZero.into());
         }
+        rest = &rest[n..];
     }
-    true
+    Ok(())
 }

@@ -22,13 +22,10 @@ use Rattle.listing.specs.declared.listing.Kind.{Kind}
 use Rattle.listing.specs.declared.listing.Kind.TheVariants.{Names, Symbols}
 use Rattle.listing.specs.declared.listing.Listed.{Listed}
 use Rattle.console.specs.Output.{header, output}
-use Rattle.console.specs.Buffer.{part, Placed, nothing, closing, Completes, added, Adds, completed, Fed}
-use Rattle.console.specs.Kept.{Keeps}
-use Rattle.console.specs.Turns.{Ends}
+use Rattle.console.specs.Buffer.{part, used, waiting, kept, Nothing, Skips, Moves, closing, EndsLine, Completes, Keeps, added, Adds, completed, Fed}
 use Rattle.console.specs.Laws.Lines.{taken_append, listing_append, fitting_front, lines_append, lines_take, column_append}
-use Rattle.console.specs.Laws.Lines.{cut_taken, column_closing, cut_closing, lines_completed, column_completed}
+use Rattle.console.specs.Laws.Lines.{cut_taken, column_closing, cut_closing, lines_completed, lines_more, column_completed}
 use Rattle.console.specs.declared.buffer.Buffer.{Buffer}
-use Rattle.console.specs.declared.lines.Kept.{Kept}
 
 -- ---------------------------------------------------------------- parts
 
@@ -48,41 +45,27 @@ unfolding completed added if◌then◌otherwise◌
 completed_more all [] q e = ap (λ (p : Bool). completed p (all ++ [])) e ∙ ap (λ (t : Text). t ++ closing (column 0 t)) (append-nil all)
 completed_more all (x ∷ t) q e = ap (λ (p : Bool). completed p (all ++ (x ∷ t))) (e ∙ ne_eqb (suc (length t)) 0 (λ z. omega arith))
 
-not_ended : (all : Text) {q : Bool} → q ≡ false → completed q all ≡ all
+not_ended : (all : Text) → completed false all ≡ all
 unfolding completed if◌then◌otherwise◌
-not_ended all e = ap (λ (p : Bool). completed p all) e
+not_ended all = refl
 
-module _ (l : Text) (used : ℕ) where
-  pub completes : 0 < used → used < length l → Completes l (set l used 10) used (record { from = 0; start = used + 1; end = used + 1; ended = true })
-  unfolding closing if◌then◌otherwise◌
-  completes h k =
-      let e : line_feed ∷ [] ≡ closing used = ap (λ (q : Bool). if q then [] otherwise line_feed ∷ []) (sym (ne_eqb used 0 (λ z. omega arith))) in
-      record {
-        is = ap (λ (j : ℕ). take j (set l used 10)) {x = used + 1} {y = suc used} (omega arith) ∙ take-suc-set l used 10 k ∙ ap (λ (t : Text). take used l ++ t) e;
-        ends = ap (λ (t : Text). used + length t) e;
-        from = refl;
-        start = refl;
-        ended = refl;
-      }
-
-  pub completes_none : used ≤ 0 → Completes l l used (record { from = 0; start = used; end = used; ended = true })
-  unfolding closing if◌then◌otherwise◌
-  completes_none h =
-      let e : [] ≡ closing used = ap (λ (q : Bool). if q then [] otherwise line_feed ∷ []) (sym (eq-eqb used 0 (omega arith))) in
-      record {
-        is = sym (append-nil (take used l)) ∙ ap (λ (t : Text). take used l ++ t) e;
-        ends = omega arith ∙ ap (λ (t : Text). used + length t) e;
-        from = refl;
-        start = refl;
-        ended = refl;
-      }
-
-closing_size : (n : ℕ) → length (closing n) ≤ 1
+closing_some : (n : ℕ) → 0 < n → line_feed ∷ [] ≡ closing n
 unfolding closing if◌then◌otherwise◌
-closing_size n = go (eqb n 0) where
-  go : (q : Bool) → length (if◌then◌otherwise◌ {A = Text} q [] (line_feed ∷ [])) ≤ 1
-  go true = omega arith
-  go false = omega arith
+closing_some n h = ap (λ (q : Bool). if q then [] otherwise line_feed ∷ []) (sym (ne_eqb n 0 (λ z. omega arith)))
+
+closing_none : (n : ℕ) → n ≤ 0 → [] ≡ closing n
+unfolding closing if◌then◌otherwise◌
+closing_none n h = ap (λ (q : Bool). if q then [] otherwise line_feed ∷ []) (sym (eq-eqb n 0 (omega arith)))
+
+pub completes : {b r : Buffer} → b.start < b.end → EndsLine b r → Completes b r
+completes {b} {r} h e =
+    let c = closing_some (kept b) (omega arith) in
+    record { is = e.is ∙ ap (λ (t : Text). used b ++ t) c; ends = e.ends ∙ ap (λ (t : Text). b.end + length t) c; from = e.from; start = e.start; size = e.size }
+
+pub completes_none : (b : Buffer) → b.end ≤ b.start → Completes b b
+completes_none b h =
+    let c = closing_none (kept b) (omega arith) in
+    record { is = sym (append-nil (used b)) ∙ ap (λ (t : Text). used b ++ t) c; ends = omega (arith, ap length c); from = refl; start = omega (arith, b.second); size = refl }
 
 added_none : (n : ℕ) (chunk : Text) → length chunk ≡ 0 → added n chunk ≡ closing n
 unfolding added
@@ -95,38 +78,42 @@ added_some n [] h = absurd (h refl)
 added_some n (x ∷ t) h = refl
 
 -- the line without line feed was moved to the front
-module _ (l : Text) {moved : Text} {b : Buffer} (p : Placed (length l) b) (m : moved ≡ part l b.start b.end ++ drop (b.end - b.start) l) where
-  front_is : take (b.end - b.start) moved ≡ part l b.start b.end
-  front_is = ap (take (b.end - b.start)) m ∙ take_at (part l b.start b.end) (drop (b.end - b.start) l) (b.end - b.start) (part_length l b.start b.end p.inside)
+module _ {b m : Buffer} (w : Moves b m) where
+  front_is : used m ≡ part b.lines.now b.start b.end
+  front_is =
+      ap₂ take w.end w.is ∙ take_at (part b.lines.now b.start b.end) (drop (kept b) b.lines.now) (kept b) (part_length b.lines.now b.start b.end b.inside)
 
-  pub adds_end : {chunk l' : Text} {r : Buffer} → length chunk ≡ 0 → most_kept + 1 ≤ length l' → Completes moved l' (b.end - b.start) r → Adds chunk l l' b r
-  adds_end {chunk} {l'} {r} e h c =
-      let used : ℕ = b.end - b.start in
-      let a = added_none used chunk e in
+  pub moved_size : length m.lines.now ≡ length b.lines.now
+  moved_size = omega (
+    arith,
+    ap length w.is,
+    length-append (part b.lines.now b.start b.end) (drop (kept b) b.lines.now),
+    part_length b.lines.now b.start b.end b.inside,
+    length-drop (kept b) b.lines.now,
+    b.inside,
+  )
+
+  front_kept : kept m ≡ kept b
+  front_kept = omega (arith, w.end, w.start)
+
+  pub adds_end : {chunk : Text} {r : Buffer} → length chunk ≡ 0 → Completes m r → Adds chunk b r
+  adds_end {chunk} {r} e c =
+      let a = added_none (kept b) chunk e in
       record {
-        is = c.is ∙ ap₂ (λ (t u : Text). t ++ u) front_is (sym (ap (cut_lines used) a ∙ cut_closing used));
-        last = omega (arith, c.start, ap (column used) a, column_closing used);
-        from = c.from;
-        ended = c.ended ∙ sym (eq-eqb (length chunk) 0 e);
-        placed = record {
-          first = omega (arith, c.from);
-          second = omega (arith, c.start);
-          inside = omega (arith, c.ends, closing_size used, p.cut);
-          cut = omega (arith, c.start);
-        };
+        is = c.is ∙ ap₂ (λ (t u : Text). t ++ u) front_is (ap closing front_kept ∙ sym (ap (cut_lines (kept b)) a ∙ cut_closing (kept b)));
+        last = omega (arith, c.start, ap (column (kept b)) a, column_closing (kept b));
+        from = c.from ∙ w.from;
+        size = c.size ∙ moved_size;
       }
 
-  pub adds_chunk : {chunk l' : Text} {r : Kept} → (length chunk ≡ 0 → ⊥) → length l' ≡ length moved → Keeps chunk moved l' (b.end - b.start) r
-      → Adds chunk l l' b (record { from = 0; start = r.start; end = r.used; ended = false })
-  adds_chunk {chunk} {l'} {r} e h k =
-      let used : ℕ = b.end - b.start in
-      let a = added_some used chunk e in
+  pub adds_chunk : {chunk : Text} {r : Buffer} → (length chunk ≡ 0 → ⊥) → Keeps chunk m r → Adds chunk b r
+  adds_chunk {chunk} {r} e k =
+      let a = added_some (kept b) chunk e in
       record {
-        is = k.is ∙ ap₂ (λ (t u : Text). t ++ u) front_is (ap (cut_lines used) (sym a));
-        last = k.last ∙ ap (λ (t : Text). r.start + column used t) (sym a);
-        from = refl;
-        ended = sym (ne_eqb (length chunk) 0 e);
-        placed = record { first = omega arith; second = omega (arith, k.last); inside = omega (arith, k.inside, h); cut = omega (arith, k.last, k.cut) };
+        is = k.is ∙ ap₂ (λ (t u : Text). t ++ u) front_is (ap₂ cut_lines front_kept (sym a));
+        last = k.last ∙ ap₂ (λ (j : ℕ) (t : Text). r.start + column j t) front_kept (sym a);
+        from = k.from ∙ w.from;
+        size = k.size ∙ moved_size;
       }
 
 -- ---------------------------------------------------------------- what is listed of a part of the lines
@@ -157,12 +144,11 @@ module _ (kind : Kind) (input out : Text) (work : Slices) {out' : Text} {work' :
       let e = fitting_front kind (length out) (lines input) in
       ap (λ (j : ℕ). lines (take j input)) (listed_taken ∙ ap bytes_taken (sym e)) ∙ lines_take input (length (lines_listed kind input out)) ∙ e
 
-module _ (kind : Kind) (l out : Text) (from to : ℕ) (work : Slices) {out' : Text} {work' : Slices} {r : Listed}
-    (m : Lists kind (part l from to) out out' work work' r) (h : from ≤ to) (k : to ≤ length l) where
-  pub listed_inside : (from + r.taken ≤ to) × (r.written ≤ length out)
-  listed_inside =
-      let (a, c) = lists_inside kind (part l from to) out out' work work' r m in
-      (omega (arith, a, part_length l from to k), c)
+pub listed_inside : (kind : Kind) (b : Buffer) (out : Text) (work work' : Slices) {out' : Text} {r : Listed} → Lists kind (waiting b) out out' work work' r
+    → (b.from + r.taken ≤ b.start) × (r.written ≤ length out)
+listed_inside kind b out work work' {out'} {r} m =
+    let (a, c) = lists_inside kind (waiting b) out out' work work' r m in
+    (omega (arith, a, b.first, part_length b.lines.now b.from b.start (omega (arith, b.second, b.inside))), c)
 
 pub long_sized : {kind : Kind} {work : Slices} → LongFor kind work → work_sized kind work ≡ true
 unfolding work_sized
@@ -201,40 +187,39 @@ some_line (s ∷ ss) h = omega arith
 -- ---------------------------------------------------------------- all chunks so far
 
 -- the same in other words
-pub fed_as : {kind : Kind} {all all' handed handed' l : Text} {b : Buffer} → Fed kind all handed l b → all ≡ all' → handed ≡ handed' → Fed kind all' handed' l b
-fed_as {kind} {all} {all'} {handed} {handed'} {l} {b} f e h =
-    subst (λ (t : Text). Fed kind t handed' l b) e (subst (λ (t : Text). Fed kind all t l b) h f)
+pub fed_as : {kind : Kind} {q : Bool} {all all' handed handed' : Text} {b : Buffer} → Fed kind q all handed b → all ≡ all' → handed ≡ handed' → Fed kind q all' handed' b
+fed_as {kind} {q} {all} {all'} {handed} {handed'} {b} f e h =
+    subst (λ (t : Text). Fed kind q t handed' b) e (subst (λ (t : Text). Fed kind q all t b) h f)
 
-pub fed_none : (kind : Kind) (l : Text) → Fed kind [] header l nothing
+pub fed_none : (kind : Kind) {l : Text} {b : Buffer} → Nothing l b → Fed kind false [] header b
 unfolding lines bytes_taken listing cut_lines column completed if◌then◌otherwise◌
-fed_none kind l = record {
+fed_none kind {l} {b} n = record {
   done = [];
   whole = refl;
   lists = sym (append-nil header);
-  is = refl;
-  last = refl;
-  placed = record { first = omega arith; second = omega arith; inside = omega arith; cut = omega arith };
+  is = ap (λ (j : ℕ). take j (drop b.from b.lines.now)) {x = 0} {y = b.end - b.from} (omega (arith, n.end));
+  last = omega (arith, n.start, n.end);
 }
 
-module _ {kind : Kind} {all handed l : Text} {b : Buffer} (f : Fed kind all handed l b) where
+module _ {kind : Kind} {q : Bool} {all handed : Text} {b : Buffer} (f : Fed kind q all handed b) where
   -- the buffer is empty at the end of the input: all of it is listed
-  pub fed_all : b.ended ≡ true → b.from ≡ b.start → handed ≡ output kind all
+  pub fed_all : q ≡ true → b.from ≡ b.start → handed ≡ output kind all
   unfolding output
   fed_all e h =
-      let a : completed b.ended all ≡ completed true all = ap (λ (q : Bool). completed q all) e in
+      let a : completed q all ≡ completed true all = ap (λ (p : Bool). completed p all) e in
       let z : b.end - b.from ≡ 0 = omega (arith, f.last, ap (column 0) a, column_completed all) in
       let d : f.done ≡ cut_lines 0 (completed true all) =
-      sym (ap (cut_lines 0) (sym a) ∙ f.is ∙ ap (λ (j : ℕ). f.done ++ take j (drop b.from l)) z ∙ append-nil f.done) in
+      sym (ap (cut_lines 0) (sym a) ∙ f.is ∙ ap (λ (j : ℕ). f.done ++ take j (drop b.from b.lines.now)) z ∙ append-nil f.done) in
       f.lists ∙ ap (λ (t : Text). header ++ t) (ap (λ (t : Text). listing kind (lines t)) d ∙ cut_listing kind (completed true all) ∙ ap (listing kind) (lines_completed all))
 
   -- a chunk more
-  pub fed_chunk : {chunk l' : Text} {r : Buffer} → b.ended ≡ false → b.from ≡ b.start → Adds chunk l l' b r → Fed kind (all ++ chunk) handed l' r
-  fed_chunk {chunk} {l'} {r} e h a =
-      let n : ℕ = b.end - b.start in
-      let rest : Text = part l b.start b.end in
-      let w = not_ended all e in
+  pub fed_chunk : {chunk : Text} {ended : Bool} {r : Buffer} → q ≡ false → b.from ≡ b.start → Adds chunk b r → ended ≡ eqb (length chunk) 0 → Fed kind ended (all ++ chunk) handed r
+  fed_chunk {chunk} {ended} {r} e h a is_end =
+      let n : ℕ = kept b in
+      let rest : Text = part b.lines.now b.start b.end in
+      let w : completed q all ≡ all = ap (λ (p : Bool). completed p all) e ∙ not_ended all in
       let c : column 0 all ≡ n = sym (ap (column 0) w) ∙ f.last in
-      let m : completed r.ended (all ++ chunk) ≡ all ++ added n chunk = completed_more all chunk r.ended a.ended ∙ ap (λ (j : ℕ). all ++ added j chunk) c in
+      let m : completed ended (all ++ chunk) ≡ all ++ added n chunk = completed_more all chunk ended is_end ∙ ap (λ (j : ℕ). all ++ added j chunk) c in
       let u : Text = cut_lines n (added n chunk) in
       record {
         done = f.done;
@@ -243,27 +228,22 @@ module _ {kind : Kind} {all handed l : Text} {b : Buffer} (f : Fed kind all hand
         is =
             ap (cut_lines 0) m
             ∙ cut_append 0 all (added n chunk)
-            ∙ ap₂ (λ (t : Text) (j : ℕ). t ++ cut_lines j (added n chunk)) (sym (ap (cut_lines 0) w) ∙ f.is ∙ ap (λ (j : ℕ). f.done ++ part l j b.end) h) c
+            ∙ ap₂ (λ (t : Text) (j : ℕ). t ++ cut_lines j (added n chunk)) (sym (ap (cut_lines 0) w) ∙ f.is ∙ ap (λ (j : ℕ). f.done ++ part b.lines.now j b.end) h) c
             ∙ append_assoc f.done rest u
-            ∙ ap (λ (t : Text). f.done ++ t) (sym a.is ∙ ap (λ (j : ℕ). take j l') {x = r.end} {y = r.end - 0} (omega arith))
-            ∙ ap (λ (j : ℕ). f.done ++ part l' j r.end) (sym a.from);
+            ∙ ap (λ (t : Text). f.done ++ t) (sym a.is ∙ ap (λ (j : ℕ). take j r.lines.now) {x = r.end} {y = r.end - 0} (omega arith))
+            ∙ ap (λ (j : ℕ). f.done ++ part r.lines.now j r.end) (sym a.from);
         last = ap (column 0) m ∙ column_append 0 all (added n chunk) ∙ ap (λ (j : ℕ). column j (added n chunk)) c ∙ omega (arith, a.last);
-        placed = a.placed;
       }
 
-  abbrev waiting : Text
-  waiting = part l b.from b.start
-
   -- the lines in the buffer are complete
-  waiting_whole : bytes_taken (lines waiting) ≡ length waiting
+  waiting_whole : bytes_taken (lines (waiting b)) ≡ length (waiting b)
   waiting_whole =
-      let w : Text = completed b.ended all in
-      let rest : Text = part l b.start b.end in
-      let t : Text = waiting ++ rest in
-      let p = f.placed in
-      let h : cut_lines 0 w ≡ f.done ++ t = f.is ∙ ap (λ (u : Text). f.done ++ u) (part_split l b.from b.start b.end p.first p.second) in
+      let w : Text = completed q all in
+      let rest : Text = part b.lines.now b.start b.end in
+      let t : Text = waiting b ++ rest in
+      let h : cut_lines 0 w ≡ f.done ++ t = f.is ∙ ap (λ (u : Text). f.done ++ u) (part_split b.lines.now b.from b.start b.end b.first b.second) in
       let k = lines_append f.done t f.whole in
-      let n : bytes_taken (lines t) ≡ length waiting = omega (
+      let n : bytes_taken (lines t) ≡ length (waiting b) = omega (
         arith,
         cut_taken w,
         ap (λ (u : Text). bytes_taken (lines u)) h,
@@ -272,30 +252,32 @@ module _ {kind : Kind} {all handed l : Text} {b : Buffer} (f : Fed kind all hand
         f.whole,
         ap length h,
         length-append f.done t,
-        length-append waiting rest,
-        part_length l b.start b.end p.inside,
+        length-append (waiting b) rest,
+        part_length b.lines.now b.start b.end b.inside,
         f.last,
       ) in
-      let e : lines waiting ≡ lines t =
-      ap lines (sym (take_at waiting rest (length waiting) refl))
+      let e : lines (waiting b) ≡ lines t =
+      ap lines (sym (take_at (waiting b) rest (length (waiting b)) refl))
       ∙ ap (λ (j : ℕ). lines (take j t)) (sym (ap bytes_taken (take-length (lines t)) ∙ n))
       ∙ lines_take t (length (lines t))
       ∙ take-length (lines t) in
       ap bytes_taken e ∙ n
 
-  module _ (out : Text) (work : Slices) {out' : Text} {work' : Slices} {r : Listed} (m : Lists kind waiting out out' work work' r) (s : work_sized kind work ≡ true) where
+  module _ (out : Text) (work : Slices) {out' : Text} {work' : Slices} {r : Listed} (m : Lists kind (waiting b) out out' work work' r) (s : work_sized kind work ≡ true) where
     -- some of its lines more are handed over
-    pub fed_listed : Fed kind all (handed ++ take r.written out') l (record { from = b.from + r.taken; start = b.start; end = b.end; ended = b.ended })
-    fed_listed =
-        let p = f.placed in
+    pub fed_listed : {b' : Buffer} → Skips r.taken b b' → Fed kind q all (handed ++ take r.written out') b'
+    fed_listed {b'} g =
+        let l : Text = b.lines.now in
         let k : ℕ = r.taken in
-        let front : Text = take k waiting in
-        let ss : List Text = fitting kind (length out) (lines waiting) in
-        let size = part_length l b.from b.start (omega (arith, p.second, p.inside)) in
-        let within : k ≤ b.start - b.from = omega (arith, (lists_inside kind waiting out out' work work' r m).0, size) in
-        let e : lines (f.done ++ front) ≡ lines f.done ++ ss = lines_append f.done front f.whole ∙ ap (λ (us : List Text). lines f.done ++ us) (listed_lines kind waiting out work m s) in
+        let front : Text = take k (waiting b) in
+        let ss : List Text = fitting kind (length out) (lines (waiting b)) in
+        let size = part_length l b.from b.start (omega (arith, b.second, b.inside)) in
+        let within : k ≤ b.start - b.from = omega (arith, (lists_inside kind (waiting b) out out' work work' r m).0, size) in
+        let e : lines (f.done ++ front) ≡ lines f.done ++ ss = lines_append f.done front f.whole ∙ ap (λ (us : List Text). lines f.done ++ us) (listed_lines kind (waiting b) out work m s) in
         let c : part l b.from (b.from + k) ≡ front =
         ap (λ (j : ℕ). take j (drop b.from l)) {x = b.from + k - b.from} {y = k} (omega arith) ∙ sym (take-take k (b.start - b.from) (drop b.from l) within) in
+        let left : part l (b.from + k) b.end ≡ part b'.lines.now b'.from b'.end =
+        ap₂ (λ (t : Text) (j : ℕ). part t j b.end) (sym g.lines) (sym g.from) ∙ ap (part b'.lines.now b'.from) (sym g.end) in
         record {
           done = f.done ++ front;
           whole = omega (
@@ -303,39 +285,44 @@ module _ {kind : Kind} {all handed l : Text} {b : Buffer} (f : Fed kind all hand
             ap bytes_taken e,
             taken_append (lines f.done) ss,
             f.whole,
-            listed_taken kind waiting out work m s,
+            listed_taken kind (waiting b) out work m s,
             length-append f.done front,
-            length-take-le k waiting (omega (arith, within, size)),
+            length-take-le k (waiting b) (omega (arith, within, size)),
           );
           lists =
-              ap₂ (λ (t u : Text). t ++ u) f.lists (listed_written kind waiting out work m s)
+              ap₂ (λ (t u : Text). t ++ u) f.lists (listed_written kind (waiting b) out work m s)
               ∙ append_assoc header (listing kind (lines f.done)) (listing kind ss)
               ∙ ap (λ (t : Text). header ++ t) (sym (ap (listing kind) e ∙ listing_append kind (lines f.done) ss));
           is =
               f.is
               ∙ ap (λ (t : Text). f.done ++ t)
-              (part_split l b.from (b.from + k) b.end (omega arith) (omega (arith, within, p.first, p.second))
-              ∙ ap (λ (t : Text). t ++ part l (b.from + k) b.end) c)
-              ∙ sym (append_assoc f.done front (part l (b.from + k) b.end));
-          last = f.last;
-          placed = record { first = omega (arith, within, p.first); second = p.second; inside = p.inside; cut = p.cut };
+              (part_split l b.from (b.from + k) b.end (omega arith) (omega (arith, within, b.first, b.second))
+              ∙ ap₂ (λ (t u : Text). t ++ u) c left)
+              ∙ sym (append_assoc f.done front (part b'.lines.now b'.from b'.end));
+          last = f.last ∙ ap₂ (λ (i j : ℕ). i - j) (sym g.end) (sym g.start);
         }
 
     -- one line at least
     pub listed_more : most_line_bytes ≤ length out → b.from < b.start → 1 ≤ r.taken
     listed_more h k =
-        let p = f.placed in
-        (lists_some_line kind waiting out out' work work' r m s h).1
-        (some_line (lines waiting) (omega (arith, waiting_whole, part_length l b.from b.start (omega (arith, p.second, p.inside)), k)))
+        (lists_some_line kind (waiting b) out out' work work' r m s h).1
+        (some_line (lines (waiting b)) (omega (arith, waiting_whole, part_length b.lines.now b.from b.start (omega (arith, b.second, b.inside)), k)))
 
-  -- the loop ends
-  pub ends : {r : Bool} → r ≡ (b.ended && leb b.start b.from) → Ends kind l r
-  ends {r} e = record {
-    all = all;
-    handed = handed;
-    buffer = b;
-    fed = f;
-    listed = λ t.
-        let (x, y) = both_true b.ended (leb b.start b.from) (sym e ∙ t) in
-        fed_all x (omega (arith, leb-true b.start b.from y, f.placed.first));
-  }
+  -- what was handed over is a front of the output for the input
+  pub fed_front : (k : Text) × (output kind all ≡ handed ++ k)
+  unfolding output
+  fed_front =
+      let w : Text = completed q all in
+      let rest : Text = part b.lines.now b.from b.end in
+      let (ss, e) = lines_more all q in
+      let i : listing kind (lines w) ≡ listing kind (lines f.done) ++ listing kind (lines rest) =
+      sym (cut_listing kind w)
+      ∙ ap (λ (t : Text). listing kind (lines t)) f.is
+      ∙ ap (listing kind) (lines_append f.done rest f.whole)
+      ∙ listing_append kind (lines f.done) (lines rest) in
+      let k : Text = listing kind (lines rest) ++ listing kind ss in (
+        k,
+        ap (λ (t : Text). header ++ t) (ap (listing kind) e ∙ listing_append kind (lines w) ss ∙ ap (λ (t : Text). t ++ listing kind ss) i ∙ append_assoc (listing kind (lines f.done)) (listing kind (lines rest)) (listing kind ss))
+            ∙ sym (append_assoc header (listing kind (lines f.done)) k)
+            ∙ ap (λ (t : Text). t ++ k) (sym f.lists),
+      )

@@ -1,6 +1,6 @@
 -- Laws of lines: those of a text in parts, those that are cut, and those of a whole input. Assumes nothing.
 use Rattle.std.specs.Prelude.{Bool, true, false, not, ◌≡◌, refl, ℕ, zero, suc, ◌+◌, ◌-◌, ◌≤◌, eqb, leb, ltb, length, take}
-use mathlib.Core.List.{List, [], ◌∷◌, ◌++◌, append_assoc}
+use mathlib.Core.List.{List, [], ◌∷◌, ◌++◌, append_assoc, append-nil}
 use Rattle.std.proofs.Common.{sym, ap, ◌∙◌, ltb-false, eqb-true}
 use Rattle.std.proofs.Math.Path.{subst}
 use native.Mathlib.Omega.{arith}
@@ -186,3 +186,23 @@ column_closing n = go (eqb n 0) refl where
 pub column_completed : (t : Text) → column 0 (completed true t) ≡ 0
 unfolding completed if◌then◌otherwise◌
 column_completed t = column_append 0 t (closing (column 0 t)) ∙ column_closing (column 0 t)
+
+-- the lines that end are the first ones
+lines_open : (some : Bool) (t : Text) → (ss : List Text) × (lines_on some t ≡ lines t ++ ss)
+unfolding lines lines_on in_front if◌then◌otherwise◌
+lines_open some [] = (lines_on some [], refl)
+lines_open some (x ∷ t) = go (eqb x 10) (lines_open false t) (lines_open true t) where
+  front : (us : List Text) → ((ss : List Text) × (lines_on true t ≡ us ++ ss)) → (ss : List Text) × (in_front x (lines_on true t) ≡ in_front x us ++ ss)
+  front [] (ss, e) = (in_front x ss, ap (in_front x) e)
+  front (u ∷ us) (ss, e) = (ss, ap (in_front x) e)
+
+  go : (q : Bool) → ((ss : List Text) × (lines_on false t ≡ lines t ++ ss)) → ((ss : List Text) × (lines_on true t ≡ lines t ++ ss))
+      → (ss : List Text) × ((if q then [] ∷ lines_on false t otherwise in_front x (lines_on true t)) ≡ (if q then [] ∷ lines t otherwise in_front x (lines t)) ++ ss)
+  go true (ss, e) b = (ss, ap (λ (us : List Text). [] ∷ us) e)
+  go false a b = front (lines t) b
+
+-- what is read later adds lines behind
+pub lines_more : (t : Text) (q : Bool) → (ss : List Text) × (all_lines t ≡ lines (completed q t) ++ ss)
+unfolding completed if◌then◌otherwise◌
+lines_more t true = ([], sym (append-nil (lines (completed true t)) ∙ lines_completed t))
+lines_more t false = lines_open false t

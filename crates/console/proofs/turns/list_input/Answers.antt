@@ -1,44 +1,57 @@
-use mathlib.Core.List.{[]}
-use mathlib.Core.Path.{refl, sym, ◌∙◌, subst}
-use native.Mathlib.Omega.{arith}
-use Rattle.answer.specs.Told.{normal_slices}
-use Rattle.console.specs.Output.{header}
-use Rattle.console.specs.Buffer.{Fed}
-use Rattle.console.specs.Laws.Buffer.{long_as, fed_none, ends}
-use Rattle.console.specs.declared.buffer.Buffer.{Buffer}
+use Rattle.std.proofs.Common.{◌≡◌, length, ap, ◌∙◌, refl, eq-eqb, arith}
+use Rattle.std.proofs.lemmas.Result.{MatchResult-from_err}
+use Rattle.std.proofs.KnownBytes.{Keeps-refl}
+use Rattle.console.specs.Laws.Turns.{goes_none, stops_none, goes_read, goes_written, ends, stops, stops_written}
 use Rattle.console.proofs.turns.list_input.Goals as goal
 
-pub loop-turns-init : goal.loop-turns-init
-loop-turns-init g c = (
-  ([], (header, subst (λ (b : Buffer). Fed c.args.kind [] header c.args.lines.now b) (sym c.empty-buffer.ensures) (fed_none c.args.kind c.args.lines.now))),
-  (refl, (refl, (refl, (refl, (refl, (refl, (refl, (refl, (refl, refl))))))))),
-)
+pub returns-in_err-write_header : goal.returns-in_err-write_header
+returns-in_err-write_header g c =
+    MatchResult-from_err _ _ _ c.from_residual.ensures.0 (λ _. stops_none _ _ _ _ c.new-buffer.ensures c.in_err-write_header.ensures.1)
 
-pub turn-next-requires : goal.turn-next-requires
-turn-next-requires g c =
-    let (f, (i, (j, (k, (n, (t, (o, (e, (w, (x, y)))))))))) = c.loop-turns.invariant in
-    let before = normal_slices c.args.name.now c.args.text.now c.args.store.now c.args.ends.now c.args.words.now c.args.tables.now c.args.chains.now in
-    let now = normal_slices c.loop-turns.name c.loop-turns.text c.loop-turns.store c.loop-turns.ends c.loop-turns.words c.loop-turns.tables c.loop-turns.chains in record {
-      placed = (f.1.1.placed, (omega (arith, i, j, c.requires.chunk_in_bounds.0), omega (arith, k, c.requires.chunk_in_bounds.1, c.write_header-handed.auto.out)));
-      long_for = long_as before now (λ q. record { out = n q; text = t q; store = o q; ends = e q; words = w q; tables = x q; chains = y q }) c.requires.long_for;
+pub loop-init : goal.loop-init
+loop-init g c = record {
+  goes = goes_none _ _ _ _ c.new-buffer.ensures c.in_ok-write_header.ensures;
+  none = omega (arith, c.new-buffer.ensures.from, c.new-buffer.ensures.start);
+  room = omega (arith, ap length c.new-buffer.ensures.lines, c.requires);
+  kind = refl;
+}
+
+pub returns-in_err-n : goal.returns-in_err-n
+returns-in_err-n g c =
+    MatchResult-from_err _ _ _ c.from_residual-in_err-n.ensures.0 (λ _. stops c.loop.invariant.goes c.in_err-n.ensures.1.1)
+
+pub loop-buffer-init : goal.loop-buffer-init
+loop-buffer-init g c = record {
+  goes = goes_read c.loop.invariant.goes refl c.in_ok-n.ensures;
+  room = omega (arith, c.in_ok-n.ensures.size, c.read_some.auto.chunk, c.loop.invariant.room);
+  kind = c.loop.invariant.kind;
+}
+
+pub loop-buffer-smaller : goal.loop-buffer-smaller
+loop-buffer-smaller g c =
+    let w = rw c.loop-buffer.invariant.kind at c.in_ok-write_some.ensures.writes in
+    let f = c.loop-buffer.invariant.goes in
+    omega (arith, w.more _ f.all f.handed f.fed, w.start)
+
+pub loop-buffer-preserved : goal.loop-buffer-preserved
+loop-buffer-preserved g c =
+    let w = rw c.loop-buffer.invariant.kind at c.in_ok-write_some.ensures.writes in
+    record {
+      goes = goes_written c.loop-buffer.invariant.goes w w.written;
+      room = omega (arith, w.size, c.loop-buffer.invariant.room);
+      kind = c.in_ok-write_some.ensures.kind ∙ c.loop-buffer.invariant.kind;
     }
 
-pub overflow_sub-turns : goal.overflow_sub-turns
-overflow_sub-turns g c =
-    omega (arith, c.loop-turns-test.true)
+pub returns-in_err-write_some : goal.returns-in_err-write_some
+returns-in_err-write_some g c =
+    let w = rw c.loop-buffer.invariant.kind at c.in_err-write_some.ensures.writes in
+    MatchResult-from_err _ _ _ c.from_residual-in_err-write_some.ensures.0 (λ _. stops_written c.loop-buffer.invariant.goes w w.written.1)
 
-pub loop-turns-smaller : goal.loop-turns-smaller
-loop-turns-smaller g c =
-    omega (arith, c.loop-turns-test.true)
-
-pub loop-turns-preserved : goal.loop-turns-preserved
-loop-turns-preserved g c =
-    let (f, (i, (j, (o, (n, (t, (s, (e, (w, (x, y)))))))))) = c.loop-turns.invariant in
-    let r = c.turn-next.auto in (
-      (_, (_, c.turn-next.ensures.fed f.0 f.1.0 f.1.1)),
-      (r.chunk ∙ i, (r.lines ∙ j, (r.out ∙ o, (r.name ∙ n, (r.text ∙ t, (r.store ∙ s, (r.ends ∙ e, (r.words ∙ w, (r.tables ∙ x, r.chains ∙ y))))))))),
-    )
+pub returns-then-n-eq0 : goal.returns-then-n-eq0
+returns-then-n-eq0 g c =
+    let none : c.loop-buffer.buffer.from ≡ c.loop-buffer.buffer.start = omega arith in
+    ends c.loop-buffer.invariant.goes c.args.chunk.now (eq-eqb c.in_ok-n.n 0 c.if-n-eq0.true) none
+    (λ h. c.in_ok-n.ensures.ended c.if-n-eq0.true (omega (arith, h, c.read_some.auto.chunk, c.loop.auto.chunk)))
 
 pub returns : goal.returns
-returns g c =
-    ends c.loop-turns.invariant.0.1.1 c.all_listed.ensures
+returns g c = stops c.loop.invariant.goes (Keeps-refl _)

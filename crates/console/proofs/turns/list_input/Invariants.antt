@@ -1,15 +1,22 @@
-use mathlib.Core.Path.{◌≡◌}
-use lib.ListN.{length}
-use Rattle.grammar.specs.Text.{Text}
-use Rattle.console.specs.Buffer.{Fed}
+use Rattle.std.proofs.Common.{◌-◌, ◌+◌, ◌≤◌, length, ◌≡◌, false, eqb}
+use Rattle.listing.specs.Cut.{most_kept}
+use Rattle.console.specs.Turns.{Goes}
 use Rattle.console.proofs.turns.list_input.Given as goal
 
-abbrev pub invariant-loop-turns : goal.invariant-loop-turns
-invariant-loop-turns g l = ((all : Text) × ((handed : Text) × Fed l.kind all handed l.lines l.buffer)) × (
-    (length l.chunk ≡ length l.initial.chunk) × ((length l.lines ≡ length l.initial.lines) × ((length l.out ≡ length l.initial.out) × ((length l.name ≡ length l.initial.name)
-    × ((length l.text ≡ length l.initial.text) × ((length l.store ≡ length l.initial.store) × ((length l.ends ≡ length l.initial.ends)
-    × ((length l.words ≡ length l.initial.words) × ((length l.tables ≡ length l.initial.tables) × (length l.chains ≡ length l.initial.chains)))))))))
-    )
+abbrev pub invariant-loop-buffer : goal.invariant-loop-buffer
+invariant-loop-buffer g l = record {
+  goes : Goes l.fn.lister.kind (eqb l.n 0) (g.R.Read.remaining l.fn.input) (g.R.Read.remaining l.input) (g.W.Write.contents l.fn.output) (g.W.Write.contents l.output) l.buffer;
+  room : most_kept + 1 + length l.chunk ≤ length l.buffer.lines.now;
+  kind : l.lister.kind ≡ l.fn.lister.kind;
+}
 
-abbrev pub decreases-loop-turns : goal.decreases-loop-turns
-decreases-loop-turns g l = l.turns
+abbrev pub decreases-loop-buffer : goal.decreases-loop-buffer
+decreases-loop-buffer g l = l.buffer.start - l.buffer.from
+
+abbrev pub invariant-loop : goal.invariant-loop
+invariant-loop g l = record {
+  goes : Goes l.fn.lister.kind false (g.R.Read.remaining l.fn.input) (g.R.Read.remaining l.input) (g.W.Write.contents l.fn.output) (g.W.Write.contents l.output) l.buffer;
+  none : l.buffer.from ≡ l.buffer.start;
+  room : most_kept + 1 + length l.chunk ≤ length l.buffer.lines.now;
+  kind : l.lister.kind ≡ l.fn.lister.kind;
+}
