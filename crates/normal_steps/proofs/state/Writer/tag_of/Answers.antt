@@ -1,4 +1,4 @@
-use Rattle.std.proofs.Common.{◌∙◌, ◌*◌, ap, get_or, arith}
+use Rattle.std.proofs.Common.{arith}
 use Rattle.normal_steps.specs.Laws.Slices.{tag_low, tag_none, tag_here}
 use Rattle.normal_steps.proofs.state.Writer.tag_of.Goals as goal
 
