@@ -68,11 +68,7 @@ pub extern "C" fn patchname_normalize(
 }
 
 // The number of a listing; the bytes taken and those written go to `taken` and `written`.
-fn tell_listing(
-    listed: Result<Listed, Refusal>,
-    taken: &mut usize,
-    written: &mut usize,
-) -> u8
+fn tell_listing(listed: Result<Listed, Refusal>, taken: &mut usize, written: &mut usize) -> u8
     ensures { (result ≡ number_told listed) × ((taken.new ≡ taken_told listed) × (written.new ≡ written_told listed)) }
 {
     match listed {
