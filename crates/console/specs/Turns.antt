@@ -1,5 +1,5 @@
 -- What the turns of reading and writing leave, whatever was read and handed over before them. Assumes nothing.
-use Rattle.std.specs.Prelude.{Bool, true, false, ◌++◌, ◌≡◌, ℕ, ◌<◌, ◌≤◌, List, eqb, length, take, Option, Result, MatchResult}
+use Rattle.std.specs.Prelude.{Bool, false, ◌++◌, ◌≡◌, ℕ, ◌<◌, ◌≤◌, List, eqb, length, take, Option, Result, MatchResult, ◌⊎◌}
 use Rattle.std.specs.Io.KnownBytes.{Appends, Consumes, IsAtEnd, Keeps}
 use Rattle.grammar.specs.Text.{Text}
 use Rattle.listing.specs.declared.listing.Kind.{Kind}
@@ -29,13 +29,14 @@ ReadsOn chunk left left' b b' r = MatchResult r (λ n. Reads chunk left left' b 
 abbrev pub Writes : {A : Type 0} → Known → Known → Text → Result A Failed → Type 0
 Writes has has' bytes r = MatchResult r (λ _. Appends has has' bytes) (λ e. (e ≡ Output) × ((n : ℕ) × Appends has has' (take n bytes)))
 
--- what is handed over is the listing of one line at least
-pub record WritesOn {A : Type 0} (kind : Kind) (has has' : Known) (b b' : Buffer) (r : Result A Failed) : Type 0 where
-  pub put : Text
-  pub fed : (ended : Bool) (all handed : Text) → Fed kind ended all handed b → Fed kind ended all (handed ++ put) b'
+-- what is handed over, the first bytes of the output, is the listing of one line at least
+pub record WritesOn {A : Type 0} (kind : Kind) (out : Text) (has has' : Known) (b b' : Buffer) (r : Result A Failed) : Type 0 where
+  pub put : ℕ
+  pub fed : (ended : Bool) (all handed : Text) → Fed kind ended all handed b → Fed kind ended all (handed ++ take put out) b'
+  pub inside : put ≤ length out
   pub more : (ended : Bool) (all handed : Text) → Fed kind ended all handed b → b.from < b'.from
   pub start : b'.start ≡ b.start
-  pub written : Writes has has' put r
+  pub written : Writes has has' (take put out) r
   pub size : length b'.lines.now ≡ length b.lines.now
 
 -- so far some input was read, and its listing written as far as the buffer tells
@@ -47,10 +48,10 @@ pub record Goes (kind : Kind) (ended : Bool) (left left' has has' : Known) (b : 
   pub written : Appends has has' handed
 
 -- all of the input was read, up to its end, and the output for it written
-pub record Ends (kind : Kind) (chunk : Text) (left left' has has' : Known) : Type 0 where
+pub record Ends (kind : Kind) (left left' has has' : Known) : Type 0 where
   pub all : Text
   pub read : Consumes left left' all
-  pub ended : 0 < length chunk → IsAtEnd left'
+  pub ended : IsAtEnd left'
   pub written : Appends has has' (output kind all)
 
 -- some input was read, and some of the output for it written
@@ -59,3 +60,7 @@ pub record Stops (kind : Kind) (left left' has has' : Known) : Type 0 where
   pub n : ℕ
   pub read : Consumes left left' all
   pub written : Appends has has' (take n (output kind all))
+
+-- where the run ends, standard error is told nothing
+abbrev pub Runs : Kind → Known → Known → Known → Known → Known → Known → Type 0
+Runs kind left left' has has' told told' = (Ends kind left left' has has' × Keeps told told') ⊎ Stops kind left left' has has'

@@ -1,8 +1,8 @@
 -- Laws of what is kept of a chunk. Assumes nothing.
-use mathlib.Core.List.{List, [], ◌∷◌, ◌++◌, append_assoc, append-nil}
-use Rattle.std.specs.Prelude.{◌≡◌, refl, ℕ, suc, ◌+◌, ◌-◌, ◌≤◌, ◌<◌, length, get_or, set}
+use mathlib.Core.List.{[], ◌∷◌, ◌++◌, append_assoc, append-nil}
+use Rattle.std.specs.Prelude.{◌≡◌, refl, ℕ, suc, ◌+◌, ◌-◌, ◌≤◌, ◌<◌, length, get_or}
 use Rattle.std.proofs.Math.Path.{sym, ap}
-use Rattle.std.proofs.Common.{ap₂, ◌∙◌, add-one, arith, eq-eqb, length-set, length-drop, drop-cons, drop-drop, take-suc-set, length-take-le}
+use Rattle.std.proofs.Common.{ap₂, ◌∙◌, arith, eq-eqb, length-drop, drop-cons, length-take-le}
 use Rattle.std.proofs.Math.ListN.{take, drop, drop_of_length-le}
 use Rattle.grammar.specs.Text.{Text}
 use Rattle.listing.specs.Listing.{line_feed}
@@ -12,9 +12,6 @@ use Rattle.listing.specs.Lines.{before_feed, feed_from}
 use Rattle.listing.specs.Laws.Lines.{feed_there, feed_front}
 use Rattle.console.specs.Buffer.{used, kept, EndsLine, Puts, Keeps, Begun}
 use Rattle.console.specs.declared.buffer.Buffer.{Buffer}
-
-pub begin : (chunk : Text) (b : Buffer) → b.end + length chunk ≤ length b.lines.now → Begun chunk chunk b b
-begin chunk b h = record { room = h; is = refl; last = refl; from = refl; size = refl }
 
 module _ {chunk rest : Text} {b r : Buffer} (w : Begun chunk rest b r) where
   pub all_kept : length rest ≤ 0 → Keeps chunk b r
