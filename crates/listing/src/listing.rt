@@ -13,7 +13,7 @@ use answer::{bytes, number, work};
 use demangle::reading::demangle_uncleared;
 use grammar::refusal::Refusal;
 use grammar::state::Parser;
-use grammar::{numbers as digits, text};
+use grammar::numbers as digits;
 use memchr::memchr_iter;
 use normalize::reading::normalize_uncleared;
 
@@ -73,21 +73,21 @@ fn write_head(out: &mut [u8], number: usize, bytes: usize) -> usize
     digits::write_decimal(out, comma, number as u64)
 }
 
-// The line with the number and the name, into `out` from `at` on. Returned is its length, if it fits.
-fn print_line(out: &mut [u8], at: usize, number: usize, name: &[u8]) -> Option<usize>
-    requires { (at ≤ length out.old) × ((number < 100000) × (length name.now < 100000)) }
-    ensures { Printed (line number (length name.now) name.now) at out.old out.new result }
+// The line with the number and the name, into `out`. Returned is its length, if it fits.
+fn print_line(out: &mut [u8], number: usize, name: &[u8]) -> Option<usize>
+    requires { (number < 100000) × (length name.now < 100000) }
+    ensures { Printed (line number (length name.now) name.now) out.old out.new result }
 {
     let mut head = [0u8; 12];
     let from = write_head(&mut head, number, name.len());
     let n = 12 - from;
     let last = n + name.len();
-    if out.len() - at <= last {
+    if out.len() <= last {
         return None;
     }
-    text::copy(out, at, &head[from..]);
-    text::copy(out, at + n, name);
-    out[at + last] = b'\n';
+    out[..n].copy_from_slice(&head[from..]);
+    out[n..last].copy_from_slice(name);
+    out[last] = b'\n';
     Some(last + 1)
 }
 
@@ -127,15 +127,14 @@ impl Lister<'_, '_, '_, '_, '_> {
     }
 
     // The listing line of a symbol, as `print_line` writes a line.
-    fn write_line(&mut self, s: &[u8], out: &mut [u8], at: usize) -> Option<usize>
-        requires { at ≤ length out.old }
+    fn write_line(&mut self, s: &[u8], out: &mut [u8]) -> Option<usize>
         ensures same { SameLister self.old self.new }
-        ensures line { Printed (listing_line self.old.kind s.now) at out.old out.new result }
+        ensures line { Printed (listing_line self.old.kind s.now) out.old out.new result }
     {
         let answer = self.answer(s);
         let number = usize::from(number(answer));
         let bytes = bytes(answer);
-        print_line(out, at, number, &self.name[..bytes])
+        print_line(out, number, &self.name[..bytes])
     }
 
     // The lines one after another, as long as their listing fits.
@@ -146,7 +145,7 @@ impl Lister<'_, '_, '_, '_, '_> {
         let mut taken: usize = 0;
         let mut written: usize = 0;
         for feed in memchr_iter(b'\n', input) {
-            let Some(n) = self.write_line(&input[taken..feed], out, written) else {
+            let Some(n) = self.write_line(&input[taken..feed], &mut out[written..]) else {
                 return full(taken, written);
             };
             taken = feed + 1;
