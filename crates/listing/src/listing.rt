@@ -11,14 +11,17 @@ ghost use Rattle.listing.specs.Entry.{Tried};
 use answer::work::{Numbers, Work};
 use answer::{bytes, number, work};
 use demangle::reading::demangle_uncleared;
+use grammar::numbers as digits;
 use grammar::refusal::Refusal;
 use grammar::state::Parser;
-use grammar::numbers as digits;
 use memchr::memchr_iter;
 use normalize::reading::normalize_uncleared;
 
 // The least length of the slice for a name or a normal symbol; those of the others are the entries'.
 pub const NAME: usize = Parser::TEXT;
+
+// The most bytes of a line in front of the name: two numbers of five digits, each with its comma.
+const HEAD: usize = 12;
 
 // What is listed of a symbol: its name, or its normal symbol.
 #[derive(Clone, Copy, Debug, PartialEq, Eq)]
@@ -61,13 +64,13 @@ pub struct Listed {
     pub written: usize,
 }
 
-// Number and length, each with its comma, at the end of the 12 bytes. Returned is where they begin.
-fn write_head(out: &mut [u8], number: usize, bytes: usize) -> usize
-    requires { (length out.old ≡ 12) × ((number < 100000) × (bytes < 100000)) }
+// Number and length, each with its comma, at the end of `out`. Returned is where they begin.
+fn write_head(out: &mut [u8; HEAD], number: usize, bytes: usize) -> usize
+    requires { (number < 100000) × (bytes < 100000) }
     ensures { Heads number bytes out.new result }
 {
-    out[11] = b',';
-    let second = digits::write_decimal(out, 11, bytes as u64);
+    out[HEAD - 1] = b',';
+    let second = digits::write_decimal(out, HEAD - 1, bytes as u64);
     let comma = second - 1;
     out[comma] = b',';
     digits::write_decimal(out, comma, number as u64)
@@ -78,9 +81,9 @@ fn print_line(out: &mut [u8], number: usize, name: &[u8]) -> Option<usize>
     requires { (number < 100000) × (length name.now < 100000) }
     ensures { Printed (line number (length name.now) name.now) out.old out.new result }
 {
-    let mut head = [0u8; 12];
+    let mut head = [0u8; HEAD];
     let from = write_head(&mut head, number, name.len());
-    let n = 12 - from;
+    let n = HEAD - from;
     let last = n + name.len();
     if out.len() <= last {
         return None;
