@@ -65,20 +65,20 @@ pub struct Listed {
 }
 
 // Number and length, each with its comma, at the end of `out`. Returned is where they begin.
-fn write_head(out: &mut [u8; HEAD], number: usize, bytes: usize) -> usize
-    requires { (number < 100000) × (bytes < 100000) }
+fn write_head(out: &mut [u8; HEAD], number: u8, bytes: usize) -> usize
+    requires { bytes < 100000 }
     ensures { Heads number bytes out.new result }
 {
     out[HEAD - 1] = b',';
     let second = digits::write_decimal(out, HEAD - 1, bytes as u64);
     let comma = second - 1;
     out[comma] = b',';
-    digits::write_decimal(out, comma, number as u64)
+    digits::write_decimal(out, comma, u64::from(number))
 }
 
 // The line with the number and the name, into `out`. Returned is its length, if it fits.
-fn print_line(out: &mut [u8], number: usize, name: &[u8]) -> Option<usize>
-    requires { (number < 100000) × (length name.now < 100000) }
+fn print_line(out: &mut [u8], number: u8, name: &[u8]) -> Option<usize>
+    requires { length name.now < 100000 }
     ensures { Printed (line number (length name.now) name.now) out.old out.new result }
 {
     let mut head = [0u8; HEAD];
@@ -135,9 +135,8 @@ impl Lister<'_, '_, '_, '_, '_> {
         ensures line { Printed (listing_line self.old.kind s.now) out.old out.new result }
     {
         let answer = self.answer(s);
-        let number = usize::from(number(answer));
         let bytes = bytes(answer);
-        print_line(out, number, &self.name[..bytes])
+        print_line(out, number(answer), &self.name[..bytes])
     }
 
     // The lines one after another, as long as their listing fits.

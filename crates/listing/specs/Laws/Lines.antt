@@ -1,5 +1,5 @@
 -- Laws of Lines.antt. Assumes nothing.
-use Rattle.std.specs.Prelude.{Bool, true, false, not, List, [], ◌∷◌, ◌++◌, ◌≡◌, refl, ℕ, zero, suc, ◌+◌, ◌-◌, ◌≤◌, ◌<◌, eqb, length, take, drop, get_or, Option, Some, None, unwrap_or, Result, Ok, Err}
+use Rattle.std.specs.Prelude.{Bool, true, false, not, List, [], ◌∷◌, ◌++◌, ◌≡◌, refl, ℕ, zero, suc, ◌+◌, ◌-◌, ◌≤◌, ◌<◌, eqb, length, take, drop, get_or, Option, Some, None, Result, Ok}
 use Rattle.std.proofs.Common.{true≢false, eq-eqb, append_assoc, append-nil, sym, ap, ap₂, ◌∙◌, subst, arith, ne_eqb, eqb-true, le-leb, length-append, length-drop, drop_of_length-le, take_at, drop-drop}
 use Rattle.std.proofs.lemmas.Bool.{not-false, lt-leb}
 use Rattle.std.proofs.Math.Seq.{take-length, take_all}
@@ -9,7 +9,7 @@ use Rattle.grammar.specs.Text.{Text, if◌then◌otherwise◌, run}
 use Rattle.grammar.specs.declared.refusal.Refusal.{Refusal}
 use Rattle.grammar.specs.Laws.Runs.{run_more, run_stop, run_stops}
 use Rattle.memchr.specs.Find.{is_byte, places_from, places_between}
-use Rattle.listing.specs.Listing.{line, line_for, listing_line, in_front, lines, bytes_taken, listing, fitting, none_fits, number_for, number_told, taken_told, written_told}
+use Rattle.listing.specs.Listing.{listing_line, in_front, lines, bytes_taken, listing, fitting, none_fits, number_for, number_told, taken_told, written_told}
 use Rattle.listing.specs.Printed.{Printed}
 use Rattle.listing.specs.Laws.Printed.{prints, prints_not}
 use Rattle.listing.specs.declared.listing.Kind.{Kind}

@@ -1,5 +1,5 @@
 -- Laws of Printed.antt. Assumes nothing.
-use Rattle.std.specs.Prelude.{Bool, [], ◌∷◌, ◌++◌, ◌≡◌, ℕ, suc, ◌+◌, ◌-◌, ◌≤◌, ◌<◌, drop, Option, Some, None}
+use Rattle.std.specs.Prelude.{Bool, [], ◌∷◌, ◌++◌, ◌≡◌, ℕ, suc, ◌+◌, ◌-◌, ◌≤◌, ◌<◌, drop, Some, None}
 use Rattle.std.proofs.Math.Bool.{true, false}
 use Rattle.std.proofs.Common.{append_assoc, sym, ◌∙◌, arith, length-drop, drop_of_length-le, drop-drop, take_at}
 use Rattle.std.proofs.Math.Path.{refl, ap, ap₂}
