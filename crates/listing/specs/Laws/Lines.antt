@@ -26,7 +26,7 @@ module _ (s : Text) where
       ∙ ap (feed_from s) {x = at + n + 1} {y = at + suc n} (omega arith)
 
   -- x is the first line feed from `at` on, and l are those behind it
-  abbrev Feeds : ℕ → ℕ → List ℕ → Type 0
+  abbrev pub Feeds : ℕ → ℕ → List ℕ → Type 0
   Feeds at x l = (x ≡ feed_from s at) × ((x < length s) × (l ≡ places_between (is_byte 10) s (x + 1) (length s)))
 
   no_feed : (at : ℕ) → at + 1 ≤ length s → eqb (get_or s at 0) 10 ≡ false → feed_from s at ≡ feed_from s (at + 1)
@@ -55,13 +55,6 @@ module _ (s : Text) where
         → (places_from (is_byte 10) s (at + 1) n ≡ [] → length s ≤ feed_from s (at + 1)) → length s ≤ feed_from s at
     go true f g r = absurd cc
     go false f g r = omega (arith, r g, no_feed at (omega arith) f)
-
-  module _ {at : ℕ} (h : at ≤ length s) where
-    pub next_feed : {x : ℕ} {l : List ℕ} → places_between (is_byte 10) s at (length s) ≡ x ∷ l → Feeds at x l
-    next_feed {x} {l} e = feeds_some at (length s - at) x l (omega arith) e
-
-    pub last_feed : places_between (is_byte 10) s at (length s) ≡ [] → length s ≤ feed_from s at
-    last_feed e = feeds_none at (length s - at) (omega arith) e
 
   pub feed_there : (at : ℕ) → feed_from s at < length s → get_or s (feed_from s at) 0 ≡ 10
   feed_there at h = eqb-true _ _ (not-false _ (run_stops (λ x. not (eqb x 10)) s at h))
@@ -178,8 +171,15 @@ module _ {kind : Kind} {input out out' : Text} {at end : ℕ} (g : Gone kind inp
       let f = ap (fitting kind (length out - end)) e ∙ fits_no_line kind (length out - end) in
       gone_all f (number_last g.done (lines input) (fitting kind (length out) (lines input)) (all_done f) (λ z. all_left z ∙ e)) refl refl
 
-  pub gone_feed : length input ≤ at + length (before_feed (drop at input)) → GoesOn kind input out out' (Ok (record { taken = at; written = end }))
-  gone_feed h = gone_last (no_line (drop at input) (omega (arith, h, length-drop at input, g.inside)))
+  -- the line feeds that are left
+  module _ {feeds : List ℕ} (left : feeds ≡ places_between (is_byte 10) input at (length input)) where
+    pub next_feed : {feed : ℕ} {rest : List ℕ} → feeds ≡ feed ∷ rest → Feeds input at feed rest
+    next_feed {feed} {rest} e = feeds_some input at (length input - at) feed rest (omega (arith, g.inside)) (sym left ∙ e)
+
+    pub gone_all_feeds : feeds ≡ [] → GoesOn kind input out out' (Ok (record { taken = at; written = end }))
+    gone_all_feeds e =
+        let h = feeds_none input at (length input - at) (omega (arith, g.inside)) (sym left ∙ e) in
+        gone_last (no_line (drop at input) (omega (arith, h, length-drop at input, g.inside)))
 
   -- what stands in front of the next line, and behind it
   front : take end out' ≡ listing kind g.done
@@ -188,18 +188,18 @@ module _ {kind : Kind} {input out out' : Text} {at end : ℕ} (g : Gone kind inp
   behind : drop end out' ≡ drop end out
   behind = ap (drop end) g.is ∙ drop_at (listing kind g.done) (drop end out) end (sym g.written)
 
-  module _ {m : Text} {feed : ℕ} {o : Option ℕ} (e : feed ≡ at + length (before_feed (drop at input))) (l : feed < length input)
+  module _ {m : Text} {feed : ℕ} {feeds : List ℕ} {o : Option ℕ} (n : Feeds input at feed feeds)
       (p : Printed (listing_line kind (take (feed - at) (drop at input))) (take (length out' - end) (drop end out')) m o) where
     abbrev s : Text
     s = before_feed (drop at input)
 
     s_is : take (feed - at) (drop at input) ≡ s
-    s_is = ap (λ (j : ℕ). take j (drop at input)) {x = feed - at} {y = length s} (omega arith) ∙ feed_front (drop at input)
+    s_is = ap (λ (j : ℕ). take j (drop at input)) {x = feed - at} {y = length s} (omega (arith, n.0)) ∙ feed_front (drop at input)
 
     next : lines (drop at input) ≡ s ∷ lines (drop (feed + 1) input)
     next =
-        first_line (drop at input) (omega (arith, length-drop at input))
-        ∙ ap (λ (t : Text). s ∷ lines t) (drop-drop (length s + 1) at input ∙ ap (λ (j : ℕ). drop j input) {x = at + (length s + 1)} {y = feed + 1} (omega arith))
+        first_line (drop at input) (omega (arith, n.0, n.1.0, length-drop at input))
+        ∙ ap (λ (t : Text). s ∷ lines t) (drop-drop (length s + 1) at input ∙ ap (λ (j : ℕ). drop j input) {x = at + (length s + 1)} {y = feed + 1} (omega (arith, n.0)))
 
     p_is : {r : Option ℕ} → o ≡ r → Printed (listing_line kind s) (drop end out) m r
     p_is z =
@@ -227,29 +227,29 @@ module _ {kind : Kind} {input out out' : Text} {at end : ℕ} (g : Gone kind inp
         subst (λ (t : Text). GoesOn kind input out t r) f
         (gone_all h (ap number_told q ∙ told.0) (ap taken_told q ∙ told.1.0 ∙ sym g.taken) (ap written_told q ∙ told.1.1 ∙ sym g.written))
 
-    pub gone_more : {n : ℕ} → o ≡ Some n → Gone kind input out after (feed + 1) (end + n)
-    gone_more {n} z =
+    pub gone_more : {size : ℕ} → o ≡ Some size → Gone kind input out after (feed + 1) (end + size)
+    gone_more {size} z =
         let t : Text = listing_line kind s in
         let (k, m) = prints t (drop end out) (p_is z) in
-        let a : length (listing kind (g.done ++ (s ∷ []))) ≡ end + n = ap length (listing_one kind g.done s) ∙ length-append (listing kind g.done) t ∙ omega (arith, g.written) in
-        let f : after ≡ listing kind (g.done ++ (s ∷ [])) ++ drop (end + n) out =
+        let a : length (listing kind (g.done ++ (s ∷ []))) ≡ end + size = ap length (listing_one kind g.done s) ∙ length-append (listing kind g.done) t ∙ omega (arith, g.written) in
+        let f : after ≡ listing kind (g.done ++ (s ∷ [])) ++ drop (end + size) out =
         after_is
-        ∙ ap (λ (u : Text). listing kind g.done ++ u) ((p_is z).is ∙ ap₂ (λ (u v : Text). u ++ v) (ap (λ (j : ℕ). take j t) k ∙ take-length t) (drop-drop n end out))
-        ∙ sym (append_assoc (listing kind g.done) t (drop (end + n) out))
-        ∙ ap (λ (u : Text). u ++ drop (end + n) out) (sym (listing_one kind g.done s)) in
+        ∙ ap (λ (u : Text). listing kind g.done ++ u) ((p_is z).is ∙ ap₂ (λ (u v : Text). u ++ v) (ap (λ (j : ℕ). take j t) k ∙ take-length t) (drop-drop size end out))
+        ∙ sym (append_assoc (listing kind g.done) t (drop (end + size) out))
+        ∙ ap (λ (u : Text). u ++ drop (end + size) out) (sym (listing_one kind g.done s)) in
         record {
           done = g.done ++ (s ∷ []);
-          taken = omega (arith, taken_one g.done s, g.taken, e);
+          taken = omega (arith, taken_one g.done s, g.taken, n.0);
           written = sym a;
-          inside = omega arith;
+          inside = omega (arith, n.1.0);
           room = omega (arith, k, m, length-drop end out, g.room);
-          size = ap length f ∙ length-append (listing kind (g.done ++ (s ∷ []))) (drop (end + n) out) ∙ omega (arith, a, k, m, length-drop end out, length-drop (end + n) out, g.room);
+          size = ap length f ∙ length-append (listing kind (g.done ++ (s ∷ []))) (drop (end + size) out) ∙ omega (arith, a, k, m, length-drop end out, length-drop (end + size) out, g.room);
           is = f;
           from =
               g.from
               ∙ ap (λ (ss : List Text). g.done ++ ss)
               (ap (fitting kind (length out - end)) next
               ∙ fits_first kind (length out - end) s (lines (drop (feed + 1) input)) (omega (arith, m, length-drop end out))
-              ∙ ap (λ (j : ℕ). s ∷ fitting kind j (lines (drop (feed + 1) input))) {x = length out - end - length t} {y = length out - (end + n)} (omega (arith, k)))
-              ∙ sym (append_assoc g.done (s ∷ []) (fitting kind (length out - (end + n)) (lines (drop (feed + 1) input))));
+              ∙ ap (λ (j : ℕ). s ∷ fitting kind j (lines (drop (feed + 1) input))) {x = length out - end - length t} {y = length out - (end + size)} (omega (arith, k)))
+              ∙ sym (append_assoc g.done (s ∷ []) (fitting kind (length out - (end + size)) (lines (drop (feed + 1) input))));
         }
