@@ -3,3 +3,4 @@ pub mod FirstBytes
 pub mod Loops
 pub mod Types
 pub mod Parts
+pub mod Symbols

@@ -1,5 +1,5 @@
 -- A loop of a member as far as it went. Assumes nothing.
-use Rattle.std.specs.Prelude.{◌≡◌, refl, ℕ, ◌+◌, ◌≤◌, ◌<◌, length, Option}
+use Rattle.std.specs.Prelude.{◌≡◌, refl, ℕ, ◌+◌, ◌≤◌, ◌<◌, Option}
 use Rattle.std.proofs.Common.{◌∙◌, arith}
 use Rattle.normal_nodes.specs.Nodes.{Got}
 use Rattle.normal_steps.specs.States.{moved_to}
@@ -12,9 +12,12 @@ use Rattle.normal_steps.specs.declared.state.Writer.{Writer}
 abbrev pub Told : (State → Type 0) → Writer → ℕ → Got ℕ → Type 0
 Told L w d g = Answered w.s.now L (slices_of w) w.state d g
 
--- the writer one byte on
+-- the writer at another place of the symbol, and one byte on
+abbrev pub gone : Writer → ℕ → Writer
+gone w to = record { s = w.s; out = w.out; ends = w.ends; words = w.words; tables = w.tables; chains = w.chains; state = moved_to w.state to }
+
 abbrev pub moved : Writer → Writer
-moved w = record { s = w.s; out = w.out; ends = w.ends; words = w.words; tables = w.tables; chains = w.chains; state = moved_to w.state (w.state.at + 1) }
+moved w = gone w (w.state.at + 1)
 
 -- G is what the rest may answer, F the whole: what the rest answers, the whole answers
 pub record SoFar (F : Writer → Option ℕ → Type 0) (w₀ : Writer) (G : Writer → Option ℕ → Type 0) (w : Writer) (t : ℕ) : Type 0 where
