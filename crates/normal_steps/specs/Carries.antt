@@ -31,18 +31,9 @@ pub record Work : Type 0 where
 abbrev pub work : Text → Text → Text → Text → Text → Work
 work out ends words tables chains = record { out = out; ends = ends; words = words; tables = tables; chains = chains }
 
+-- those of a writer
 abbrev pub slices_of : Writer → Work
 slices_of w = work w.out.now w.ends.now w.words.now w.tables.now w.chains.now
-
--- where some slices alone are written, the others stay as they are
-abbrev pub out_to : Work → Text → Work
-out_to ws out = work out ws.ends ws.words ws.tables ws.chains
-
-abbrev pub tables_to : Work → Text → Work
-tables_to ws tables = work ws.out ws.ends ws.words tables ws.chains
-
-abbrev pub notes_to : Work → Text → Text → Text → Text → Work
-notes_to ws ends words tables chains = work ws.out ends words tables chains
 
 -- the slices of numbers have their lengths
 pub record Sized (e w t c : Text) : Type 0 where
@@ -151,7 +142,7 @@ pub data Refines (s : Text) (L : State → Type 0) (ws : Work) (p : State) : Opt
   tells : {d : ℕ} {σ : Notes} → Carries s ws p σ → L p → d < most_number → Refines s L ws p (Some d) (got d σ)
   refuses : Refines s L ws p None bad
 
--- a writer w went to w', and the answer is r
+-- the answer r of a call that left the writer as w'
 abbrev pub Answers : (State → Type 0) → Writer → Option ℕ → Got ℕ → Type 0
 Answers L w' r g = Refines w'.s.now L (slices_of w') w'.state r g
 

@@ -2,7 +2,6 @@
 pub mod Tests
 pub mod Leaves
 pub mod Entries
-pub mod MayStand
 pub mod Slices
 pub mod Memory
 pub mod Moves

@@ -77,14 +77,10 @@ impl Writer<'_> {
         requires { Ready self.now }
         ensures { Tag self.now d result }
     {
-        if d < Writer::LEAST {
-            return 0;
+        match d.checked_sub(Writer::LEAST) {
+            Some(i) if i < self.state.nodes => self.ends[2 * i] as usize,
+            _ => 0,
         }
-        let i = d - Writer::LEAST;
-        if self.state.nodes <= i {
-            return 0;
-        }
-        self.ends[2 * i] as usize
     }
 
     // The number of entry i of the table.
@@ -101,10 +97,7 @@ impl Writer<'_> {
         ensures { (σ : Notes) → Held self.now σ → result ≡ note_last_is d σ.table }
     {
         let n = self.state.table;
-        if n == 0 {
-            return false;
-        }
-        d == self.tables[n - 1] as usize
+        n != 0 && d == self.tables[n - 1] as usize
     }
 
     // Where what has the number d is in the table, its reference takes the place of what was written from `from` on.
@@ -114,8 +107,8 @@ impl Writer<'_> {
         ensures same_symbol { self.new.s.now ≡ self.old.s.now }
     {
         let kept = self.tables[Writer::MIDDLE + (d - Writer::LEAST)] as usize;
-        if kept != 0 {
-            self.state.out = write::write_reference(self.out, from, kept - 1);
+        if let Some(i) = kept.checked_sub(1) {
+            self.state.out = write::write_reference(self.out, from, i);
         }
     }
 
@@ -151,6 +144,7 @@ impl Writer<'_> {
     }
 
     // Whether node i is that one.
+    #[tactic(auto, unfolding(normal_nodes::specs::Nodes::same_node))]
     fn same_row(&self, i: usize, x: Row) -> bool
         requires { ((2 * i + 2 ≤ length self.now.ends.now) × (2 * i + 2 ≤ length self.now.words.now))
             × (((get_or self.now.words.now (2 * i) 0 ≤ get_or self.now.words.now (2 * i + 1) 0)
@@ -158,14 +152,10 @@ impl Writer<'_> {
         ensures { result ≡ same_node (node_of self.now.s.now x) (node_at self.now.s.now self.now.ends.now self.now.words.now i) }
     {
         let at = 2 * i;
-        if x.tag != self.ends[at] as usize {
-            return false;
-        }
-        if x.of != self.ends[at + 1] as usize {
-            return false;
-        }
         let (from, to) = (self.words[at] as usize, self.words[at + 1] as usize);
-        words::same_word(self.s, x.word.from, x.word.to, from, to)
+        x.tag == self.ends[at] as usize
+            && x.of == self.ends[at + 1] as usize
+            && words::same_word(self.s, x.word.from, x.word.to, from, to)
     }
 
     // The place of a node: along the chain of its bucket, which falls. What `chains` had before may stand at its end and lead to other nodes,

@@ -27,19 +27,13 @@ fn one_of(tag: usize, a: u8, b: u8) -> bool
 }
 
 // Whether a wrapper, whose byte is q, may stand on what has the tag.
+#[tactic(auto, unfolding(normal_nodes::specs::Nodes::may_stand))]
 fn may_stand(q: u8, tag: usize) -> bool
     ensures { result ≡ may_stand q tag }
 {
-    if tag == b'L' as usize {
-        return false;
-    }
-    if one_of(q as usize, b'R', b'O') {
-        return !one_of(tag, b'R', b'O');
-    }
-    if one_of(q as usize, b'K', b'V') {
-        return !one_of(tag, b'K', b'V');
-    }
-    true
+    let references = one_of(q as usize, b'R', b'O') && one_of(tag, b'R', b'O');
+    let qualifiers = one_of(q as usize, b'K', b'V') && one_of(tag, b'K', b'V');
+    tag != b'L' as usize && !references && !qualifiers
 }
 
 // Whether what has the tag is a class without arguments at its end, and whether it is a class.

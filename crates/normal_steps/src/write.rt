@@ -90,29 +90,16 @@ pub fn write_reference(out: &mut [u8], at: usize, i: usize) -> usize
     end + 1
 }
 
-// How many digits a number has, five at most.
+// How many digits a number has.
 fn decimal_length(n: usize) -> usize
-    requires { n < 100000 }
     ensures { result ≡ length (decimal (suc n) n) }
 {
-    if n < 10 {
-        return 1;
-    }
-    if n < 100 {
-        return 2;
-    }
-    if n < 1000 {
-        return 3;
-    }
-    if n < 10000 {
-        return 4;
-    }
-    5
+    n.checked_ilog10().unwrap_or(0) as usize + 1
 }
 
-// A number of at most five digits.
+// A number in decimal.
 fn write_decimal(out: &mut [u8], at: usize, n: usize) -> usize
-    requires { (n < 100000) × (at + length (decimal (suc n) n) ≤ length out.old) }
+    requires { at + length (decimal (suc n) n) ≤ length out.old }
     ensures { WrittenAt out.old out.new at result (decimal (suc n) n) }
 {
     let end = at + decimal_length(n);

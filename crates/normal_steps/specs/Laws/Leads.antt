@@ -7,7 +7,7 @@ use Rattle.std.specs.List.{list_any}
 use mathlib.Core.List.{List, [], ◌∷◌}
 use Rattle.std.proofs.Math.Option.{Option, none, some}
 use Rattle.std.proofs.Math.Path.{refl, ap}
-use Rattle.std.proofs.Common.{sym, subst, arith, eqb-true, ne_eqb}
+use Rattle.std.proofs.Common.{sym, subst, arith, eqb-true}
 use Rattle.std.proofs.Math.Dec.{eqb}
 use Rattle.grammar.specs.Text.{if◌then◌otherwise◌, choose, digit}
 use Rattle.catalogue.specs.Tree.{Letter as Letters, Wrap as Wraps, letter_code, wrap_code}
@@ -19,19 +19,6 @@ use Rattle.normal_steps.specs.Leads.{class, there}
 -- ---------------------------------------------------------------- the one that has a byte
 
 module _ {A : Type 0} (f : A → ℕ) (c : ℕ) where
-  -- what `_` of a match knows: the byte is none of the arms' bytes
-  abbrev none_of : Type 0 → List A → Type 0
-  none_of B [] = B
-  none_of B (x ∷ xs) = none_of (B × (c ≡ f x → ⊥)) xs
-
-  missed : (B : Type 0) (xs : List A) → none_of B xs → B × (with_code f c xs ≡ none)
-  unfolding with_code if◌then◌otherwise◌
-  missed B [] h = (h, refl)
-  missed B (x ∷ xs) h = let (g, e) = missed (B × (c ≡ f x → ⊥)) xs h in (g.0, rw (ne_eqb c (f x) g.1) e)
-
-  pub uncoded : (xs : List A) → none_of (Unit {0}) xs → with_code f c xs ≡ none
-  uncoded xs h = (missed (Unit {0}) xs h).1
-
   pub there_any : (xs : List A) → there (with_code f c xs) ≡ list_any (eqb c) (map f xs)
   unfolding with_code if◌then◌otherwise◌
   there_any [] = refl
@@ -52,28 +39,6 @@ module _ {A : Type 0} (f : A → ℕ) (c : ℕ) where
 
 -- for a test of the bytes
 pub ruleset bytes = (there_any, nat_tests)
-
--- ---------------------------------------------------------------- wrappers and letters
-
-pub a_wrapper : (o : Option Wraps) (x : First) → there o ≡ true → class (choose o lead_wrap x) ≡ Wrap
-unfolding choose
-a_wrapper none x h = absurd (false≢true h)
-a_wrapper (some q) x h = refl
-
-pub no_wrapper : (o : Option Wraps) (x : First) → there o ≡ false → choose o lead_wrap x ≡ x
-unfolding choose
-no_wrapper none x h = refl
-no_wrapper (some q) x h = absurd (false≢true (sym h))
-
-pub a_letter : (o : Option Letters) (x : First) → there o ≡ true → class (choose o lead_letter x) ≡ Letter
-unfolding choose
-a_letter none x h = absurd (false≢true h)
-a_letter (some l) x h = refl
-
-pub no_letter : (o : Option Letters) (x : First) → there o ≡ false → choose o lead_letter x ≡ x
-unfolding choose
-no_letter none x h = refl
-no_letter (some l) x h = absurd (false≢true (sym h))
 
 -- ---------------------------------------------------------------- what a class says of the byte
 

@@ -9,8 +9,8 @@ use Rattle.std.proofs.Math.ListN.{length, get_elem?, length-drop}
 use Rattle.grammar.specs.Text.{Text, choose}
 use Rattle.catalogue.specs.Tree.{Ty, lit, kind_code}
 use Rattle.catalogue.specs.Spelling.{name_bytes}
-use Rattle.catalogue.specs.Recogniser.{Rd, rd, stop}
-use Rattle.normal_walk.specs.Walk.{name, reference, literal, lit_bytes}
+use Rattle.catalogue.specs.Recogniser.{Rd, rd}
+use Rattle.normal_walk.specs.Walk.{reference, literal, lit_bytes}
 use Rattle.normal_walk.specs.Laws.Joins.{OfRd}
 use Rattle.normal_walk.proofs.Laws.Leaves.{Literal, lit_sound}
 use Rattle.normal_walk.proofs.Laws.Sizes.{name_length}

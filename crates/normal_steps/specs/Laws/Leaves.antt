@@ -11,11 +11,11 @@ use Rattle.grammar.specs.Text.{Text, if◌then◌otherwise◌, choose, starts, r
 use Rattle.grammar.specs.Grammar.{index}
 use Rattle.catalogue.specs.Bytes.{all}
 use Rattle.catalogue.specs.Tree.{Kind, Ty, lit, kind_code}
-use Rattle.catalogue.specs.Class.{word_byte, reserved, listed, name_ok, leading_zero, lit_ok}
+use Rattle.catalogue.specs.Class.{word_byte, reserved, listed, name_ok, lit_ok}
 use Rattle.catalogue.specs.Recogniser.{Rd, rd, stop, if_next, cut, read_name, with_code, all_kinds}
-use Rattle.normal_walk.specs.Walk.{keep, name, capital, canonical, reference, value as value_at, literal as literal_at}
+use Rattle.normal_walk.specs.Walk.{keep, name, canonical, reference, value as value_at, literal as literal_at}
 use Rattle.normal_steps.specs.Parts.{part}
-use Rattle.normal_steps.specs.Laws.Parts.{part_more, run_is, past_is}
+use Rattle.normal_steps.specs.Laws.Parts.{run_is, past_is}
 use Rattle.grammar.specs.Laws.Places.{rest_some, rest_none, starts_inside}
 use Rattle.normal_steps.specs.Laws.Tests.{next_here, next_not, first_zero, lt_or_le}
 use Rattle.normal_steps.specs.Answers.{RefAt, most_index, Value, ValueIs, LitIs, valid_by}

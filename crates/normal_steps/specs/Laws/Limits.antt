@@ -69,17 +69,6 @@ passed_more j w e = record {
   args = ap (λ (x : State). x.args) e ∙ w.args;
 }
 
-pub took_put : (k : ℕ) {p q : State} → q ≡ written_to p (p.out + k) → Took 0 0 k p.out p q
-took_put k e = record {
-  at = ap (λ (x : State). x.at) e;
-  nodes = omega (arith, ap (λ (x : State). x.nodes) e);
-  more = omega (arith, ap (λ (x : State). x.nodes) e);
-  table = omega (arith, ap (λ (x : State). x.table) e);
-  out = omega (arith, ap (λ (x : State). x.out) e);
-  args = omega (arith, ap (λ (x : State). x.args) e);
-  stands = omega (arith, ap (λ (x : State). x.out) e);
-}
-
 -- two bytes that were read have room for a node and an entry
 pub room_for : {s : Text} {ws : Work} {p q : State} {σ : Notes} {to k : ℕ} → Carries s ws p σ → Passed to k p q → p.at + 2 ≤ to → Room 1 1 q
 room_for h w l = record {

@@ -19,7 +19,7 @@ use Rattle.normal_steps.specs.States.{written_to, noted_to, entered_to}
 use Rattle.normal_steps.specs.WrittenAt.{WrittenAt}
 use Rattle.normal_steps.specs.Rows.{node_at, nodes_of}
 use Rattle.normal_steps.specs.Chains.{bucket_of}
-use Rattle.normal_steps.specs.Carries.{Work, out_to, tables_to, notes_to, Tabled, Carries, Numbered, Stretch, Room, Took, Went, Refines, tells, notes_node}
+use Rattle.normal_steps.specs.Carries.{Work, Tabled, Carries, Numbered, Stretch, Room, Took, Went, Refines, tells, notes_node}
 use Rattle.normal_steps.specs.Laws.WrittenAt.{front_wrote}
 use Rattle.normal_steps.specs.Laws.Entries.{firsts_known, firsts_new}
 use Rattle.normal_steps.specs.Laws.Rows.{two_at, nodes_same, node_old, node_new}
@@ -47,38 +47,38 @@ module _ {s : Text} {ws : Work} {p : State} {σ : Notes} (h : Carries s ws p σ)
           limits = record { at = refl; nodes = omega arith; more = omega arith; table = omega arith; out = omega arith; args = omega arith; stands = l.stands };
         })
 
-    module _ (e : kept ≡ 0 → ⊥) where
-      place : table_place d (firsts σ.table) ≡ some (kept - 1)
-      place = kept_some h.tabled b e
+    module _ {i : ℕ} (e : (1 ≤ kept) × (i ≡ kept - 1)) where
+      place : table_place d (firsts σ.table) ≡ some i
+      place = kept_some h.tabled b (λ z. omega (arith, e.0)) ∙ ap some (sym e.1)
 
-      pub index_most : kept - 1 ≤ most_symbol_bytes
+      pub index_most : i ≤ most_symbol_bytes
       unfolding table_place
-      index_most = omega (arith, seek_below _ (firsts σ.table) (kept - 1) place, h.firsts_count, firsts_most h, h.few_entries, h.place, h.source)
+      index_most = omega (arith, seek_below _ (firsts σ.table) i place, h.firsts_count, firsts_most h, h.few_entries, h.place, h.source)
 
-      pub reference_room : from + length (ref_bytes (kept - 1)) ≤ out_length
-      reference_room = omega (arith, ref_length (kept - 1) index_most, l.fits, h.place, h.source)
+      pub reference_room : from + length (ref_bytes i) ≤ out_length
+      reference_room = omega (arith, ref_length i index_most, l.fits, h.place, h.source)
 
-      pub settle_here : (k : ℕ) (o' : Text) (q : State) → WrittenAt ws.out o' from k (ref_bytes (kept - 1)) → q ≡ written_to p k
-          → Went s (out_to ws o') (Took 0 0 5 from p) q (settled d from σ)
-      settle_here k o' q w g =
+      pub settle_here : {k : ℕ} {o' : Text} → WrittenAt ws.out o' from k (ref_bytes i)
+          → Went s (record ws { out = o' }) (Took 0 0 5 from p) (written_to p k) (settled d from σ)
+      settle_here {k} {o'} w =
           let f : length (take from σ.out) ≡ from = length-take-le from σ.out (omega (arith, h.out_count, l.stands)) in
-          subst (λ (x : State). Went s (out_to ws o') (Took 0 0 5 from p) x (settled d from σ)) (sym g)
-          (subst (λ (τ : Notes). Went s (out_to ws o') (Took 0 0 5 from p) (written_to p k) τ) (sym (settled_by d from (some (kept - 1)) place))
+          let n = ref_length i index_most in
+          subst (λ (τ : Notes). Went s (record ws { out = o' }) (Took 0 0 5 from p) (written_to p k) τ) (sym (settled_by d from (some i) place))
           (record {
-            holds = with_out h (take from σ.out ++ ref_bytes (kept - 1)) o' k
+            holds = with_out h (take from σ.out ++ ref_bytes i) o' k
                 (front_wrote (front_less h.out_is from) (sym f) (omega (arith, f, reference_room)) w)
-                (omega (arith, f, w.end, length-append (take from σ.out) (ref_bytes (kept - 1))))
-                (omega (arith, w.end, ref_length (kept - 1) index_most, l.fits));
+                (omega (arith, f, w.end, length-append (take from σ.out) (ref_bytes i)))
+                (omega (arith, w.end, n, l.fits));
             limits = record {
               at = refl;
               nodes = omega arith;
               more = omega arith;
               table = omega arith;
-              out = omega (arith, w.end, ref_length (kept - 1) index_most);
+              out = omega (arith, w.end, n);
               args = omega arith;
               stands = omega (arith, w.end);
             };
-          }))
+          })
 
   -- ---------------------------------------------------------------- an entry
 
@@ -89,31 +89,30 @@ module _ {s : Text} {ws : Work} {p : State} {σ : Notes} (h : Carries s ws p σ)
     nodes_room : p.nodes ≤ middle
     nodes_room = h.found.few
 
-    went : (m : ℕ) (t' : Text) (q : State) → q ≡ entered_to p (p.table + 1) m → m ≡ length (firsts (σ.table ++ (d ∷ [])))
-        → Tabled p.nodes (σ.table ++ (d ∷ [])) t' → Went s (tables_to ws t') (Took 0 1 0 p.out p) q (pushed d σ)
-    went m t' q g f e = subst (λ (x : State). Went s (tables_to ws t') (Took 0 1 0 p.out p) x (pushed d σ)) (sym g)
-        (record {
-          holds = with_entry h d (p.table + 1) m t' refl r.table f e;
-          limits = record { at = refl; nodes = omega arith; more = omega arith; table = omega arith; out = omega arith; args = omega arith; stands = omega arith };
-        })
+    went : (m : ℕ) (t' : Text) → m ≡ length (firsts (σ.table ++ (d ∷ []))) → Tabled p.nodes (σ.table ++ (d ∷ [])) t'
+        → Went s (record ws { tables = t' }) (Took 0 1 0 p.out p) (entered_to p (p.table + 1) m) (pushed d σ)
+    went m t' f e = record {
+      holds = with_entry h d (p.table + 1) m t' refl r.table f e;
+      limits = record { at = refl; nodes = omega arith; more = omega arith; table = omega arith; out = omega arith; args = omega arith; stands = omega arith };
+    }
 
     abbrev place_of : ℕ
     place_of = middle + (d - least_number)
 
-    pub push_known : (q : State) → q ≡ entered_to p (p.table + 1) p.firsts → (get_or ws.tables place_of 0 ≡ 0 → ⊥)
-        → Went s (tables_to ws (set ws.tables p.table d)) (Took 0 1 0 p.out p) q (pushed d σ)
-    push_known q g f =
+    pub push_known : (get_or ws.tables place_of 0 ≡ 0 → ⊥)
+        → Went s (record ws { tables = set ws.tables p.table d }) (Took 0 1 0 p.out p) (entered_to p (p.table + 1) p.firsts) (pushed d σ)
+    push_known f =
         let i = kept_some h.tabled b f in
-        went p.firsts (set ws.tables p.table d) q g (h.firsts_count ∙ ap length (sym (firsts_known σ.table d _ i)))
+        went p.firsts (set ws.tables p.table d) (h.firsts_count ∙ ap length (sym (firsts_known σ.table d _ i)))
         (subst (λ (k : ℕ). Tabled p.nodes (σ.table ++ (d ∷ [])) (set ws.tables k d)) (sym h.table_count)
         (tabled_known h.tabled b table_room nodes_room _ i))
 
-    pub push_new : (q : State) → q ≡ entered_to p (p.table + 1) (p.firsts + 1) → get_or ws.tables place_of 0 ≡ 0
-        → Went s (tables_to ws (set (set ws.tables p.table d) place_of (p.firsts + 1))) (Took 0 1 0 p.out p) q (pushed d σ)
-    push_new q g f =
+    pub push_new : get_or ws.tables place_of 0 ≡ 0
+        → Went s (record ws { tables = set (set ws.tables p.table d) place_of (p.firsts + 1) }) (Took 0 1 0 p.out p) (entered_to p (p.table + 1) (p.firsts + 1)) (pushed d σ)
+    push_new f =
         let i = kept_none h.tabled b f in
         let e : firsts (σ.table ++ (d ∷ [])) ≡ firsts σ.table ++ (d ∷ []) = firsts_new σ.table d i in
-        went (p.firsts + 1) (set (set ws.tables p.table d) place_of (p.firsts + 1)) q g
+        went (p.firsts + 1) (set (set ws.tables p.table d) place_of (p.firsts + 1))
         (omega (arith, h.firsts_count, ap length e, length-append (firsts σ.table) (d ∷ [])))
         (subst (λ (k : ℕ). Tabled p.nodes (σ.table ++ (d ∷ [])) (set (set ws.tables k d) place_of (p.firsts + 1))) (sym h.table_count)
         (subst (λ (k : ℕ). Tabled p.nodes (σ.table ++ (d ∷ [])) (set (set ws.tables (length σ.table) d) place_of (k + 1))) (sym h.firsts_count)
@@ -150,8 +149,11 @@ module _ {s : Text} {ws : Work} {p : State} {σ : Notes} (h : Carries s ws p σ)
       abbrev w' : Text
       w' = two_at ws.words p.nodes from to
 
+      abbrev written : Text → Text → Text → Work
+      written e w c = record ws { ends = e; words = w; tables = set ws.tables (middle + p.nodes) 0; chains = c }
+
       abbrev ws' : Work
-      ws' = notes_to ws e' w' (set ws.tables (middle + p.nodes) 0) (linked_at ws.chains p.nodes (bucket_of x))
+      ws' = written e' w' (linked_at ws.chains p.nodes (bucket_of x))
 
       nodes_more : σ.nodes ++ (x ∷ []) ≡ nodes_of s e' w' (suc p.nodes)
       unfolding nodes_of
@@ -163,13 +165,13 @@ module _ {s : Text} {ws : Work} {p : State} {σ : Notes} (h : Carries s ws p σ)
           ∙ ap (λ (y : Node). σ.nodes ++ (y ∷ []))
           (node_new s ws.ends ws.words p.nodes tag of from to (omega (arith, node_room, f.ends_size)) (omega (arith, node_room, f.words_size))))
 
-      pub note_new : (q : State) → q ≡ noted_to p (p.nodes + 1) → seek_by (same_node x) (nodes_of s ws.ends ws.words p.nodes) ≡ none
-          → Refines s (Took 1 0 0 p.out p) ws' q (Some (256 + p.nodes)) (notes_node x σ)
-      note_new q g e =
+      pub note_new : seek_by (same_node x) (nodes_of s ws.ends ws.words p.nodes) ≡ none
+          → Refines s (Took 1 0 0 p.out p) ws' (noted_to p (p.nodes + 1)) (Some (256 + p.nodes)) (notes_node x σ)
+      note_new e =
           let v : Notes = notes σ.out (σ.nodes ++ (x ∷ [])) σ.table σ.args σ.rest in
-          subst (Refines s (Took 1 0 0 p.out p) ws' q (Some (256 + p.nodes)))
+          subst (Refines s (Took 1 0 0 p.out p) ws' (noted_to p (p.nodes + 1)) (Some (256 + p.nodes)))
           (sym (noted_by x none (by_slices x e) ∙ ap (λ (k : ℕ). got (256 + k) v) (count_nodes h)))
-          (subst (λ (y : State). Refines s (Took 1 0 0 p.out p) ws' y (Some (256 + p.nodes)) (got (256 + p.nodes) v)) (sym (g ∙ ap (noted_to p) (add-one p.nodes)))
+          (subst (λ (n : ℕ). Refines s (Took 1 0 0 p.out p) ws' (noted_to p n) (Some (256 + p.nodes)) (got (256 + p.nodes) v)) (sym (add-one p.nodes))
           (tells
           (with_node h (σ.nodes ++ (x ∷ [])) e' w' (set ws.tables (middle + p.nodes) 0) (linked_at ws.chains p.nodes (bucket_of x)) nodes_more
           (found_more h.found node_room tag of from to b e)
@@ -178,10 +180,10 @@ module _ {s : Text} {ws : Work} {p : State} {σ : Notes} (h : Carries s ws p σ)
           (omega (arith, node_room))))
 
       -- as the slices were written
-      pub note_written : {e₁ w₁ c₁ : Text} (q : State) → e₁ ≡ e' → w₁ ≡ w' → c₁ ≡ linked_at ws.chains p.nodes (bucket_of x) → q ≡ noted_to p (p.nodes + 1)
+      pub note_written : {e₁ w₁ c₁ : Text} → e₁ ≡ e' → w₁ ≡ w' → c₁ ≡ linked_at ws.chains p.nodes (bucket_of x)
           → seek_by (same_node x) (nodes_of s ws.ends ws.words p.nodes) ≡ none
-          → Refines s (Took 1 0 0 p.out p) (notes_to ws e₁ w₁ (set ws.tables (middle + p.nodes) 0) c₁) q (Some (256 + p.nodes)) (notes_node x σ)
-      note_written {e₁} {w₁} {c₁} q i j k g e =
+          → Refines s (Took 1 0 0 p.out p) (written e₁ w₁ c₁) (noted_to p (p.nodes + 1)) (Some (256 + p.nodes)) (notes_node x σ)
+      note_written {e₁} {w₁} {c₁} i j k e =
           let R : Text → Text → Text → Type 0 = λ a b d.
-          Refines s (Took 1 0 0 p.out p) (notes_to ws a b (set ws.tables (middle + p.nodes) 0) d) q (Some (256 + p.nodes)) (notes_node x σ) in
-          subst (λ (a : Text). R a w₁ c₁) (sym i) (subst (λ (b : Text). R e' b c₁) (sym j) (subst (λ (d : Text). R e' w' d) (sym k) (note_new q g e)))
+          Refines s (Took 1 0 0 p.out p) (written a b d) (noted_to p (p.nodes + 1)) (Some (256 + p.nodes)) (notes_node x σ) in
+          subst (λ (a : Text). R a w₁ c₁) (sym i) (subst (λ (b : Text). R e' b c₁) (sym j) (subst (λ (d : Text). R e' w' d) (sym k) (note_new e)))

@@ -1,9 +1,8 @@
 -- Laws of Parts.antt. Assumes nothing.
-use Rattle.std.specs.Prelude.{Bool, true, false, [], ◌∷◌, ◌≡◌, refl, ℕ, suc, ◌+◌, ◌-◌, ◌≤◌, ◌<◌, length, take, drop, get_or}
+use Rattle.std.specs.Prelude.{Bool, [], ◌∷◌, ◌≡◌, refl, ℕ, suc, ◌+◌, ◌-◌, ◌≤◌, ◌<◌, length, take, drop, get_or}
 use Rattle.std.proofs.Common.{sym, ap, ◌∙◌, arith, length-take, length-drop, drop-drop, take_at}
 use Rattle.grammar.specs.Text.{Text, run, past}
 use Rattle.grammar.specs.Laws.Places.{rest_some, past_run}
-use Rattle.catalogue.specs.Bytes.{all}
 use Rattle.normal_walk.proofs.Laws.Digits.{run_past}
 use Rattle.normal_steps.specs.Parts.{part}
 
@@ -19,14 +18,6 @@ module _ (s : Text) (i : ℕ) where
     part_more h l = let e : to - i ≡ suc (to - (i + 1)) = omega arith in rw (e, rest_some s i (omega arith)) refl
 
 module _ (p : ℕ → Bool) where
-  -- a part's bytes, one at a time
-  module _ (s : Text) (i to : ℕ) (h : i < to) (l : to ≤ length s) where
-    pub all_more : p (get_or s i 0) ≡ true → all p (part s i to) ≡ all p (part s (i + 1) to)
-    all_more e = rw (part_more s i to h l, e) refl
-
-    pub all_stop : p (get_or s i 0) ≡ false → all p (part s i to) ≡ false
-    all_stop e = rw (part_more s i to h l, e) refl
-
   -- the run at a place, by the place behind it
   module _ (s : Text) (at end : ℕ) (e : end ≡ at + length (run p (drop at s))) where
     pub run_is : run p (drop at s) ≡ part s at end

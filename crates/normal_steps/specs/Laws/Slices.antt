@@ -16,7 +16,7 @@ use Rattle.normal_steps.specs.States.{written_to, noted_to, entered_to}
 use Rattle.normal_steps.specs.WrittenAt.{WrittenAt}
 use Rattle.normal_steps.specs.Rows.{nodes_of}
 use Rattle.normal_steps.specs.Chains.{Findable}
-use Rattle.normal_steps.specs.Carries.{Work, out_to, tables_to, notes_to, Tabled, Numbered, Carries}
+use Rattle.normal_steps.specs.Carries.{Work, Tabled, Numbered, Carries}
 use Rattle.normal_steps.specs.Laws.WrittenAt.{front_wrote}
 use Rattle.normal_steps.specs.Laws.Rows.{length_nodes, nodes_at}
 use Rattle.normal_steps.specs.Laws.Leaves.{no_entry}
@@ -75,7 +75,7 @@ module _ {s : Text} {ws : Work} {p : State} {σ : Notes} (h : Carries s ws p σ)
   -- ---------------------------------------------------------------- what is kept when something changes
 
   pub with_out : (w o' : Text) (k : ℕ) → Front out_length w o' → k ≡ length w → k + 1 ≤ 4 * p.at
-      → Carries s (out_to ws o') (written_to p k) (notes w σ.nodes σ.table σ.args σ.rest)
+      → Carries s (record ws { out = o' }) (written_to p k) (notes w σ.nodes σ.table σ.args σ.rest)
   with_out w o' k e f l = record {
     source = h.source;
     place = h.place;
@@ -95,7 +95,7 @@ module _ {s : Text} {ws : Work} {p : State} {σ : Notes} (h : Carries s ws p σ)
   }
 
   pub with_entry : (d k m : ℕ) (t' : Text) → k ≡ p.table + 1 → k ≤ p.at → m ≡ length (firsts (σ.table ++ (d ∷ [])))
-      → Tabled p.nodes (σ.table ++ (d ∷ [])) t' → Carries s (tables_to ws t') (entered_to p k m) (pushed d σ)
+      → Tabled p.nodes (σ.table ++ (d ∷ [])) t' → Carries s (record ws { tables = t' }) (entered_to p k m) (pushed d σ)
   with_entry d k m t' c l f e = record {
     source = h.source;
     place = h.place;
@@ -115,7 +115,7 @@ module _ {s : Text} {ws : Work} {p : State} {σ : Notes} (h : Carries s ws p σ)
   }
 
   pub with_node : (ns : List Node) (e' w' t' c' : Text) → ns ≡ nodes_of s e' w' (suc p.nodes) → Findable s e' w' c' (suc p.nodes) → Tabled (suc p.nodes) σ.table t'
-      → suc p.nodes ≤ p.at → Carries s (notes_to ws e' w' t' c') (noted_to p (suc p.nodes)) (notes σ.out ns σ.table σ.args σ.rest)
+      → suc p.nodes ≤ p.at → Carries s (record ws { ends = e'; words = w'; tables = t'; chains = c' }) (noted_to p (suc p.nodes)) (notes σ.out ns σ.table σ.args σ.rest)
   with_node ns e' w' t' c' n f t l = record {
     source = h.source;
     place = h.place;
@@ -140,10 +140,10 @@ pub wrote_paste : (o w : Text) (at : ℕ) → WrittenAt o (paste o at w (length 
 wrote_paste o w at = record { is = ap (λ (t : Text). take at o ++ t ++ drop (at + length w) o) (take-length w); end = refl }
 
 pub puts_by : {w : Text} {s o' : Text} {ws : Work} {p r : State} {k : ℕ} → r ≡ written_to p k → WrittenAt ws.out o' p.out k w
-    → (r ≡ written_to p (p.out + length w)) × ((σ : Notes) → Carries s ws p σ → p.out + length w + 1 ≤ 4 * p.at → Carries s (out_to ws o') r (put w σ))
+    → (r ≡ written_to p (p.out + length w)) × ((σ : Notes) → Carries s ws p σ → p.out + length w + 1 ≤ 4 * p.at → Carries s (record ws { out = o' }) r (put w σ))
 puts_by {w} {s} {o'} {ws} {p} {r} {k} e q = (
   e ∙ ap (written_to p) q.end,
-  λ σ h l. subst (λ (x : State). Carries s (out_to ws o') x (put w σ)) (sym e)
+  λ σ h l. subst (λ (x : State). Carries s (record ws { out = o' }) x (put w σ)) (sym e)
       (with_out h (σ.out ++ w) o' k (front_wrote h.out_is h.out_count (omega (arith, h.out_count, h.place, h.source)) q)
       (omega (arith, q.end, h.out_count, length-append σ.out w)) (omega (arith, q.end))),
 )

@@ -1,19 +1,17 @@
 -- Tests of bytes at a place, and of parts. Assumes nothing.
-use Rattle.std.specs.Prelude.{Bool, true, false, not, ◌&&◌, ◌||◌, ◌⊎◌, ◌≡◌, ℕ, ◌+◌, ◌≤◌, ◌<◌, eqb, ltb, leb, length, map, take, drop}
-use Rattle.std.proofs.Math.Bool.{or_assoc, or-false}
+use Rattle.std.specs.Prelude.{Bool, true, false, not, ◌&&◌, ◌⊎◌, ◌≡◌, ℕ, ◌+◌, ◌≤◌, ◌<◌, eqb, ltb, length, map, drop}
 use mathlib.Core.List.{List, [], ◌∷◌}
 use Rattle.std.specs.Cmp.Lexicographic.{pointwise}
 use Rattle.std.specs.List.{list_any, list_all}
 use denote.Ref.{Bor}
-use Rattle.std.proofs.Common.{inl, inr, ap, ◌∙◌, arith, ltb-true, ltb-false, leb-true, drop-drop}
+use Rattle.std.proofs.Common.{inl, inr, ap, ◌∙◌, arith, ltb-true, ltb-false, drop-drop}
 use Rattle.std.proofs.Math.Path.{refl, sym}
 use Prim.Native.String.{String}
 use Rattle.grammar.specs.Text.{Text, if◌then◌otherwise◌, b, same, starts, digit}
-use Rattle.grammar.specs.Laws.Text.{starts_nothing, same_not}
 use Rattle.grammar.specs.Laws.Places.{starts_byte}
 use Rattle.grammar.specs.Laws.NameSteps.{starts_one}
 use Rattle.catalogue.specs.Bytes.{all, first, and_left, and_right, eqb_yes}
-use Rattle.catalogue.specs.Class.{listed, leading_zero, numeral, reserved}
+use Rattle.catalogue.specs.Class.{listed, leading_zero, numeral}
 use Rattle.catalogue.specs.Recogniser.{if_next}
 use Rattle.catalogue.proofs.Laws.ReadsBack.{next_no}
 
@@ -36,14 +34,6 @@ module _ (c : ℕ) where
     pub next_here : (s : Text) (at : ℕ) → starts (drop at s) (c ∷ []) ≡ true → if_next c (drop at s) f x ≡ f (drop (at + 1) s)
     next_here s at h = byte_next f x (starts_one (drop at s) c h) ∙ ap f (drop-drop 1 at s)
 
--- ---------------------------------------------------------------- a part and a word
-
-pub starts_same : (t w : Text) → length w ≤ length t → starts t w ≡ same (take (length w) t) w
-unfolding starts same
-starts_same t [] h = starts_nothing t
-starts_same [] (y ∷ w) h = absurd (omega arith)
-starts_same (x ∷ t) (y ∷ w) h = ap (λ (q : Bool). eqb x y && q) (starts_same t w (omega arith))
-
 -- ---------------------------------------------------------------- numbers
 
 pub lt_or_le : (m n : ℕ) → (m < n) ⊎ (n ≤ m)
@@ -65,13 +55,14 @@ unfolding numeral
 numeral_is [] l h = absurd (omega arith)
 numeral_is (x ∷ v) l h = rw (and_left (digit 10 x) (all (digit 10) v) h, and_right (digit 10 x) (all (digit 10) v) h) refl
 
--- ---------------------------------------------------------------- listed words
+-- ---------------------------------------------------------------- what the library's tests answer
 
--- the library's `all`, and its `==` of two texts
+-- `all`
 pub all_is : (p : ℕ → Bool) (t : Text) → list_all p t ≡ all p t
 all_is p [] = refl
 all_is p (x ∷ t) = ap (λ (q : Bool). p x && q) (all_is p t)
 
+-- `==` of two texts
 pub same_is : (s t : Text) → pointwise eqb s t ≡ same s t
 unfolding same
 same_is [] [] = refl
@@ -79,7 +70,7 @@ same_is [] (y ∷ t) = refl
 same_is (x ∷ s) [] = refl
 same_is (x ∷ s) (y ∷ t) = ap (λ (q : Bool). eqb x y && q) (same_is s t)
 
--- `any` over the words
+-- `any` over some words
 pub listed_any : (n : Text) (xs : List (Bor Text)) (ws : List String) → map (λ x. x.now) xs ≡ map b ws → list_any (λ x. pointwise eqb n x.now) xs ≡ listed n ws
 unfolding listed
 listed_any n [] [] e = refl
@@ -89,19 +80,3 @@ listed_any n (x ∷ xs) (w ∷ ws) e =
     let f : x.now ≡ b w = cc in
     let g : map (λ (y : Bor Text). y.now) xs ≡ map b ws = cc in
     rw (same_is n x.now, f, listed_any n xs ws g) refl
-
--- no word of the list has more than k bytes
-no_longer : ℕ → List String → Bool
-no_longer k [] = true
-no_longer k (w ∷ ws) = leb (length (b w)) k && no_longer k ws
-
-unlisted : (k : ℕ) (n : Text) (ws : List String) → no_longer k ws ≡ true → k < length n → listed n ws ≡ false
-unfolding listed no_longer b
-unlisted k n [] h l = refl
-unlisted k n (w ∷ ws) h l =
-    let i = leb-true (length (b w)) k (and_left (leb (length (b w)) k) (no_longer k ws) h) in
-    rw (same_not n (b w) (λ e. omega (arith, i, e)), unlisted k n ws (and_right (leb (length (b w)) k) (no_longer k ws) h) l) refl
-
-pub long_free : (n : Text) → 10 < length n → listed n reserved ≡ false
-unfolding reserved no_longer b
-long_free n l = unlisted 10 n reserved refl l

@@ -1,5 +1,5 @@
 -- Laws of WrittenAt.antt. Assumes nothing.
-use Rattle.std.specs.Prelude.{◌≡◌, refl, List, [], ◌∷◌, ◌++◌, ℕ, zero, suc, ◌+◌, ◌-◌, ◌/◌, ◌%◌, ◌^◌, ◌≤◌, ◌<◌, length, take, drop, set}
+use Rattle.std.specs.Prelude.{◌≡◌, refl, List, [], ◌∷◌, ◌++◌, ℕ, zero, suc, ◌+◌, ◌-◌, ◌*◌, ◌/◌, ◌%◌, ◌^◌, ◌≤◌, ◌<◌, length, take, drop, set, Option, Some, None, IfSome, IfNone, unwrap_or}
 use Rattle.std.proofs.Common.{sym, ap, ap₂, subst, ◌∙◌, append_assoc, arith, length-append, take_at, drop_at, drop-drop, length-take-le}
 use Rattle.std.proofs.lemmas.List.Edits.{sets-eq}
 use Rattle.std.proofs.Math.Seq.{take-length}
@@ -59,47 +59,26 @@ front_wrote {t = t} {o = o} h f l q =
 
 -- ---------------------------------------------------------------- decimal
 
-pub decimal_one : (n : ℕ) → n < 10 → length (decimal (suc n) n) ≡ 1
-decimal_one n h = ap length (decimal_last (suc n) n h (omega arith))
+-- k is the logarithm
+decimal_digits : (k m n : ℕ) → n < m → 10 ^ k ≤ n → n < 10 * 10 ^ k → length (decimal m n) ≡ k + 1
+decimal_digits zero m n l a h = ap length (decimal_last m n (omega arith) (omega arith))
+decimal_digits (suc k) m n l a h =
+    let more = ap length (decimal_more m n (omega arith) (omega arith)) ∙ length-append (decimal (m - 1) (n / 10)) ((48 + n % 10) ∷ []) in
+    let less = decimal_digits k (m - 1) (n / 10) (omega arith) (omega arith) (omega arith) in
+    omega (arith, more, less)
 
-two_digits : (k n : ℕ) → 2 ≤ k → 10 ≤ n → n < 100 → decimal k n ≡ (48 + n / 10) ∷ (48 + n % 10) ∷ []
-two_digits k n m l h =
-    decimal_more k n l (omega arith) ∙ ap (λ (t : Text). t ++ ((48 + n % 10) ∷ [])) (decimal_last (k - 1) (n / 10) (omega arith) (omega arith))
-
-three_digits : (k n : ℕ) → 3 ≤ k → 100 ≤ n → n < 1000 → decimal k n ≡ (48 + n / 10 / 10) ∷ (48 + n / 10 % 10) ∷ (48 + n % 10) ∷ []
-three_digits k n m l h =
-    decimal_more k n (omega arith) (omega arith) ∙ ap (λ (t : Text). t ++ ((48 + n % 10) ∷ [])) (two_digits (k - 1) (n / 10) (omega arith) (omega arith) (omega arith))
-
-four_digits : (k n : ℕ) → 4 ≤ k → 1000 ≤ n → n < 10000
-    → decimal k n ≡ (48 + n / 10 / 10 / 10) ∷ (48 + n / 10 / 10 % 10) ∷ (48 + n / 10 % 10) ∷ (48 + n % 10) ∷ []
-four_digits k n m l h =
-    decimal_more k n (omega arith) (omega arith) ∙ ap (λ (t : Text). t ++ ((48 + n % 10) ∷ [])) (three_digits (k - 1) (n / 10) (omega arith) (omega arith) (omega arith))
-
-module _ (n : ℕ) where
-  pub decimal_two : 10 ≤ n → n < 100 → length (decimal (suc n) n) ≡ 2
-  decimal_two l h = ap length (two_digits (suc n) n (omega arith) l h)
-
-  pub decimal_three : 100 ≤ n → n < 1000 → length (decimal (suc n) n) ≡ 3
-  decimal_three l h = ap length (three_digits (suc n) n (omega arith) l h)
-
-  pub decimal_four : 1000 ≤ n → n < 10000 → length (decimal (suc n) n) ≡ 4
-  decimal_four l h = ap length (four_digits (suc n) n (omega arith) l h)
-
-  pub decimal_five : 10000 ≤ n → n < 100000 → length (decimal (suc n) n) ≡ 5
-  decimal_five l h =
-      ap length
-      (decimal_more (suc n) n (omega arith) (omega arith)
-      ∙ ap (λ (t : Text). t ++ ((48 + n % 10) ∷ [])) (four_digits (suc n - 1) (n / 10) (omega arith) (omega arith) (omega arith)))
+pub decimal_length : (n : ℕ) (o : Option ℕ) → IfNone o (n ≡ 0) → IfSome o (λ k. 10 ^ k ≤ n) → IfSome o (λ k. n < 10 * 10 ^ k) → unwrap_or o 0 + 1 ≡ length (decimal (suc n) n)
+decimal_length n None z a h = sym (ap length (decimal_last (suc n) n (omega arith) (omega arith)))
+decimal_length n (Some k) z a h = sym (decimal_digits k (suc n) n (omega arith) a h)
 
 below_power : (n : ℕ) → n < 10 ^ suc n
 below_power zero = omega arith
 below_power (suc n) = let h = below_power n in omega arith
 
-pub decimal_as : (n : ℕ) → n < 100000 → decimal 20 n ≡ decimal (suc n) n
-decimal_as n h =
-    let l : n < 100000000000000000000 = omega arith in decimal_enough 20 (suc n) n (omega arith) (omega arith) l (below_power n)
+pub decimal_as : (n : ℕ) → n < 100000000000000000000 → decimal 20 n ≡ decimal (suc n) n
+decimal_as n h = decimal_enough 20 (suc n) n (omega arith) (omega arith) h (below_power n)
 
-pub wrote_decimal : {out out' : Text} {at n end r : ℕ} → n < 100000 → end ≡ at + length (decimal (suc n) n) → Decimal n end out out' r
+pub wrote_decimal : {out out' : Text} {at n end r : ℕ} → n < 100000000000000000000 → end ≡ at + length (decimal (suc n) n) → Decimal n end out out' r
     → WrittenAt out out' at end (decimal (suc n) n)
 wrote_decimal {out} {out'} {at} {n} {end} {r} h f w =
     let e = decimal_as n h in

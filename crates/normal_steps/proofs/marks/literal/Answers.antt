@@ -17,7 +17,7 @@ returns c =
     let k : c.in_ok-kind.field-0.now ≡ get_or c.args.s.now c.args.at 0 = get_or_read c.args.s.now _ _ l c.in_ok-kind.ensures.lookup.1 0 in
     from_value c.args.s.now c.args.at _ _ _ c.value.result (elim c.if-minus.branch [ then-minus w ↦ omega arith | else-minus w ↦ omega arith ])
     (elim c.if-minus.branch [
-      then-minus w ↦ rw (k, w.if-minus.true, w.from-is) (literal_minus c.args.s.now c.args.at l (sym c.here-minus.ensures ∙ w.if-minus.true))
-    | else-minus w ↦ rw (k, w.if-minus.false, w.from-is) (literal_plain c.args.s.now c.args.at l (sym c.here-minus.ensures ∙ w.if-minus.false))
+      | then-minus w ↦ rw (k, w.if-minus.true, w.from-is) (literal_minus c.args.s.now c.args.at l (sym c.here-minus.ensures ∙ w.if-minus.true))
+      | else-minus w ↦ rw (k, w.if-minus.false, w.from-is) (literal_plain c.args.s.now c.args.at l (sym c.here-minus.ensures ∙ w.if-minus.false))
     ])
     c.value.ensures

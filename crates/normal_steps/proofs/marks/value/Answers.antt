@@ -21,9 +21,9 @@ pub returns-then-not-here : goal.returns-then-not-here
 returns-then-not-here c =
     let n = c.decimal-to.ensures.behind in
     elim c.then-not-here.branch [
-      then-not-here-via-then-not-here w ↦ value_open c.args.s.now c.args.kind c.args.minus c.args.from _ n (sym c.here.ensures ∙ w.if-not-here.true)
-    | then-not-here-via-else-not-here+then-not-value_ok w ↦
-        value_wrong c.args.s.now c.args.kind c.args.minus c.args.from _ n (sym c.here.ensures ∙ w.if-not-here.false) (sym w.value_ok.ensures ∙ w.if-not-value_ok.true)
+      | then-not-here-via-then-not-here w ↦ value_open c.args.s.now c.args.kind c.args.minus c.args.from _ n (sym c.here.ensures ∙ w.if-not-here.true)
+      | then-not-here-via-else-not-here+then-not-value_ok w ↦
+          value_wrong c.args.s.now c.args.kind c.args.minus c.args.from _ n (sym c.here.ensures ∙ w.if-not-here.false) (sym w.value_ok.ensures ∙ w.if-not-value_ok.true)
     ]
 
 pub overflow_add-result : goal.overflow_add-result

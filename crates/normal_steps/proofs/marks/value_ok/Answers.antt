@@ -38,4 +38,3 @@ returns-else-not-minus-2 c = grind (arith, nat_tests, same_is)
 pub returns-in_default : goal.returns-in_default
 unfolding valid_by with_code choose if◌then◌otherwise◌ lit_ok b
 returns-in_default c = grind (arith, nat_tests, same_is)
-

@@ -7,9 +7,9 @@ use Rattle.normal_steps.proofs.write.write_decimal.Goals as goal
 
 pub write_decimal-requires : goal.write_decimal-requires
 write_decimal-requires c =
-    let e = ap length (decimal_as c.args.n c.requires.0) in
+    let e = ap length (decimal_as c.args.n (omega arith)) in
     (omega (arith, e, c.decimal_length.ensures), omega (arith, c.decimal_length.ensures))
 
 pub returns : goal.returns
 returns c =
-    wrote_decimal c.requires.0 (ap (λ (k : ℕ). c.args.at + k) c.decimal_length.ensures) c.write_decimal.ensures
+    wrote_decimal (omega arith) (ap (λ (k : ℕ). c.args.at + k) c.decimal_length.ensures) c.write_decimal.ensures

@@ -17,7 +17,7 @@ write_decimal-next-requires c =
     let l = part_length c.args.s.now c.args.from c.args.to (omega arith) in
     let d : length_digits p ≡ decimal (suc (c.args.to - c.args.from)) (c.args.to - c.args.from) = ap (λ (k : ℕ). decimal (suc k) k) l in
     let n = length-append (length_digits p) p in
-    (omega arith, omega (arith, ap length d))
+    omega (arith, ap length d)
 
 pub copy-requires : goal.copy-requires
 copy-requires c =

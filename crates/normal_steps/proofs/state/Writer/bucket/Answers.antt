@@ -1,4 +1,4 @@
-use Rattle.std.proofs.Common.{ℕ, ◌+◌, ◌-◌, ◌*◌, ◌%◌, sym, ap, ◌∙◌, take, drop, arith}
+use Rattle.std.proofs.Common.{ℕ, ◌+◌, ◌*◌, ◌%◌, sym, ap, ◌∙◌, arith}
 use Rattle.grammar.specs.Laws.Places.{rest_some, rest_none}
 use Rattle.normal_steps.specs.Parts.{part}
 use Rattle.normal_steps.specs.Chains.{buckets, summed, bucket_of}

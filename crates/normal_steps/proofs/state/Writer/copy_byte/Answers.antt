@@ -1,4 +1,4 @@
-use Rattle.std.proofs.Common.{refl, get_or, [], ◌∷◌, arith}
+use Rattle.std.proofs.Common.{refl, arith}
 use Rattle.normal_steps.specs.Laws.Limits.{passed_none, passed_more}
 use Rattle.normal_steps.specs.Laws.Moves.{next_byte, holds_next}
 use Rattle.normal_steps.proofs.state.Writer.copy_byte.Goals as goal

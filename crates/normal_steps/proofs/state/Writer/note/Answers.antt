@@ -1,4 +1,4 @@
-use Rattle.std.proofs.Common.{refl, ap, ◌∙◌, arith}
+use Rattle.std.proofs.Common.{ap, ◌∙◌, arith}
 use Rattle.normal_steps.specs.Rows.{node_of}
 use Rattle.normal_steps.specs.Laws.Chains.{bucket_below, linked_at}
 use Rattle.normal_steps.specs.Laws.Memory.{note_known, note_written, node_room}
@@ -18,5 +18,5 @@ link-requires c =
 pub returns-clause-steps : goal.returns-clause-steps
 returns-clause-steps c σ h =
     let x = c.args.x in
-    note_written h c.requires.1.1.0 x.tag x.of x.word.from x.word.to c.requires.1.0 _ c.put_two.ensures c.put_two-2.ensures
-    (c.link.ensures ∙ ap (linked_at c.args.self.now.chains.now c.args.self.now.state.nodes) c.bucket-head.ensures) refl c.in_default.ensures
+    note_written h c.requires.1.1.0 x.tag x.of x.word.from x.word.to c.requires.1.0 c.put_two.ensures c.put_two-2.ensures
+    (c.link.ensures ∙ ap (linked_at c.args.self.now.chains.now c.args.self.now.state.nodes) c.bucket-head.ensures) c.in_default.ensures
