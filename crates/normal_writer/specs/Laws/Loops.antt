@@ -14,7 +14,7 @@ Told L w d g = Answered w.s.now L (slices_of w) w.state d g
 
 -- the writer at another place of the symbol, and one byte on
 abbrev pub gone : Writer → ℕ → Writer
-gone w to = record { s = w.s; out = w.out; ends = w.ends; words = w.words; tables = w.tables; chains = w.chains; state = moved_to w.state to }
+gone w to = record w { state = moved_to w.state to }
 
 abbrev pub moved : Writer → Writer
 moved w = gone w (w.state.at + 1)

@@ -381,5 +381,6 @@ module _ (s : Text) (y : starts s (95 ∷ 90 ∷ []) ≡ true) (w : Writer) wher
         pub symbol_writes : w₁.state.args ≤ most_arguments → Writes w₁ (Some tt) (note_symbol s)
         unfolding if◌then◌otherwise◌
         symbol_writes l =
-            let x : note_symbol s ≡ some symbol_ended.state.out = by_end (got tt symbol_ended.state) symbol_ended.is ∙ rw (le-leb symbol_ended.state.args most_arguments (omega (arith, args_are))) refl in
+            let x : note_symbol s ≡ some symbol_ended.state.out =
+            by_end (got tt symbol_ended.state) symbol_ended.is ∙ rw (le-leb symbol_ended.state.args most_arguments (omega (arith, args_are))) refl in
             subst (λ (v : Normal Text). Writes w₁ (Some tt) v) (sym x) (writes symbol_ended.holds)

@@ -13,7 +13,8 @@ use Rattle.normal_writer.specs.Laws.Types.{Counted, arg_refused, arg_next, count
 use Rattle.normal_writer.specs.Laws.Types.{by_name, first_named, first_next, class_refused, class_answer, by_reference, first_referred, moved_ready, referred_ready}
 use Rattle.normal_writer.specs.Laws.Types.{type_end, type_by, letter_answer, literal_answer, none_answer, without_args, args_barred, args_refused, args_answer, wrap_refused, wrap_next, wrap_answer}
 use Rattle.normal_writer.specs.Laws.Parts.{Onward, onward_as, part_refused, part_next, angled_barred, angled_refused, angled_next, end_lone, end_answer, more_behind, more_again}
-use Rattle.normal_writer.specs.Laws.Parts.{nested_refused, nested_next, nested_closed, nested_answer, parts_end, parts_by, parts_other, parts_unnamed, parts_named, parts_unreferred, parts_barred, parts_referred}
+use Rattle.normal_writer.specs.Laws.Parts.{nested_refused, nested_next, nested_closed, nested_answer}
+use Rattle.normal_writer.specs.Laws.Parts.{parts_end, parts_by, parts_other, parts_unnamed, parts_named, parts_unreferred, parts_barred, parts_referred}
 use Rattle.normal_writer.proofs.cycle.+types.Goals.{args-After-here, more-After-here-in-loop-w, more-then-here+else-not-bare+in_ok-of, more-else-here+in_ok-of-2}
 use Rattle.normal_writer.proofs.cycle.+types.Goals as goal
 
