@@ -1,5 +1,5 @@
 -- The input in chunks: what the buffer holds of it, and what was handed over. Assumes nothing.
-use Rattle.std.specs.Prelude.{Bool, true, false, [], ◌∷◌, ◌++◌, ◌≡◌, ℕ, ◌+◌, ◌-◌, ◌≤◌, eqb, length, take, drop}
+use Rattle.std.specs.Prelude.{Bool, [], ◌∷◌, ◌++◌, ◌≡◌, ℕ, ◌+◌, ◌-◌, ◌≤◌, eqb, length, take, drop}
 use Rattle.grammar.specs.Text.{Text, if◌then◌otherwise◌}
 use Rattle.listing.specs.Listing.{line_feed, lines, bytes_taken, listing}
 use Rattle.listing.specs.Cut.{cut_lines, column, most_kept}

@@ -1,5 +1,5 @@
 -- What the turns of reading and writing leave, whatever was read and handed over before them. Assumes nothing.
-use Rattle.std.specs.Prelude.{Bool, true, false, ◌++◌, ◌≡◌, ℕ, ◌<◌, ◌≤◌, List, eqb, length, take, Option, Result, MatchResult}
+use Rattle.std.specs.Prelude.{Bool, false, ◌++◌, ◌≡◌, ℕ, ◌<◌, ◌≤◌, List, eqb, length, take, Option, Result, MatchResult, ◌⊎◌}
 use Rattle.std.specs.Io.KnownBytes.{Appends, Consumes, IsAtEnd, Keeps}
 use Rattle.grammar.specs.Text.{Text}
 use Rattle.listing.specs.declared.listing.Kind.{Kind}
@@ -47,10 +47,10 @@ pub record Goes (kind : Kind) (ended : Bool) (left left' has has' : Known) (b : 
   pub written : Appends has has' handed
 
 -- all of the input was read, up to its end, and the output for it written
-pub record Ends (kind : Kind) (chunk : Text) (left left' has has' : Known) : Type 0 where
+pub record Ends (kind : Kind) (left left' has has' : Known) : Type 0 where
   pub all : Text
   pub read : Consumes left left' all
-  pub ended : 0 < length chunk → IsAtEnd left'
+  pub ended : IsAtEnd left'
   pub written : Appends has has' (output kind all)
 
 -- some input was read, and some of the output for it written
@@ -59,3 +59,7 @@ pub record Stops (kind : Kind) (left left' has has' : Known) : Type 0 where
   pub n : ℕ
   pub read : Consumes left left' all
   pub written : Appends has has' (take n (output kind all))
+
+-- where the run ends, standard error is told nothing
+abbrev pub Runs : Kind → Known → Known → Known → Known → Known → Known → Type 0
+Runs kind left left' has has' told told' = (Ends kind left left' has has' × Keeps told told') ⊎ Stops kind left left' has has'

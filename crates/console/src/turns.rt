@@ -1,5 +1,5 @@
 // The turns of reading and writing.
-ghost use Rattle.std.specs.Prelude.{◌+◌, ◌≤◌, length, MatchResult};
+ghost use Rattle.std.specs.Prelude.{◌+◌, ◌<◌, ◌≤◌, length, MatchResult};
 ghost use Rattle.listing.specs.Cut.{most_kept};
 ghost use Rattle.console.specs.Turns.{Ends, Stops};
 
@@ -20,7 +20,7 @@ pub fn list_input<R: Read, W: Write>(
 ) -> Result<(), Failed>
     requires { most_kept + 1 + length chunk.old ≤ length lines.old }
     ensures { MatchResult result
-        (λ _. Ends lister.old.kind chunk.old (R.remaining input.old) (R.remaining input.new) (W.contents output.old) (W.contents output.new))
+        (λ _. 0 < length chunk.old → Ends lister.old.kind (R.remaining input.old) (R.remaining input.new) (W.contents output.old) (W.contents output.new))
         (λ _. Stops lister.old.kind (R.remaining input.old) (R.remaining input.new) (W.contents output.old) (W.contents output.new)) }
 {
     let mut buffer = Buffer::new(lines);

@@ -1,19 +1,19 @@
 -- Laws of Buffer.antt: the input may be read in any chunks, and its lines handed over in any parts. Assumes nothing.
 use Rattle.std.proofs.Math.Bool.{Bool, true}
-use Rattle.std.specs.Prelude.{false, ◌&&◌, ◌≡◌, eqb, leb, set}
+use Rattle.std.specs.Prelude.{false, ◌≡◌, eqb}
 use mathlib.Core.List.{List, [], ◌∷◌, ◌++◌, append_assoc, append-nil}
 use Rattle.std.proofs.Math.Path.{refl, sym, ap}
-use Rattle.std.proofs.Common.{ap₂, ◌∙◌, subst, eq-eqb, ne_eqb, leb-true, length-append, length-drop, take-add, take-take, drop-drop, length-take-le}
+use Rattle.std.proofs.Common.{ap₂, ◌∙◌, subst, eq-eqb, ne_eqb, length-append, length-drop, take-add, take-take, drop-drop, length-take-le}
 use Prim.Native.Nat.{ℕ, suc, ◌+◌, ◌-◌, ◌≤◌, ◌<◌}
 use native.Mathlib.Omega.{arith}
 use Rattle.std.proofs.Math.ListN.{length, take, drop}
-use Rattle.std.proofs.Math.Seq.{take-length, take_at, take-suc-set}
+use Rattle.std.proofs.Math.Seq.{take-length, take_at}
 use Rattle.grammar.specs.Text.{Text, if◌then◌otherwise◌}
 use Rattle.grammar.specs.Names.{Lent}
 use Rattle.answer.specs.Told.{Slices, lent}
-use Rattle.answer.specs.Laws.Told.{both_true, long_fit, long_numbers_fit}
+use Rattle.answer.specs.Laws.Told.{long_fit, long_numbers_fit}
 use Rattle.listing.specs.Listing.{line_feed, lines, bytes_taken, listing, fitting, work_sized, Outcome, lists, listed, Lists, most_line_bytes}
-use Rattle.listing.specs.Cut.{cut_lines, column, most_kept}
+use Rattle.listing.specs.Cut.{cut_lines, column}
 use Rattle.listing.specs.Laws.Cut.{cut_append, cut_listing}
 use Rattle.listing.specs.Kinds.{LongFor}
 use Rattle.listing.specs.Laws.Entry.{long_work}

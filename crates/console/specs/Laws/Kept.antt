@@ -1,8 +1,8 @@
 -- Laws of what is kept of a chunk. Assumes nothing.
-use mathlib.Core.List.{List, [], ◌∷◌, ◌++◌, append_assoc, append-nil}
-use Rattle.std.specs.Prelude.{◌≡◌, refl, ℕ, suc, ◌+◌, ◌-◌, ◌≤◌, ◌<◌, length, get_or, set}
+use mathlib.Core.List.{[], ◌∷◌, ◌++◌, append_assoc, append-nil}
+use Rattle.std.specs.Prelude.{◌≡◌, refl, ℕ, suc, ◌+◌, ◌-◌, ◌≤◌, ◌<◌, length, get_or}
 use Rattle.std.proofs.Math.Path.{sym, ap}
-use Rattle.std.proofs.Common.{ap₂, ◌∙◌, add-one, arith, eq-eqb, length-set, length-drop, drop-cons, drop-drop, take-suc-set, length-take-le}
+use Rattle.std.proofs.Common.{ap₂, ◌∙◌, arith, eq-eqb, length-drop, drop-cons, length-take-le}
 use Rattle.std.proofs.Math.ListN.{take, drop, drop_of_length-le}
 use Rattle.grammar.specs.Text.{Text}
 use Rattle.listing.specs.Listing.{line_feed}

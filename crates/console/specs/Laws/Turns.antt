@@ -1,5 +1,5 @@
 -- Laws of Turns.antt: one turn after another. Assumes nothing.
-use Rattle.std.specs.Prelude.{Bool, true, false, [], ◌++◌, ◌≡◌, ℕ, ◌<◌, List, eqb, length, take, drop, Result}
+use Rattle.std.specs.Prelude.{Bool, true, false, [], ◌++◌, ◌≡◌, ℕ, eqb, length, take, drop, Result}
 use Rattle.std.proofs.Common.{sym, ap, ◌∙◌, subst, append_assoc, take-append-drop}
 use Rattle.std.proofs.Math.Seq.{take-append_seam}
 use Rattle.std.specs.Io.KnownBytes.{Appends, Consumes, IsAtEnd, Keeps}
@@ -58,8 +58,8 @@ module _ {kind : Kind} {q : Bool} {left left' has has' : Known} {b : Buffer} (w 
     written = Appends-trans has has' has'' w.handed s.put w.written a;
   }
 
-  pub ends : (chunk : Text) → q ≡ true → b.from ≡ b.start → (0 < length chunk → IsAtEnd left') → Ends kind chunk left left' has has'
-  ends chunk e h i = record {
+  pub ends : q ≡ true → b.from ≡ b.start → IsAtEnd left' → Ends kind left left' has has'
+  ends e h i = record {
     all = w.all;
     read = w.read;
     ended = i;

@@ -1,6 +1,5 @@
 use Rattle.std.proofs.Common.{◌≤◌, ℕ, length, sym, ap, refl, eqb, rules}
 use Rattle.std.proofs.lemmas.List.{length-take-le}
-use Rattle.std.proofs.lemmas.Grind.{common_steps}
 use Rattle.console.specs.Laws.Buffer.{fed_chunk}
 use Rattle.console.proofs.input.read_some.Goals as goal
 

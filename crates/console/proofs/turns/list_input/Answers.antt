@@ -1,4 +1,4 @@
-use Rattle.std.proofs.Common.{◌≡◌, length, ap, ◌∙◌, refl, eq-eqb, arith}
+use Rattle.std.proofs.Common.{Ok, Err, ◌≡◌, length, ap, ◌∙◌, refl, eq-eqb, arith}
 use Rattle.std.proofs.lemmas.Result.{MatchResult-from_err}
 use Rattle.std.proofs.KnownBytes.{Keeps-refl}
 use Rattle.console.specs.Laws.Turns.{goes_none, stops_none, goes_read, goes_written, ends, stops, stops_written}
@@ -37,7 +37,7 @@ pub loop-buffer-preserved : goal.loop-buffer-preserved
 loop-buffer-preserved g c =
     let w = rw c.loop-buffer.invariant.kind at c.in_ok-write_some.ensures.writes in
     record {
-      goes = goes_written c.loop-buffer.invariant.goes w w.written;
+      goes = goes_written c.loop-buffer.invariant.goes {r = Ok tt} w w.written;
       room = omega (arith, w.size, c.loop-buffer.invariant.room);
       kind = c.in_ok-write_some.ensures.kind ∙ c.loop-buffer.invariant.kind;
     }
@@ -45,13 +45,13 @@ loop-buffer-preserved g c =
 pub returns-in_err-write_some : goal.returns-in_err-write_some
 returns-in_err-write_some g c =
     let w = rw c.loop-buffer.invariant.kind at c.in_err-write_some.ensures.writes in
-    MatchResult-from_err _ _ _ c.from_residual-in_err-write_some.ensures.0 (λ _. stops_written c.loop-buffer.invariant.goes w w.written.1)
+    MatchResult-from_err _ _ _ c.from_residual-in_err-write_some.ensures.0 (λ _. stops_written c.loop-buffer.invariant.goes {r = Err c.in_err-write_some.field-0.0} w w.written.1)
 
 pub returns-then-n-eq0 : goal.returns-then-n-eq0
 returns-then-n-eq0 g c =
     let none : c.loop-buffer.buffer.from ≡ c.loop-buffer.buffer.start = omega arith in
-    ends c.loop-buffer.invariant.goes c.args.chunk.now (eq-eqb c.in_ok-n.n 0 c.if-n-eq0.true) none
-    (λ h. c.in_ok-n.ensures.ended c.if-n-eq0.true (omega (arith, h, c.read_some.auto.chunk, c.loop.auto.chunk)))
+    λ h. ends c.loop-buffer.invariant.goes (eq-eqb c.in_ok-n.n 0 c.if-n-eq0.true) none
+    (c.in_ok-n.ensures.ended c.if-n-eq0.true (omega (arith, h, c.read_some.auto.chunk, c.loop.auto.chunk)))
 
 pub returns : goal.returns
 returns g c = stops c.loop.invariant.goes (Keeps-refl _)
