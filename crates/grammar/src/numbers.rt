@@ -39,7 +39,10 @@ pub fn digits<const BASE: u64>(s: &[u8], at: usize) -> Number
         }
         value = value.saturating_mul(BASE).saturating_add(d);
     }
-    Number { value, next: at.max(s.len()) }
+    Number {
+        value,
+        next: at.max(s.len()),
+    }
 }
 
 // The digits of n, the last of them before `end`. Returned is the place of the first.

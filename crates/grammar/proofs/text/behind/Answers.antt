@@ -6,5 +6,5 @@ use Rattle.grammar.proofs.text.behind.Goals as goal
 pub returns : goal.returns
 returns c =
     next_place (λ x. x == c.args.c) c.args.s.now c.args.at c.unwrap_or.result c.position.result _ c.requires refl
-        (IsFirst-from_position _ _ _ (λ x. x == c.args.c ≡ false) (λ x. x == c.args.c ≡ true) c.position.ensures.ran (YieldsList-from_slice _ cc) (λ x q k. search (rules, tests)) (λ x q k. search (rules, tests)))
-        c.unwrap_or.ensures
+    (IsFirst-from_position _ _ _ (λ x. x == c.args.c ≡ false) (λ x. x == c.args.c ≡ true) c.position.ensures.ran (YieldsList-from_slice _ cc) (λ x q k. search (rules, tests)) (λ x q k. search (rules, tests)))
+    c.unwrap_or.ensures
