@@ -29,13 +29,14 @@ ReadsOn chunk left left' b b' r = MatchResult r (λ n. Reads chunk left left' b 
 abbrev pub Writes : {A : Type 0} → Known → Known → Text → Result A Failed → Type 0
 Writes has has' bytes r = MatchResult r (λ _. Appends has has' bytes) (λ e. (e ≡ Output) × ((n : ℕ) × Appends has has' (take n bytes)))
 
--- what is handed over is the listing of one line at least
-pub record WritesOn {A : Type 0} (kind : Kind) (has has' : Known) (b b' : Buffer) (r : Result A Failed) : Type 0 where
-  pub put : Text
-  pub fed : (ended : Bool) (all handed : Text) → Fed kind ended all handed b → Fed kind ended all (handed ++ put) b'
+-- what is handed over, the first bytes of the output, is the listing of one line at least
+pub record WritesOn {A : Type 0} (kind : Kind) (out : Text) (has has' : Known) (b b' : Buffer) (r : Result A Failed) : Type 0 where
+  pub put : ℕ
+  pub fed : (ended : Bool) (all handed : Text) → Fed kind ended all handed b → Fed kind ended all (handed ++ take put out) b'
+  pub inside : put ≤ length out
   pub more : (ended : Bool) (all handed : Text) → Fed kind ended all handed b → b.from < b'.from
   pub start : b'.start ≡ b.start
-  pub written : Writes has has' put r
+  pub written : Writes has has' (take put out) r
   pub size : length b'.lines.now ≡ length b.lines.now
 
 -- so far some input was read, and its listing written as far as the buffer tells

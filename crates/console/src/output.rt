@@ -1,5 +1,5 @@
 // Standard output.
-ghost use Rattle.std.specs.Prelude.{◌≡◌, ◌≤◌, ◌<◌, length};
+ghost use Rattle.std.specs.Prelude.{◌≡◌, ◌≤◌, ◌<◌, length, take};
 ghost use Rattle.answer.specs.Told.{normal_slices};
 ghost use Rattle.listing.specs.Listing.{most_line_bytes};
 ghost use Rattle.listing.specs.Kinds.{LongFor};
@@ -43,6 +43,14 @@ pub struct Lister<'a> {
 impl Lister<'_> {
     ghost use Rattle.console.specs.Turns.{WritesOn};
 
+    // Writes the first n bytes of `out`.
+    fn write_front<W: Write>(&self, output: &mut W, n: usize) -> Result<(), Failed>
+        requires { n ≤ length self.now.out.now }
+        ensures { Writes (W.contents output.old) (W.contents output.new) (take n self.now.out.now) result }
+    {
+        write(output, &self.out[..n])
+    }
+
     // Writes the listing of the first lines in the buffer, as many as fit into `out`, from the front of it.
     pub fn write_some<W: Write>(
         &mut self,
@@ -50,7 +58,7 @@ impl Lister<'_> {
         buffer: &mut Buffer<'_>,
     ) -> Result<(), Failed>
         requires { buffer.old.from < buffer.old.start }
-        ensures writes { WritesOn self.old.kind (W.contents output.old) (W.contents output.new) buffer.old buffer.new result }
+        ensures writes { WritesOn self.old.kind self.new.out.now (W.contents output.old) (W.contents output.new) buffer.old buffer.new result }
         ensures kind { self.new.kind ≡ self.old.kind }
     {
         let listed = list_lines(
@@ -66,6 +74,6 @@ impl Lister<'_> {
             self.chains,
         );
         buffer.skip(listed.taken);
-        write(output, &self.out[..listed.written])
+        self.write_front(output, listed.written)
     }
 }

@@ -3,13 +3,12 @@ use Rattle.std.proofs.Math.Bool.{Bool, true}
 use Rattle.std.specs.Prelude.{false, ◌≡◌, eqb}
 use mathlib.Core.List.{List, [], ◌∷◌, ◌++◌, append_assoc, append-nil}
 use Rattle.std.proofs.Math.Path.{refl, sym, ap}
-use Rattle.std.proofs.Common.{ap₂, ◌∙◌, subst, eq-eqb, ne_eqb, length-append, length-drop, take-add, take-take, drop-drop, length-take-le}
+use Rattle.std.proofs.Common.{ap₂, ◌∙◌, eq-eqb, ne_eqb, length-append, length-drop, take-add, take-take, drop-drop, length-take-le}
 use Prim.Native.Nat.{ℕ, suc, ◌+◌, ◌-◌, ◌≤◌, ◌<◌}
 use native.Mathlib.Omega.{arith}
 use Rattle.std.proofs.Math.ListN.{length, take, drop}
 use Rattle.std.proofs.Math.Seq.{take-length, take_at}
 use Rattle.grammar.specs.Text.{Text, if◌then◌otherwise◌}
-use Rattle.grammar.specs.Names.{Lent}
 use Rattle.answer.specs.Told.{Slices, lent}
 use Rattle.answer.specs.Laws.Told.{long_fit, long_numbers_fit}
 use Rattle.listing.specs.Listing.{line_feed, lines, bytes_taken, listing, fitting, work_sized, Outcome, lists, listed, Lists, most_line_bytes}
@@ -19,7 +18,6 @@ use Rattle.listing.specs.Kinds.{LongFor}
 use Rattle.listing.specs.Laws.Entry.{long_work}
 use Rattle.listing.specs.Laws.Inside.{lists_inside, lists_some_line}
 use Rattle.listing.specs.declared.listing.Kind.{Kind}
-use Rattle.listing.specs.declared.listing.Kind.TheVariants.{Names, Symbols}
 use Rattle.listing.specs.declared.listing.Listed.{Listed}
 use Rattle.console.specs.Output.{header, output}
 use Rattle.console.specs.Buffer.{part, used, waiting, kept, Nothing, Skips, Moves, closing, EndsLine, Completes, Keeps, added, Adds, completed, Fed}
@@ -154,42 +152,12 @@ pub long_sized : {kind : Kind} {work : Slices} → LongFor kind work → work_si
 unfolding work_sized
 long_sized {kind} {work} h = sym (long_work kind (lent work) h.name (sym (long_fit h.work)) refl (sym (long_numbers_fit h.numbers)))
 
--- slices of the same lengths
-pub long_as : {kind : Kind} (l l' : Slices) → lent l' ≡ lent l → LongFor kind l → LongFor kind l'
-long_as l l' e h = record {
-  name = omega (arith, ap (λ (x : Lent). x.out) e, h.name);
-  work = record {
-    text = omega (arith, ap (λ (x : Lent). x.text) e, h.work.text);
-    store = omega (arith, ap (λ (x : Lent). x.store) e, h.work.store);
-    ends = omega (arith, ap (λ (x : Lent). x.ends) e, h.work.ends);
-  };
-  numbers = record {
-    words = omega (arith, ap (λ (x : Lent). x.words) e, h.numbers.words);
-    tables = omega (arith, ap (λ (x : Lent). x.tables) e, h.numbers.tables);
-    chains = omega (arith, ap (λ (x : Lent). x.chains) e, h.numbers.chains);
-  };
-}
-
--- long enough for either kind
-pub long_either : (kind : Kind) (l : Slices) → LongFor Symbols l → LongFor kind l
-long_either Names l h = record {
-  name = h.name;
-  work = record { text = h.work.text; store = h.work.store; ends = omega (arith, h.work.ends) };
-  numbers = record { words = omega arith; tables = omega arith; chains = omega arith };
-}
-long_either Symbols l h = h
-
 some_line : (ss : List Text) → 1 ≤ bytes_taken ss → 1 ≤ length ss
 unfolding bytes_taken
 some_line [] h = absurd (omega arith)
 some_line (s ∷ ss) h = omega arith
 
 -- ---------------------------------------------------------------- all chunks so far
-
--- the same in other words
-pub fed_as : {kind : Kind} {q : Bool} {all all' handed handed' : Text} {b : Buffer} → Fed kind q all handed b → all ≡ all' → handed ≡ handed' → Fed kind q all' handed' b
-fed_as {kind} {q} {all} {all'} {handed} {handed'} {b} f e h =
-    subst (λ (t : Text). Fed kind q t handed' b) e (subst (λ (t : Text). Fed kind q all t b) h f)
 
 pub fed_none : (kind : Kind) {l : Text} {b : Buffer} → Nothing l b → Fed kind false [] header b
 unfolding lines bytes_taken listing cut_lines column completed if◌then◌otherwise◌

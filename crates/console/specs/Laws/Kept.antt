@@ -13,9 +13,6 @@ use Rattle.listing.specs.Laws.Lines.{feed_there, feed_front}
 use Rattle.console.specs.Buffer.{used, kept, EndsLine, Puts, Keeps, Begun}
 use Rattle.console.specs.declared.buffer.Buffer.{Buffer}
 
-pub begin : (chunk : Text) (b : Buffer) → b.end + length chunk ≤ length b.lines.now → Begun chunk chunk b b
-begin chunk b h = record { room = h; is = refl; last = refl; from = refl; size = refl }
-
 module _ {chunk rest : Text} {b r : Buffer} (w : Begun chunk rest b r) where
   pub all_kept : length rest ≤ 0 → Keeps chunk b r
   unfolding cut_lines column

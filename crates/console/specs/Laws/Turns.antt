@@ -49,13 +49,14 @@ module _ {kind : Kind} {q : Bool} {left left' has has' : Known} {b : Buffer} (w 
     written = w.written;
   }
 
-  pub goes_written : {A : Type 0} {has'' : Known} {b' : Buffer} {r : Result A Failed} → (s : WritesOn kind has' has'' b b' r) → Appends has' has'' s.put → Goes kind q left left' has has'' b'
-  goes_written {A} {has''} {b'} {r} s a = record {
+  pub goes_written : {A : Type 0} {out : Text} {has'' : Known} {b' : Buffer} {r : Result A Failed} → (s : WritesOn kind out has' has'' b b' r) → Appends has' has'' (take s.put out)
+      → Goes kind q left left' has has'' b'
+  goes_written {A} {out} {has''} {b'} {r} s a = record {
     all = w.all;
-    handed = w.handed ++ s.put;
+    handed = w.handed ++ take s.put out;
     fed = s.fed q w.all w.handed w.fed;
     read = w.read;
-    written = Appends-trans has has' has'' w.handed s.put w.written a;
+    written = Appends-trans has has' has'' w.handed (take s.put out) w.written a;
   }
 
   pub ends : q ≡ true → b.from ≡ b.start → IsAtEnd left' → Ends kind left left' has has'
@@ -71,9 +72,10 @@ module _ {kind : Kind} {q : Bool} {left left' has has' : Known} {b : Buffer} (w 
       let (rest, e) = fed_front w.fed in
       stops_from kind left left'' has has' w.all w.handed rest (Consumes-kept left left' left'' w.all w.read k) w.written e
 
-  pub stops_written : {A : Type 0} {has'' : Known} {b' : Buffer} {r : Result A Failed} → (s : WritesOn kind has' has'' b b' r) → ((n : ℕ) × Appends has' has'' (take n s.put))
-      → Stops kind left left' has has''
-  stops_written {A} {has''} {b'} {r} s (n, a) =
+  pub stops_written : {A : Type 0} {out : Text} {has'' : Known} {b' : Buffer} {r : Result A Failed} → (s : WritesOn kind out has' has'' b b' r)
+      → ((n : ℕ) × Appends has' has'' (take n (take s.put out))) → Stops kind left left' has has''
+  stops_written {A} {out} {has''} {b'} {r} s (n, a) =
+      let put : Text = take s.put out in
       let (rest, e) = fed_front (s.fed q w.all w.handed w.fed) in
-      stops_from kind left left' has has'' w.all (w.handed ++ take n s.put) (drop n s.put ++ rest) w.read (Appends-trans has has' has'' w.handed (take n s.put) w.written a)
-      (cut_short kind w.all w.handed s.put rest n e)
+      stops_from kind left left' has has'' w.all (w.handed ++ take n put) (drop n put ++ rest) w.read (Appends-trans has has' has'' w.handed (take n put) w.written a)
+      (cut_short kind w.all w.handed put rest n e)
