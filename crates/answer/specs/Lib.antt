@@ -1,2 +1,3 @@
 pub mod Told
+pub mod Lent
 pub mod Laws

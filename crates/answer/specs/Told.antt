@@ -1,32 +1,37 @@
 -- The code's answer and the definition's, and the slices that a caller lends.
-use Rattle.std.specs.Prelude.{Bool, ◌&&◌, [], ◌≡◌, ℕ, ◌≤◌, leb, length}
+use Rattle.std.specs.Prelude.{Bool, ◌&&◌, [], ◌≡◌, ℕ, ◌≤◌, leb, length, Result, Ok, Err}
 use Rattle.grammar.specs.Text.{Text}
 use Rattle.grammar.specs.Limits.{least_text, least_store}
 use Rattle.grammar.specs.Names.{written}
 use Rattle.grammar.specs.Names as n
 use Rattle.store.specs.Stack.{zeros}
-use Rattle.answer.specs.declared.Answer.{Answer}
-use Rattle.answer.specs.declared.Answer.TheVariants.{Name, Refused}
+use Rattle.grammar.specs.Refusals.{refusal_number}
+use Rattle.grammar.specs.declared.refusal.Refusal.{Refusal}
 
 -- ---------------------------------------------------------------- the answer
 
--- the definition's answer, as the code tells it
-unfoldable pub told : n.Answer → Answer
-told (n.named t) = Name (length t)
-told (n.refusal r) = Refused r
+-- the definition's answer: the length of its name, or the number of its refusal
+unfoldable pub told : n.Answer → Result ℕ ℕ
+told (n.named t) = Ok (length t)
+told (n.refusal r) = Err r
 
--- document 01's number and value of the code's answer
-abbrev pub number_in : Answer → ℕ
-number_in (Name n) = 0
-number_in (Refused r) = r
+-- the code's answer, with document 01's number for its refusal
+abbrev pub numbered : Result ℕ Refusal → Result ℕ ℕ
+numbered (Ok n) = Ok n
+numbered (Err e) = Err (refusal_number e)
 
-abbrev pub bytes_in : Answer → ℕ
-bytes_in (Name n) = n
-bytes_in (Refused r) = 0
+-- the number and the length that C is told of it
+abbrev pub number_in : Result ℕ Refusal → ℕ
+number_in (Ok n) = 0
+number_in (Err e) = refusal_number e
+
+abbrev pub bytes_in : Result ℕ Refusal → ℕ
+bytes_in (Ok n) = n
+bytes_in (Err e) = 0
 
 -- the code's answer and the output are the definition's
-pub record Tells (a : n.Answer) (before after : Text) (r : Answer) : Type 0 where
-  pub answer : r ≡ told a
+pub record Tells (a : n.Answer) (before after : Text) (r : Result ℕ Refusal) : Type 0 where
+  pub answer : numbered r ≡ told a
   pub out : after ≡ written a before
 
 -- ---------------------------------------------------------------- the slices

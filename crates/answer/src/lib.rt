@@ -1,4 +1,4 @@
-// The answer for a symbol, and the work slices that are lent for it.
+// What is told of the answer for a symbol, the length of its name or the first refusal; and the work slices that are lent for it.
 #![tactic(auto)]
 
 pub mod work;
@@ -6,27 +6,19 @@ pub mod work;
 ghost use Rattle.std.specs.Prelude.{◌≡◌};
 ghost use Rattle.answer.specs.Told.{number_in, bytes_in};
 
-// The name of a symbol and its length, or the number of the first refusal.
-#[derive(Clone, Copy)]
-pub enum Answer {
-    Name(usize),
-    Refused(u8),
-}
+use grammar::refusal::Refusal;
 
-pub fn number(answer: Answer) -> u8
+pub fn number(answer: Result<usize, Refusal>) -> u8
     ensures { result ≡ number_in answer }
 {
     match answer {
-        Answer::Name(_) => 0,
-        Answer::Refused(k) => k,
+        Ok(_) => 0,
+        Err(refusal) => u8::from(refusal),
     }
 }
 
-pub fn bytes(answer: Answer) -> usize
+pub fn bytes(answer: Result<usize, Refusal>) -> usize
     ensures { result ≡ bytes_in answer }
 {
-    match answer {
-        Answer::Name(n) => n,
-        Answer::Refused(_) => 0,
-    }
+    answer.unwrap_or(0)
 }

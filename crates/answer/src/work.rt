@@ -1,7 +1,7 @@
 // The work slices: their least lengths, and that they are cleared.
-ghost use Rattle.std.specs.Prelude.{◌&&◌, [], ◌≡◌, leb};
-ghost use Rattle.grammar.specs.Limits.{least_text, least_store};
-ghost use Rattle.answer.specs.Told.{slices, normal_slices, Cleared, NumbersCleared};
+ghost use Rattle.std.specs.Prelude.{[], ◌≡◌};
+ghost use Rattle.answer.specs.Told.{slices, normal_slices, fit, numbers_fit, Cleared, NumbersCleared};
+ghost use Rattle.answer.specs.Lent.{SameWork, SameNumbers, slices_of, numbers_of};
 
 use grammar::state::Parser;
 use store::stack;
@@ -15,47 +15,56 @@ pub const ENDS: usize = 2 * Parser::ENTRIES;
 
 pub const NUMBERS: usize = 2 * Parser::SYMBOL;
 
-// Whether the work slices of both entries are as long as they have to be, `ends` with `least` numbers.
-pub fn work_fits(text: usize, store: usize, ends: usize, least: usize) -> bool
-    ensures { result ≡ (leb least_text text && leb least_store store && leb least ends) }
-{
-    if text < TEXT {
-        return false;
-    }
-    if store < STORE {
-        return false;
-    }
-    least <= ends
+// The work slices of both entries.
+#[derive(Drop)]
+pub struct Work<'a> {
+    pub text: &'a mut [u8],
+    pub store: &'a mut [u8],
+    pub ends: &'a mut [u16],
 }
 
-// The same of the slices that only the entry for normal symbols has, with `least` numbers each.
-pub fn numbers_fit(words: usize, tables: usize, chains: usize, least: usize) -> bool
-    ensures { result ≡ (leb least words && leb least tables && leb least chains) }
-{
-    if words < least {
-        return false;
-    }
-    if tables < least {
-        return false;
-    }
-    least <= chains
+// Those that only the entry for normal symbols has.
+#[derive(Drop)]
+pub struct Numbers<'a> {
+    pub words: &'a mut [u16],
+    pub tables: &'a mut [u16],
+    pub chains: &'a mut [u16],
 }
 
-// All of the work slices of both entries become zero.
-pub fn clear(text: &mut [u8], store: &mut [u8], ends: &mut [u16])
-    ensures { Cleared (slices [] text.old store.old ends.old) (slices [] text.new store.new ends.new) }
-{
-    stack::clear(text);
-    stack::clear(store);
-    stack::clear_ends(ends);
+impl Work<'_> {
+    // Whether they are as long as they have to be, `ends` with `least` numbers.
+    pub fn fits(&self, least: usize) -> bool
+        ensures { result ≡ fit least (slices_of [] self.now) }
+    {
+        TEXT <= self.text.len() && STORE <= self.store.len() && least <= self.ends.len()
+    }
+
+    // All of them become zero.
+    pub fn clear(&mut self)
+        ensures same { SameWork self.old self.new }
+        ensures cleared { Cleared (slices_of [] self.old) (slices_of [] self.new) }
+    {
+        stack::clear(self.text);
+        stack::clear(self.store);
+        stack::clear_ends(self.ends);
+    }
 }
 
-// And all of the others.
-pub fn clear_numbers(words: &mut [u16], tables: &mut [u16], chains: &mut [u16])
-    ensures { NumbersCleared (normal_slices [] [] [] [] words.old tables.old chains.old)
-        (normal_slices [] [] [] [] words.new tables.new chains.new) }
-{
-    stack::clear_ends(words);
-    stack::clear_ends(tables);
-    stack::clear_ends(chains);
+impl Numbers<'_> {
+    // Whether each has `least` numbers.
+    pub fn fits(&self, least: usize) -> bool
+        ensures { result ≡ numbers_fit least (numbers_of self.now) }
+    {
+        least <= self.words.len() && least <= self.tables.len() && least <= self.chains.len()
+    }
+
+    // All of them become zero.
+    pub fn clear(&mut self)
+        ensures same { SameNumbers self.old self.new }
+        ensures cleared { NumbersCleared (numbers_of self.old) (numbers_of self.new) }
+    {
+        stack::clear_ends(self.words);
+        stack::clear_ends(self.tables);
+        stack::clear_ends(self.chains);
+    }
 }

@@ -18,6 +18,8 @@ use Rattle.grammar.specs.declared.state.Read.{Read}
 use Rattle.grammar.specs.declared.state.Read.TheVariants.{Text as read, Refused}
 use Rattle.grammar.specs.States.{fresh, raised_to, moved_to}
 use Rattle.parser.specs.Holds.{Memory, mem, window, part, low_bytes, high_bytes, low_ends, high_ends, Holds, Stands, Refines, keep}
+use Rattle.grammar.specs.Refusals.{refusal_number}
+use Rattle.grammar.specs.declared.refusal.Refusal.{Refusal}
 
 -- ---------------------------------------------------------------- functions
 
@@ -83,7 +85,7 @@ pub record Prints (k : ℕ) (s base : Text) (m : Memory) (p : Parser) (n : ℕ) 
 -- the code's answer is the grammar's
 pub data Encodes (k : ℕ) (s base : Text) (m : Memory) : Read → Result Text → Type 0 where
   encodes : {p : Parser} {n : ℕ} {t : Text} {σ : State} → Prints k s base m p n t σ → Encodes k s base m (read p n) (ok t σ)
-  refuses : {r : ℕ} → Encodes k s base m (Refused r) (refused r)
+  refuses : {r : Refusal} → Encodes k s base m (Refused r) (refused (refusal_number r))
 
 -- the work slices have their least lengths
 pub record Least (m : Memory) : Type 0 where

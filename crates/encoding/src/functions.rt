@@ -9,6 +9,7 @@ ghost use Rattle.encoding.specs.Encodings.{Qualifies, LoneVoid, GoesOn, with_par
 
 use grammar::codes;
 use grammar::codes::Word;
+use grammar::refusal::Refusal;
 use grammar::state::{Parser, Peeked, Read};
 use parser::memory;
 use reader::lists::{Kind, Texts};
@@ -103,7 +104,7 @@ fn function(
         return qualified(s, text, close, n + 2, from, to);
     }
     if Parser::TEXT < m {
-        return Read::Refused(11);
+        return Read::Refused(Refusal::LongText);
     }
     let close = memory::put(text, last, b")");
     qualified(s, text, close, n + m + 2, from, to)

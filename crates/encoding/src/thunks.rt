@@ -8,6 +8,7 @@ ghost use Rattle.parser.specs.Holds.{mem, window, keep};
 ghost use Rattle.encoding.specs.Encodings.{Fresh, Encodes, StepsOver, SteppedFrom, two_offsets};
 
 use crate::functions;
+use grammar::refusal::Refusal;
 use grammar::state::{Eaten, Parser, Read};
 use grammar::{numbers, text as bytes};
 use parser::memory;
@@ -83,7 +84,7 @@ fn thunk(
         (mem text.new store.new ends.new) result (onto (λ _. labelled label.now (function_or_data reading)) x) }
 {
     let Eaten::Next(p) = stepped else {
-        return Read::Refused(4);
+        return Read::Refused(Refusal::NoRule);
     };
     let labelled = memory::put(text, p, label);
     let got = functions::function_or_data(s, text, store, ends, labelled);

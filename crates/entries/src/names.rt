@@ -1,23 +1,17 @@
 // The entry for names.
-ghost use Rattle.answer.specs.Told.{slices};
+ghost use Rattle.answer.specs.Lent.{SameWork, slices_of};
 ghost use Rattle.entries.specs.Outcome.{Demangles};
 
-use answer::Answer;
-use answer::work::clear;
+use answer::work::Work;
 use demangle::reading::demangle_uncleared;
+use grammar::refusal::Refusal;
 
 // The name of the symbol, into `out`. Work slices of any lengths and contents.
-pub fn demangle(
-    s: &[u8],
-    out: &mut [u8],
-    text: &mut [u8],
-    store: &mut [u8],
-    ends: &mut [u16],
-) -> Answer
-    ensures { Demangles s.now (slices out.old text.old store.old ends.old)
-        (slices out.new text.new store.new ends.new) result }
+pub fn demangle(s: &[u8], out: &mut [u8], work: &mut Work) -> Result<usize, Refusal>
+    ensures same { SameWork work.old work.new }
+    ensures left { Demangles s.now (slices_of out.old work.old) (slices_of out.new work.new) result }
 {
-    let answer = demangle_uncleared(s, out, text, store, ends);
-    clear(text, store, ends);
+    let answer = demangle_uncleared(s, out, work);
+    work.clear();
     answer
 }

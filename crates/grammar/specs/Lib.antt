@@ -2,6 +2,7 @@ pub mod Limits
 pub mod Text
 pub mod Tables
 pub mod Reader
+pub mod Refusals
 pub mod Grammar
 pub mod Names
 pub mod Loops

@@ -11,6 +11,7 @@ use Rattle.grammar.specs.declared.state.Eaten.{Eaten}
 use Rattle.grammar.specs.declared.state.Eaten.TheVariants as eaten_as
 use Rattle.grammar.specs.declared.state.Read.{Read}
 use Rattle.grammar.specs.declared.state.Read.TheVariants as read_as
+use Rattle.grammar.specs.declared.refusal.Refusal.TheVariants.{TooDeep}
 
 -- the empty state
 abbrev pub fresh : Parser
@@ -29,7 +30,7 @@ abbrev pub deeper : Parser → Parser
 deeper p = record { at = p.at; depth = p.depth + 1; top = p.top; subs = p.subs; args = p.args; cv = p.cv; templated = p.templated }
 
 abbrev pub entered : Parser → Read
-entered p = if nat_lt p.depth most_open then read_as.Text (deeper p) 0 otherwise read_as.Refused 8
+entered p = if nat_lt p.depth most_open then read_as.Text (deeper p) 0 otherwise read_as.Refused TooDeep
 
 abbrev pub subs_to : Parser → ℕ → ℕ → Parser
 subs_to p count bytes = record { at = p.at; depth = p.depth; top = p.top; subs = record { count = count; bytes = bytes }; args = p.args; cv = p.cv; templated = p.templated }

@@ -3,5 +3,6 @@
 
 pub mod codes;
 pub mod numbers;
+pub mod refusal;
 pub mod state;
 pub mod text;

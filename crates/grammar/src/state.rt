@@ -2,6 +2,8 @@
 ghost use Rattle.std.specs.Prelude.{◌≡◌, drop};
 ghost use Rattle.grammar.specs.States.{fresh, peeked, taken, eaten, entered, at_depth, moved_to, raised_to, subs_to, args_to, cv_to, templated_to};
 
+use crate::refusal::Refusal;
+
 // How much of a table is used.
 #[derive(Clone, Copy)]
 pub struct Table {
@@ -40,7 +42,7 @@ pub struct Parser {
 #[derive(Clone, Copy)]
 pub enum Read {
     Text(Parser, usize),
-    Refused(u8),
+    Refused(Refusal),
 }
 
 #[derive(Clone, Copy)]
@@ -135,7 +137,7 @@ impl Parser {
     {
         let depth = self.depth;
         if Self::DEPTH <= depth {
-            return Read::Refused(8);
+            return Read::Refused(Refusal::TooDeep);
         }
         self.depth = depth + 1;
         Read::Text(self, 0)

@@ -2,16 +2,18 @@
 ghost use Rattle.std.specs.Prelude.{[], ◌≡◌, ◌≤◌, length, take};
 ghost use Rattle.std.proofs.Math.Option.{some};
 ghost use Rattle.grammar.specs.Limits.{most_symbol_bytes};
-ghost use Rattle.grammar.specs.Names.{demangle, number_of, within};
+ghost use Rattle.grammar.specs.Names.{demangle, within};
 ghost use Rattle.catalogue.specs.Answer.{normal_told, normal_answer, least_numbers};
-ghost use Rattle.answer.specs.Told.{slices, normal_slices, lent, Tells, Long, LongNumbers};
+ghost use Rattle.answer.specs.Told.{lent, told, numbered, Tells, Long, LongNumbers};
+ghost use Rattle.answer.specs.Lent.{SameWork, SameNumbers, slices_of, numbers_of, all_slices_of};
 ghost use Rattle.normal_steps.specs.Limits.{out_length};
 ghost use Rattle.normal_steps.specs.Carries.{Sized};
 ghost use Rattle.normalize.specs.Parts.{accepted_answer};
 
-use answer::{Answer, number, work};
-use demangle::symbol::Front;
+use answer::work;
+use answer::work::{Numbers, Work};
 use demangle::{reading, symbol};
+use grammar::refusal::Refusal;
 use grammar::state::Parser;
 use grammar::text as bytes;
 use normal_steps::state::Writer;
@@ -22,65 +24,53 @@ use normal_writer::symbol::Finished;
 pub fn normalize_uncleared(
     s: &[u8],
     out: &mut [u8],
-    text: &mut [u8],
-    store: &mut [u8],
-    ends: &mut [u16],
-    words: &mut [u16],
-    tables: &mut [u16],
-    chains: &mut [u16],
-) -> Answer
-    ensures { Tells (normal_answer most_symbol_bytes
-        (lent (normal_slices out.old text.old store.old ends.old words.old tables.old chains.old))
-        s.now) out.old out.new result }
+    work: &mut Work,
+    numbers: &mut Numbers,
+) -> Result<usize, Refusal>
+    ensures same { SameWork work.old work.new }
+    ensures same_numbers { SameNumbers numbers.old numbers.new }
+    ensures told { Tells (normal_answer most_symbol_bytes (lent (all_slices_of out.old work.old numbers.old)) s.now)
+        out.old out.new result }
 {
-    let front = symbol::behind_front(s);
-    let Front::Behind(_) = front else {
-        return reading::refused(front);
-    };
-    if !work::work_fits(text.len(), store.len(), ends.len(), work::NUMBERS) {
-        return Answer::Refused(14);
+    symbol::behind_front(s)?;
+    if !work.fits(work::NUMBERS) || !numbers.fits(work::NUMBERS) {
+        return Err(Refusal::ShortWork);
     }
-    if !work::numbers_fit(words.len(), tables.len(), chains.len(), work::NUMBERS) {
-        return Answer::Refused(14);
-    }
-    let first = accepted(s, text, store, ends);
-    if first != 0 {
-        return Answer::Refused(first);
-    }
-    write_within(s, out, store, ends, words, tables, chains)
+    accepted(s, work)?;
+    write_within(s, out, work, numbers)
 }
 
-// The reading for the name: the number of its refusal, or 0.
-fn accepted(s: &[u8], text: &mut [u8], store: &mut [u8], ends: &mut [u16]) -> u8
-    requires { Long least_numbers (slices [] text.old store.old ends.old) }
-    ensures { result ≡ number_of (demangle most_symbol_bytes s.now) }
+// The reading for the name, which is not kept.
+fn accepted(s: &[u8], work: &mut Work) -> Result<usize, Refusal>
+    requires { Long least_numbers (slices_of [] work.old) }
+    ensures same { SameWork work.old work.new }
+    ensures told { numbered result ≡ told (demangle most_symbol_bytes s.now) }
 {
     let mut name = [0u8; Parser::TEXT];
-    number(reading::demangle_uncleared(s, &mut name, text, store, ends))
+    reading::demangle_uncleared(s, &mut name, work)
 }
 
 // The normal symbol of an accepted symbol. It is written in `store` first: `text` may be too short for it.
 fn write_within(
     s: &[u8],
     out: &mut [u8],
-    store: &mut [u8],
-    ends: &mut [u16],
-    words: &mut [u16],
-    tables: &mut [u16],
-    chains: &mut [u16],
-) -> Answer
-    requires s_len_bound { (length s.now ≤ most_symbol_bytes) × ((out_length ≤ length store.old) × (least_numbers ≤ length ends.old)) }
-    requires long_numbers { LongNumbers least_numbers (normal_slices [] [] [] [] words.old tables.old chains.old) }
-    ensures { Tells (accepted_answer (length out.old) s.now) out.old out.new result }
+    work: &mut Work,
+    numbers: &mut Numbers,
+) -> Result<usize, Refusal>
+    requires long { (length s.now ≤ most_symbol_bytes) × Long least_numbers (slices_of [] work.old) }
+    requires long_numbers { LongNumbers least_numbers (numbers_of numbers.old) }
+    ensures same { SameWork work.old work.new }
+    ensures same_numbers { SameNumbers numbers.old numbers.new }
+    ensures told { Tells (accepted_answer (length out.old) s.now) out.old out.new result }
 {
     write(
         s,
         out,
-        &mut store[..Writer::OUT],
-        &mut ends[..work::NUMBERS],
-        &mut words[..work::NUMBERS],
-        &mut tables[..work::NUMBERS],
-        &mut chains[..work::NUMBERS],
+        &mut work.store[..Writer::OUT],
+        &mut work.ends[..work::NUMBERS],
+        &mut numbers.words[..work::NUMBERS],
+        &mut numbers.tables[..work::NUMBERS],
+        &mut numbers.chains[..work::NUMBERS],
     )
 }
 
@@ -92,27 +82,26 @@ fn write(
     words: &mut [u16],
     tables: &mut [u16],
     chains: &mut [u16],
-) -> Answer
+) -> Result<usize, Refusal>
     requires { (length s.now ≤ most_symbol_bytes) × ((length store.old ≡ out_length) × Sized ends.old words.old tables.old chains.old) }
     ensures { Tells (accepted_answer (length out.old) s.now) out.old out.new result }
 {
     let Finished::Symbol(p) = writing::write_symbol(s, store, ends, words, tables, chains) else {
-        return Answer::Refused(6);
+        return Err(Refusal::NotCatalogue);
     };
-    print(out, store, p.out)
+    print(out, &store[..p.out])
 }
 
-// The first n bytes as the normal symbol: 13 where it is too long, 12 where `out` is too short.
-fn print(out: &mut [u8], text: &[u8], n: usize) -> Answer
-    requires { n ≤ length text.now }
-    ensures { Tells (within (length out.old) (normal_told most_symbol_bytes (some (take n text.now)))) out.old out.new result }
+// The text as the normal symbol.
+fn print(out: &mut [u8], text: &[u8]) -> Result<usize, Refusal>
+    ensures { Tells (within (length out.old) (normal_told most_symbol_bytes (some text.now))) out.old out.new result }
 {
-    if Parser::SYMBOL < n {
-        return Answer::Refused(13);
+    if Parser::SYMBOL < text.len() {
+        return Err(Refusal::LongNormalSymbol);
     }
-    if out.len() < n {
-        return Answer::Refused(12);
+    if out.len() < text.len() {
+        return Err(Refusal::ShortOutput);
     }
-    bytes::copy(out, 0, &text[..n]);
-    Answer::Name(n)
+    bytes::copy(out, 0, text);
+    Ok(text.len())
 }

@@ -10,6 +10,9 @@ use Rattle.grammar.specs.declared.state.Parser.{Parser}
 use Rattle.grammar.specs.declared.state.Read.{Read}
 use Rattle.grammar.specs.declared.state.Read.TheVariants.{Text as read, Refused}
 use Rattle.grammar.specs.States.{raised_to}
+use Rattle.grammar.specs.Refusals.{refusal_number}
+use Rattle.grammar.specs.declared.refusal.Refusal.{Refusal}
+use Rattle.grammar.specs.declared.refusal.Refusal.TheVariants.{LongText}
 
 -- what the work slices hold
 pub record Memory : Type 0 where
@@ -85,7 +88,7 @@ pub record Stands (k d : ℕ) (s base : Text) (from : ℕ) (m : Memory) (p : Par
 -- the code's answer is the grammar's
 pub data Refines (k d : ℕ) (s base : Text) (from : ℕ) (m : Memory) : Read → Result Text → Type 0 where
   reads : {p : Parser} {n : ℕ} {t : Text} {σ : State} → Wrote k d s base from m p n t σ → Refines k d s base from m (read p n) (ok t σ)
-  refuses : {r : ℕ} → Refines k d s base from m (Refused r) (refused r)
+  refuses : {r : Refusal} → Refines k d s base from m (Refused r) (refused (refusal_number r))
 
 -- a reading of the code is a reader of the grammar, from every state that it holds
 abbrev pub Reads : Reader Text → ℕ → ℕ → Text → Memory → Memory → Parser → Read → Type 0
@@ -103,9 +106,9 @@ pub record Cuts (text text' : Text) (p p' : Parser) (k n : ℕ) : Type 0 where
 
 -- a text of n bytes returned
 unfoldable pub given_of : Parser → ℕ → Read
-given_of p n = if leb n most_text_bytes then read p n otherwise Refused 11
+given_of p n = if leb n most_text_bytes then read p n otherwise Refused LongText
 
 -- a push of the code is one of the grammar, and leaves the stack and the place
 pub data Pushes (s : Text) (m : Memory) (n : ℕ) (p : Parser) : Read → Result (Unit {0}) → Type 0 where
   pushed : {σ : State} → Holds s m p σ → Pushes s m n p (read p n) (ok tt σ)
-  full : {r : ℕ} → Pushes s m n p (Refused r) (refused r)
+  full : {r : Refusal} → Pushes s m n p (Refused r) (refused (refusal_number r))

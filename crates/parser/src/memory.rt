@@ -13,6 +13,7 @@ ghost use Rattle.parser.specs.Halves.{Room, Grows, with_args};
 ghost use Rattle.grammar.specs.States.{subs_to, args_to};
 
 use grammar::codes;
+use grammar::refusal::Refusal;
 use grammar::state::{Parser, Read, Table};
 use store::{stack, table};
 
@@ -94,7 +95,7 @@ pub fn given(p: Parser, n: usize) -> Read
     ensures { result ≡ given_of p n }
 {
     if Parser::TEXT < n {
-        return Read::Refused(11);
+        return Read::Refused(Refusal::LongText);
     }
     Read::Text(p, n)
 }
@@ -143,7 +144,7 @@ pub fn push_sub(text: &[u8], store: &mut [u8], ends: &mut [u16], p: Parser, n: u
         subs,
         n,
     ) {
-        return Read::Refused(9);
+        return Read::Refused(Refusal::TableFull);
     }
     Read::Text(p.with_subs(subs.count + 1, subs.bytes + n), n)
 }
@@ -165,7 +166,7 @@ pub fn push_arg(text: &[u8], store: &mut [u8], ends: &mut [u16], p: Parser, n: u
         args,
         n,
     ) {
-        return Read::Refused(10);
+        return Read::Refused(Refusal::ArgumentsFull);
     }
     Read::Text(p.with_args(args.count + 1, args.bytes + n), n)
 }
@@ -192,9 +193,9 @@ pub fn too_long(p: Parser, n: usize) -> Read
 {
     let subs = p.subs;
     if has_room(subs, n) {
-        return Read::Refused(11);
+        return Read::Refused(Refusal::LongText);
     }
-    Read::Refused(9)
+    Read::Refused(Refusal::TableFull)
 }
 
 // No template arguments are left.
@@ -215,7 +216,7 @@ fn entry(text: &mut [u8], store: &[u8], ends: &[u16], p: Parser, k: usize) -> Re
     let to = place.to;
     let n = to - from;
     if Parser::TEXT < n {
-        return Read::Refused(11);
+        return Read::Refused(Refusal::LongText);
     }
     Read::Text(put(text, p, &store[from..to]), n)
 }
@@ -229,7 +230,7 @@ pub fn recall(text: &mut [u8], store: &[u8], ends: &[u16], p: Parser, k: usize) 
 {
     let subs = p.subs;
     if subs.count <= k {
-        return Read::Refused(7);
+        return Read::Refused(Refusal::PastTable);
     }
     entry(
         text,

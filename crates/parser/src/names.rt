@@ -15,6 +15,7 @@ ghost use Rattle.parser.specs.References.{entry_at};
 use crate::memory;
 use grammar::codes::Word;
 use grammar::numbers::Number;
+use grammar::refusal::Refusal;
 use grammar::state::{Eaten, Parser, Read, Taken};
 use grammar::text::{before, here};
 use grammar::{codes, numbers};
@@ -70,7 +71,7 @@ pub fn source_name(s: &[u8], text: &mut [u8], p: Parser) -> Read
     loop {
         let at = next.at;
         let Found::Part(from, to) = identifier(s, at) else {
-            return Read::Refused(4);
+            return Read::Refused(Refusal::NoRule);
         };
         let size = to - from;
         next = memory::put_part(s, text, next.moved(to), from, to);
@@ -93,10 +94,10 @@ pub fn substitution(s: &[u8], text: &mut [u8], store: &[u8], ends: &[u16], p: Pa
         (mem text.new store.now ends.now) p result }
 {
     let Eaten::Next(behind) = p.eat(s, b'S') else {
-        return Read::Refused(4);
+        return Read::Refused(Refusal::NoRule);
     };
     let Taken::Byte(c, next) = behind.take(s) else {
-        return Read::Refused(4);
+        return Read::Refused(Refusal::NoRule);
     };
     let mut name = [0u8; codes::LONGEST];
     let Word::Bytes(n) = codes::abbreviation(&mut name, c) else {
@@ -116,13 +117,13 @@ fn old_entry(s: &[u8], text: &mut [u8], store: &[u8], ends: &[u16], p: Parser) -
     let number = numbers::seq_id(s, at);
     let end = number.next;
     let Eaten::Next(next) = p.moved(end).eat(s, b'_') else {
-        return Read::Refused(4);
+        return Read::Refused(Refusal::NoRule);
     };
     if end == at {
         return memory::recall(text, store, ends, next, 0);
     }
     if Parser::ENTRIES as u64 <= number.value {
-        return Read::Refused(7);
+        return Read::Refused(Refusal::PastTable);
     }
     let k = number.value as usize + 1;
     memory::recall(text, store, ends, next, k)
@@ -145,19 +146,19 @@ pub fn template_param(s: &[u8], text: &mut [u8], store: &[u8], ends: &[u16], p: 
         (mem text.new store.now ends.now) p result }
 {
     let Eaten::Next(behind) = p.eat(s, b'T') else {
-        return Read::Refused(4);
+        return Read::Refused(Refusal::NoRule);
     };
     let at = behind.at;
     let number = numbers::decimal(s, at);
     let end = number.next;
     let Eaten::Next(next) = behind.moved(end).eat(s, b'_') else {
-        return Read::Refused(4);
+        return Read::Refused(Refusal::NoRule);
     };
     if end == at {
         return argument(text, store, ends, next, 0);
     }
     if number.value == Number::PAST {
-        return Read::Refused(4);
+        return Read::Refused(Refusal::NoRule);
     }
     let i = number.value + 1;
     argument(text, store, ends, next, i)
@@ -199,13 +200,13 @@ pub fn unnamed_type_name(s: &[u8], text: &mut [u8], p: Parser) -> Read
         (mem text.old store ends) (mem text.new store ends) p result }
 {
     let Taken::Byte(kind, behind) = p.take(s) else {
-        return Read::Refused(4);
+        return Read::Refused(Refusal::NoRule);
     };
     let at = behind.at;
     if kind == b'l' {
         let end = before(s, at, b'E');
         if s.len() <= end {
-            return Read::Refused(4);
+            return Read::Refused(Refusal::NoRule);
         }
         let next = numbered(s, end + 1);
         return Read::Text(memory::put(text, behind.moved(next), b"{lambda}"), 8);

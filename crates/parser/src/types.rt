@@ -14,6 +14,7 @@ ghost use Rattle.parser.specs.Wraps.{Wrapper};
 use crate::{memory, names};
 use grammar::codes;
 use grammar::codes::Word;
+use grammar::refusal::Refusal;
 use grammar::state::{Parser, Read, Taken};
 use store::stack;
 
@@ -27,11 +28,11 @@ pub fn builtin_d(s: &[u8], text: &mut [u8], p: Parser) -> Read
 {
     let at = p.at;
     let Taken::Byte(c, next) = p.moved(at + 1).take(s) else {
-        return Read::Refused(4);
+        return Read::Refused(Refusal::NoRule);
     };
     let mut word = [0u8; codes::LONGEST];
     let Word::Bytes(n) = codes::builtin_d(&mut word, c) else {
-        return Read::Refused(4);
+        return Read::Refused(Refusal::NoRule);
     };
     names::word(text, next, &word, n)
 }
@@ -65,7 +66,7 @@ pub fn wrap(text: &mut [u8], store: &mut [u8], ends: &mut [u16], p: Parser, n: u
     if slots == 0 {
         let mut word = [0u8; codes::LONGEST];
         let Word::Bytes(more) = codes::wrapper(&mut word, c) else {
-            return Read::Refused(4);
+            return Read::Refused(Refusal::NoRule);
         };
         let next = memory::put_word(text, p, &word, more);
         return memory::recorded(text, store, ends, next, n + more);
@@ -102,7 +103,7 @@ pub fn wrap_slots(
 {
     let mut word = [0u8; codes::LONGEST];
     let Word::Bytes(each) = codes::slot_wrapper(&mut word, c) else {
-        return Read::Refused(4);
+        return Read::Refused(Refusal::NoRule);
     };
     let size = woven(n, slots, each);
     if Parser::TEXT < size {

@@ -13,6 +13,7 @@ use Rattle.parser.specs.Halves.{with_args}
 use Rattle.parser.specs.Laws.Halves.{newest_part}
 use Rattle.reader.specs.Cycle.{Instance}
 use Rattle.reader.specs.Laws.Standing.{stands_kept}
+use Rattle.grammar.specs.declared.refusal.Refusal.{Refusal}
 
 -- a text of n bytes was pushed, and it stands in the state that the push hands back
 pub record Kept (k d : ℕ) (s base : Text) (from : ℕ) (m : Memory) (q : Parser) (j n : ℕ) (t : Text) (f : Result (Unit {0})) : Type 0 where
@@ -35,13 +36,13 @@ module _ {k d : ℕ} {s base : Text} {from : ℕ} {text store ends store' ends' 
 
 -- a push that was refused is the whole answer
 pub push_refused :
-    {k d : ℕ} {s s' base : Text} {from : ℕ} {m m' : Memory} {p : Parser} {n : ℕ} {r : Read} {f : Result (Unit {0})} {j : ℕ} (g : Unit {0} → Reader Text) →
+    {k d : ℕ} {s s' base : Text} {from : ℕ} {m m' : Memory} {p : Parser} {n : ℕ} {r : Read} {f : Result (Unit {0})} {j : Refusal} (g : Unit {0} → Reader Text) →
     r ≡ Refused j → Pushes s m n p r f → Refines k d s' base from m' r (onto g f)
 unfolding onto
 push_refused {k} {d} {s} {s'} {base} {from} {m} {m'} {p} {n} {r} {f} {j} g e u =
     subst (λ (x : Read). Refines k d s' base from m' x (onto g f)) (sym e) (told (subst (λ (x : Read). Pushes s m n p x f) e u))
   where
-    told : {j : ℕ} {f : Result (Unit {0})} → Pushes s m n p (Refused j) f → Refines k d s' base from m' (Refused j) (onto g f)
+    told : {j : Refusal} {f : Result (Unit {0})} → Pushes s m n p (Refused j) f → Refines k d s' base from m' (Refused j) (onto g f)
     told full = refuses
 
 -- the answer by an equation

@@ -19,6 +19,8 @@ use Rattle.reader.specs.declared.lists.Parts.{Parts}
 use Rattle.reader.specs.declared.lists.Prefix.{Prefix}
 use Rattle.reader.specs.declared.lists.Prefix.TheVariants as prefix_as
 use Rattle.reader.specs.Separators.{before}
+use Rattle.grammar.specs.Refusals.{refusal_number}
+use Rattle.grammar.specs.declared.refusal.Refusal.{Refusal}
 
 -- where a list of a kind goes on, what one of its texts is, and how many bytes below it are kept
 abbrev pub goes_on : Kind → Text → Bool
@@ -40,7 +42,7 @@ kept_by Arguments d = keep d
 pub data Lists (k d : ℕ) (s base : Text) (from : ℕ) (m : Memory) : Texts → Result (List Text) → Type 0 where
   listed : {p : Parser} {n count : ℕ} {ts : List Text} {σ : State} → Stands k d s base from m p n (join (b ", ") ts) σ → count ≡ length ts →
       Lists k d s base from m (items_as.Listed p n count) (ok ts σ)
-  unlisted : {r : ℕ} → Lists k d s base from m (items_as.Refused r) (refused r)
+  unlisted : {r : Refusal} → Lists k d s base from m (items_as.Refused r) (refused (refusal_number r))
 
 abbrev pub ReadsItems : Kind → Text → Memory → Memory → Parser → Texts → Type 0
 ReadsItems kind s m m' p r =
@@ -73,7 +75,7 @@ pub record Parted (k d : ℕ) (s base : Text) (from : ℕ) (m : Memory) (p : Par
 
 pub data Parting (k d : ℕ) (s base : Text) (from : ℕ) (m : Memory) : Prefix → Result g.Parts → Type 0 where
   parted : {p : Parser} {q : Parts} {ps : g.Parts} {σ : State} → Parted k d s base from m p q ps σ → Parting k d s base from m (prefix_as.Parts p q) (ok ps σ)
-  unparted : {r : ℕ} → Parting k d s base from m (prefix_as.Refused r) (refused r)
+  unparted : {r : Refusal} → Parting k d s base from m (prefix_as.Refused r) (refused (refusal_number r))
 
 abbrev pub ReadsPart : (g.Parts → Reader g.Parts) → Text → Memory → Memory → Parser → Parts → Prefix → Type 0
 ReadsPart f s m m' p q r =

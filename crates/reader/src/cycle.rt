@@ -24,6 +24,7 @@ ghost use Rattle.reader.specs.Lists.{ReadsItems, ReadsItem, ReadsPart, ReadsNewP
 use crate::lists::{Kind, Parts, Prefix, Texts};
 use crate::{instances, lists};
 use grammar::codes::Word;
+use grammar::refusal::Refusal;
 use grammar::state::{Eaten, Parser, Peeked, Read, Taken};
 use grammar::{codes, text as bytes};
 use parser::leaf::Skipped;
@@ -149,10 +150,10 @@ fn loc_fn(s: &[u8], text: &mut [u8], store: &mut [u8], ends: &mut [u16], p: Pars
         return lists::refused(list);
     };
     if Parser::TEXT < m {
-        return Read::Refused(11);
+        return Read::Refused(Refusal::LongText);
     }
     let Eaten::Next(closed) = last.eat(s, b'E') else {
-        return Read::Refused(4);
+        return Read::Refused(Refusal::NoRule);
     };
     let close = memory::put(text, closed, b")");
     memory::given(close, n + m + 2)
@@ -166,7 +167,7 @@ fn local_name(s: &[u8], text: &mut [u8], store: &mut [u8], ends: &mut [u16], p: 
         (mem text.old store.old ends.old) (mem text.new store.new ends.new) p result }
 {
     let Eaten::Next(behind) = p.eat(s, b'Z') else {
-        return Read::Refused(4);
+        return Read::Refused(Refusal::NoRule);
     };
     let got = loc_fn(s, text, store, ends, behind);
     let Read::Text(outer, n) = got else {
@@ -191,7 +192,7 @@ fn name_inner(s: &[u8], text: &mut [u8], store: &mut [u8], ends: &mut [u16], p: 
         (mem text.old store.old ends.old) (mem text.new store.new ends.new) p result }
 {
     let Taken::Byte(c, behind) = p.take(s) else {
-        return Read::Refused(4);
+        return Read::Refused(Refusal::NoRule);
     };
     match c {
         b'N' => nested_name(s, text, store, ends, p),
@@ -274,7 +275,7 @@ fn px_arg(
         return lists::unread(got);
     };
     if parts.count == 0 {
-        return Prefix::Refused(4);
+        return Prefix::Refused(Refusal::NoRule);
     }
     let n = memory::sum(parts.n, m);
     let kept = memory::push_sub(text, store, ends, named, n);
@@ -351,7 +352,7 @@ fn nested_name(s: &[u8], text: &mut [u8], store: &mut [u8], ends: &mut [u16], p:
         (mem text.old store.old ends.old) (mem text.new store.new ends.new) p result }
 {
     let Eaten::Next(behind) = p.eat(s, b'N') else {
-        return Read::Refused(4);
+        return Read::Refused(Refusal::NoRule);
     };
     let from = behind.at;
     let to = leaf::qualifiers(s, from);
@@ -364,7 +365,7 @@ fn nested_name(s: &[u8], text: &mut [u8], store: &mut [u8], ends: &mut [u16], p:
     };
     loop {
         let Taken::Byte(c, last) = next.take(s) else {
-            return Read::Refused(4);
+            return Read::Refused(Refusal::NoRule);
         };
         if c == b'E' {
             let named = last.with_cv(from, to);
@@ -394,19 +395,19 @@ fn unq(s: &[u8], text: &mut [u8], store: &mut [u8], ends: &mut [u16], p: Parser)
     let at = bytes::behind(s, first, b'L');
     let q = p.moved(at);
     let Taken::Byte(c, behind) = q.take(s) else {
-        return Read::Refused(4);
+        return Read::Refused(Refusal::NoRule);
     };
     match c {
         b'0'..=b'9' => names::source_name(s, text, q),
         b'C' => {
             let Taken::Byte(_, next) = behind.take(s) else {
-                return Read::Refused(4);
+                return Read::Refused(Refusal::NoRule);
             };
             Read::Text(memory::put(text, next, b"{ctor}"), 6)
         }
         b'D' => {
             let Taken::Byte(_, next) = behind.take(s) else {
-                return Read::Refused(4);
+                return Read::Refused(Refusal::NoRule);
             };
             Read::Text(memory::put(text, next, b"{dtor}"), 6)
         }
@@ -424,7 +425,7 @@ fn operator(s: &[u8], text: &mut [u8], store: &mut [u8], ends: &mut [u16], p: Pa
 {
     let at = p.at;
     if s.len() <= at + 1 {
-        return Read::Refused(4);
+        return Read::Refused(Refusal::NoRule);
     }
     let a = s[at];
     let c = s[at + 1];
@@ -434,10 +435,10 @@ fn operator(s: &[u8], text: &mut [u8], store: &mut [u8], ends: &mut [u16], p: Pa
         return names::word(text, behind, &word, n);
     }
     if a != b'c' {
-        return Read::Refused(4);
+        return Read::Refused(Refusal::NoRule);
     }
     if c != b'v' {
-        return Read::Refused(4);
+        return Read::Refused(Refusal::NoRule);
     }
     let operator = memory::put(text, behind, b"operator ");
     let got = ty(s, text, store, ends, operator);
@@ -478,7 +479,7 @@ fn func(s: &[u8], text: &mut [u8], store: &mut [u8], ends: &mut [u16], p: Parser
         return lists::refused(list);
     };
     let Eaten::Next(next) = last.eat(s, b'E') else {
-        return Read::Refused(4);
+        return Read::Refused(Refusal::NoRule);
     };
     lists::func_end(text, store, ends, next, r, n, count)
 }
@@ -493,7 +494,7 @@ fn array(s: &[u8], text: &mut [u8], store: &mut [u8], ends: &mut [u16], p: Parse
     let from = p.at;
     let to = bytes::before(s, from, b'_');
     let Eaten::Next(behind) = p.moved(to).eat(s, b'_') else {
-        return Read::Refused(4);
+        return Read::Refused(Refusal::NoRule);
     };
     let got = ty(s, text, store, ends, behind);
     let Read::Text(next, n) = got else {
@@ -569,7 +570,7 @@ pub fn ty_inner(s: &[u8], text: &mut [u8], store: &mut [u8], ends: &mut [u16], p
         (mem text.old store.old ends.old) (mem text.new store.new ends.new) p result }
 {
     let Taken::Byte(c, behind) = p.take(s) else {
-        return Read::Refused(4);
+        return Read::Refused(Refusal::NoRule);
     };
     let mut word = [0u8; codes::LONGEST];
     if let Word::Bytes(n) = codes::builtin(&mut word, c) {
@@ -586,7 +587,7 @@ pub fn ty_inner(s: &[u8], text: &mut [u8], store: &mut [u8], ends: &mut [u16], p
         b'T' => names::template_param(s, text, store, ends, p),
         b'S' => at_s(s, text, store, ends, p, false),
         b'0'..=b'9' => class(s, text, store, ends, p),
-        _ => Read::Refused(4),
+        _ => Read::Refused(Refusal::NoRule),
     }
 }
 
@@ -681,7 +682,7 @@ pub fn args(s: &[u8], text: &mut [u8], store: &mut [u8], ends: &mut [u16], p: Pa
         (mem text.old store.old ends.old) (mem text.new store.new ends.new) p result }
 {
     let Eaten::Next(behind) = p.eat(s, b'I') else {
-        return Read::Refused(4);
+        return Read::Refused(Refusal::NoRule);
     };
     let entered = behind.enter();
     let Read::Text(inner, _) = entered else {
@@ -693,7 +694,7 @@ pub fn args(s: &[u8], text: &mut [u8], store: &mut [u8], ends: &mut [u16], p: Pa
         return lists::refused(list);
     };
     let Eaten::Next(closed) = last.eat(s, b'E') else {
-        return Read::Refused(4);
+        return Read::Refused(Refusal::NoRule);
     };
     let next = closed.leave(p.depth);
     let top = next.top;
@@ -719,7 +720,7 @@ fn pack(s: &[u8], text: &mut [u8], store: &mut [u8], ends: &mut [u16], p: Parser
     let mut n: usize = 0;
     loop {
         let Taken::Byte(c, behind) = next.take(s) else {
-            return Read::Refused(4);
+            return Read::Refused(Refusal::NoRule);
         };
         if c == b'E' {
             next = behind;
@@ -761,7 +762,7 @@ pub fn arg(s: &[u8], text: &mut [u8], store: &mut [u8], ends: &mut [u16], p: Par
     if let Eaten::Next(behind) = p.eat(s, b'X') {
         let from = behind.at;
         let Skipped::To(end) = leaf::expression(s, from) else {
-            return Read::Refused(4);
+            return Read::Refused(Refusal::NoRule);
         };
         return Read::Text(memory::put(text, behind.moved(end), b"..."), 3);
     }
@@ -779,7 +780,7 @@ fn lit(s: &[u8], text: &mut [u8], store: &mut [u8], ends: &mut [u16], p: Parser)
         (mem text.old store.old ends.old) (mem text.new store.new ends.new) p result }
 {
     let Eaten::Next(behind) = p.eat(s, b'L') else {
-        return Read::Refused(4);
+        return Read::Refused(Refusal::NoRule);
     };
     if let Eaten::Next(mangled) = behind.eat(s, b'_') {
         let got = name(s, text, store, ends, mangled);
@@ -798,7 +799,7 @@ fn lit(s: &[u8], text: &mut [u8], store: &mut [u8], ends: &mut [u16], p: Parser)
     let from = next.at;
     let to = bytes::before(s, from, b'E');
     let Eaten::Next(last) = next.moved(to).eat(s, b'E') else {
-        return Read::Refused(4);
+        return Read::Refused(Refusal::NoRule);
     };
     literal::literal(s, text, last, n, from, to)
 }

@@ -7,6 +7,7 @@ ghost use Rattle.reader.specs.Funcs.{FuncEnd};
 ghost use Rattle.reader.specs.Structors.{tilde_of};
 ghost use Rattle.reader.specs.Lists.{refused_of, unlisted_of, unprefixed_of, unread_of, stops_at, Separates, longer_of, before_text, ends_pack, opens_pack, CtorDtor};
 
+use grammar::refusal::Refusal;
 use grammar::state::{Parser, Read};
 use parser::{leaf, memory};
 use store::stack;
@@ -26,7 +27,7 @@ pub enum Kind {
 #[derive(Clone, Copy)]
 pub enum Texts {
     Listed(Parser, usize, usize),
-    Refused(u8),
+    Refused(Refusal),
 }
 
 // The parts of a nested name so far: all of them, and the last.
@@ -41,7 +42,7 @@ pub struct Parts {
 #[derive(Clone, Copy)]
 pub enum Prefix {
     Parts(Parser, Parts),
-    Refused(u8),
+    Refused(Refusal),
 }
 
 pub fn refused(list: Texts) -> Read

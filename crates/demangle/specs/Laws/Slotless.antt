@@ -1,16 +1,14 @@
 -- Laws of a text without its slots. Assumes nothing.
-use Rattle.std.specs.Prelude.{Bool, true, false, [], ◌∷◌, ◌++◌, ◌≡◌, refl, ℕ, suc, ◌+◌, ◌≤◌, ◌<◌, eqb, length, take, drop, get_or, set}
-use Rattle.std.proofs.Common.{append_assoc, append-nil, sym, ap, ap₂, ◌∙◌, add-one, arith, eq-eqb, ne_eqb, length-append, length-drop, take-append-drop, take-suc, take-take, drop-cons, get_or-drop}
+use Rattle.std.specs.Prelude.{Bool, true, false, cond, not, List, [], ◌∷◌, ◌++◌, ◌≡◌, refl, ℕ, suc, ◌+◌, ◌≤◌, ◌<◌, eqb, length, take, drop, get_or, set, filter}
+use Rattle.std.specs.List.{enumerate_from}
+use Rattle.std.proofs.Common.{append_assoc, sym, ap, ap₂, ◌∙◌, add-one, arith, take-suc, length-take-le, drop-cons}
 use Rattle.std.proofs.Math.Seq.{paste, take-length}
+use Rattle.std.proofs.lemmas.Grind.{get_or_default_zero}
 use Rattle.std.proofs.lemmas.List.{set_at}
+use Rattle.std.proofs.lemmas.List.FromFn.{get_or-enumerate_from, length-enumerate_from}
 use Rattle.grammar.specs.Text.{Text, if◌then◌otherwise◌, each}
 use Rattle.grammar.specs.Names.{without_slots}
 use Rattle.store.specs.Stack.{slots_in}
-
-slotless_append : (s t : Text) → without_slots (s ++ t) ≡ without_slots s ++ without_slots t
-unfolding without_slots each
-slotless_append [] t = refl
-slotless_append (x ∷ s) t = rw (slotless_append s t, append_assoc)
 
 one : (x : ℕ) (t : Text) (q : Bool) → (if q then 1 otherwise 0) + length ((if q then [] otherwise x ∷ []) ++ t) ≡ 1 + length t
 unfolding if◌then◌otherwise◌
@@ -40,43 +38,47 @@ slotless_copied t out e =
     ap₂ (λ (x : Text) (k : ℕ). x ++ drop k out) (take-length t) (let z : 0 + length t ≡ length t = omega arith in z)
     ∙ ap (λ (x : Text). x ++ drop (length x) out) (sym (slotless_same t e))
 
--- a front is no longer than the whole
-slotless_part : (i n : ℕ) (t : Text) → i ≤ n → length (without_slots (take i t)) ≤ length (without_slots (take n t))
-slotless_part i n t h =
-    omega (
-      arith,
-      ap (λ (z : Text). length (without_slots z)) (sym (take-append-drop i (take n t)))
-          ∙ ap (λ (z : Text). length (without_slots (z ++ drop i (take n t)))) (take-take i n t h)
-          ∙ ap length (slotless_append (take i t) (drop i (take n t))) ∙ length-append (without_slots (take i t)) (without_slots (drop i (take n t))),
-    )
+-- ---- its bytes, one after the other
 
--- ---- one byte more
+abbrev pub no_slot : ℕ → Bool
+no_slot x = not (eqb x 1)
 
-module _ (t : Text) (f i : ℕ) (h : f + i < length t) where
-  more : without_slots (take (i + 1) (drop f t)) ≡ without_slots (take i (drop f t)) ++ without_slots (get_or t (f + i) 0 ∷ [])
-  more =
-      ap (λ (k : ℕ). without_slots (take k (drop f t))) (add-one i)
-      ∙ ap without_slots (take-suc (drop f t) i 0 (simp length-drop (omega arith)))
-      ∙ slotless_append (take i (drop f t)) (get_or (drop f t) i 0 ∷ [])
-      ∙ ap (λ (x : ℕ). without_slots (take i (drop f t)) ++ without_slots (x ∷ [])) (get_or-drop f t i 0)
+kept : (x : ℕ) (s t : Text) (q : Bool) → s ≡ t → cond (not q) (x ∷ s) s ≡ (if q then [] otherwise x ∷ []) ++ t
+unfolding if◌then◌otherwise◌
+kept x s t true e = e
+kept x s t false e = ap (λ (z : Text). x ∷ z) e
 
-  pub slotless_skip : get_or t (f + i) 0 ≡ 1 → without_slots (take (i + 1) (drop f t)) ≡ without_slots (take i (drop f t))
-  unfolding without_slots each if◌then◌otherwise◌
-  slotless_skip e = more ∙ rw (eq-eqb (get_or t (f + i) 0) 1 e) (append-nil (without_slots (take i (drop f t))))
+slotless_filter : (t : Text) → filter no_slot t ≡ without_slots t
+unfolding without_slots each
+slotless_filter [] = refl
+slotless_filter (x ∷ t) = kept x (filter no_slot t) (without_slots t) (eqb x 1) (slotless_filter t)
 
-  pub slotless_more : (get_or t (f + i) 0 ≡ 1 → ⊥) → without_slots (take (i + 1) (drop f t)) ≡ without_slots (take i (drop f t)) ++ (get_or t (f + i) 0 ∷ [])
-  unfolding without_slots each if◌then◌otherwise◌
-  slotless_more e = more ∙ rw (ne_eqb (get_or t (f + i) 0) 1 e)
+byte_behind : (w out : Text) (i : ℕ) → i < length w → length w ≤ length out → set (take i w ++ drop i out) i (get_or w i 0) ≡ take (i + 1) w ++ drop (i + 1) out
+byte_behind w out i h l =
+    ap (λ (z : Text). set (take i w ++ z) i (get_or w i 0)) (drop-cons out i 0 (omega arith))
+    ∙ set_at (take i w) (get_or out i 0) (drop (suc i) out) (get_or w i 0) i (length-take-le i w (omega arith))
+    ∙ sym (append_assoc (take i w) (get_or w i 0 ∷ []) (drop (suc i) out))
+    ∙ ap₂ (λ (z : Text) (k : ℕ). z ++ drop k out) (sym (take-suc w i 0 h) ∙ ap (λ (k : ℕ). take k w) (sym (add-one i))) (sym (add-one i))
 
-  -- a byte that is no slot has its place
-  pub slotless_room : {n : ℕ} → (get_or t (f + i) 0 ≡ 1 → ⊥) → i < n → length (without_slots (take i (drop f t))) < length (without_slots (take n (drop f t)))
-  slotless_room {n} e l =
-      omega (arith, slotless_part (i + 1) n (drop f t) (omega arith), ap length (slotless_more e) ∙ length-append (without_slots (take i (drop f t))) (get_or t (f + i) 0 ∷ []))
+module _ (t : Text) where
+  abbrev pub bytes_of : List (ℕ × ℕ)
+  bytes_of = enumerate_from 0 (filter no_slot t)
 
--- a byte is written behind those that are there
-pub byte_behind : (w out : Text) (at x : ℕ) → at ≡ length w → at < length out → set (w ++ drop at out) at x ≡ (w ++ (x ∷ [])) ++ drop (at + 1) out
-byte_behind w out at x e h =
-    ap (λ (z : Text). set (w ++ z) at x) (drop-cons out at 0 h)
-    ∙ set_at w (get_or out at 0) (drop (suc at) out) x at (sym e)
-    ∙ ap (λ (k : ℕ). w ++ x ∷ drop k out) (sym (add-one at))
-    ∙ sym (append_assoc w (x ∷ []) (drop (at + 1) out))
+  -- the byte of a turn, and its place
+  pub slotless_turn : {i at c : ℕ} → i < length bytes_of → (at, c) ≡ get_or bytes_of i (at, c) → (i < length (without_slots t)) × ((at ≡ i) × (c ≡ get_or (without_slots t) i 0))
+  slotless_turn {i} {at} {c} h e =
+      let l : i < length (filter no_slot t) = omega (arith, h, length-enumerate_from 0 (filter no_slot t)) in
+      let g = e ∙ get_or-enumerate_from 0 (filter no_slot t) i (at, c) l in
+      let f : c ≡ get_or (filter no_slot t) i 0 = ap (λ (p : ℕ × ℕ). p.1) g ∙ get_or_default_zero (filter no_slot t) i c l in
+      (rw (slotless_filter t) at l, (omega (arith, ap (λ (p : ℕ × ℕ). p.0) g), rw (slotless_filter t) at f))
+
+  -- it is written behind those that are there
+  module _ (out : Text) {o : Text} {i : ℕ} (e : o ≡ take i (without_slots t) ++ drop i out) where
+    pub slotless_step : {at c n : ℕ} → length (without_slots t) ≤ length out → (i < length (without_slots t)) × ((at ≡ i) × (c ≡ get_or (without_slots t) i 0)) → n ≡ i + 1
+        → set o at c ≡ take n (without_slots t) ++ drop n out
+    slotless_step l h f = rw (e, h.1.0, h.1.1, f) (byte_behind (without_slots t) out i h.0 l)
+
+    pub slotless_end : i ≡ length bytes_of → o ≡ without_slots t ++ drop (length (without_slots t)) out
+    slotless_end h =
+        let f : i ≡ length (without_slots t) = h ∙ length-enumerate_from 0 (filter no_slot t) ∙ ap length (slotless_filter t) in
+        e ∙ rw (f, take-length (without_slots t)) refl

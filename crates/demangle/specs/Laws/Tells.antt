@@ -1,6 +1,6 @@
 -- Laws of the answer for a text that was read. Assumes nothing.
-use Rattle.std.specs.Prelude.{true, false, [], ◌≡◌, refl, ℕ, ◌-◌, ◌≤◌, ◌<◌, length, drop}
-use Rattle.std.proofs.Common.{sym, ap, ◌∙◌, subst, arith, length-drop, length-take-le}
+use Rattle.std.specs.Prelude.{true, false, [], ◌≡◌, refl, ℕ, ◌-◌, ◌≤◌, ◌<◌, length, drop, Err}
+use Rattle.std.proofs.Common.{ap, ◌∙◌, arith, length-drop, length-take-le}
 use borrow.Author.Tests.{le-leb, lt-leb}
 use Rattle.grammar.specs.Text.{Text, if◌then◌otherwise◌}
 use Rattle.grammar.specs.Reader.{State, Result, ok, refused, start}
@@ -12,11 +12,11 @@ use Rattle.grammar.specs.declared.state.Parser.{Parser}
 use Rattle.grammar.specs.declared.state.Read.{Read}
 use Rattle.grammar.specs.declared.state.Read.TheVariants.{Text as read, Refused as unread}
 use Rattle.parser.specs.Holds.{Memory, mem, keep}
-use Rattle.answer.specs.declared.Answer.{Answer as Code}
+use Rattle.grammar.specs.Refusals.{refusal_number}
+use Rattle.grammar.specs.declared.refusal.Refusal.{Refusal}
 use Rattle.encoding.specs.Encodings.{Prints, Encodes, encodes, refuses}
 use Rattle.answer.specs.Told.{Tells}
 use Rattle.answer.specs.Laws.Told.{tells_refusal}
-use Rattle.demangle.specs.Printed.{unread_of}
 use Rattle.demangle.specs.Laws.Slotless.{slotless_length}
 
 -- ---- the definition's answer, by its tests
@@ -59,9 +59,9 @@ module _ {s text store ends : Text} {p : Parser} {n : ℕ} {t : Text} {σ : Stat
 -- ---- what the reading told
 
 module _ {k : ℕ} {s base : Text} {m : Memory} where
-  not_read : {g : Read} {x : Result Text} {r : ℕ} → Encodes k s base m g x → g ≡ unread r → x ≡ refused r
+  not_read : {g : Read} {x : Result Text} {r : Refusal} → Encodes k s base m g x → g ≡ unread r → x ≡ refused (refusal_number r)
   not_read (encodes h) e = absurd (let z : ◌≡◌ {A = ℕ} 0 1 = cc in omega arith)
-  not_read refuses e = cc
+  not_read (refuses {r = r'}) e = let a : r' ≡ _ = cc in ap (λ (y : Refusal). refused (refusal_number y)) a
 
   pub was_read : {g : Read} {x : Result Text} {p : Parser} {n : ℕ} → Encodes k s base m g x → g ≡ read p n
       → (t : Text) × ((σ : State) × ((x ≡ ok t σ) × Prints k s base m p n t σ))
@@ -72,8 +72,7 @@ module _ {k : ℕ} {s base : Text} {m : Memory} where
   was_read refuses e = absurd (let z : ◌≡◌ {A = ℕ} 0 1 = cc in omega arith)
 
 -- a reading that was refused
-pub tells_unread : {k : ℕ} {s base : Text} (out : Text) {m : Memory} {g : Read} {r : ℕ} {x : Code} → Encodes k s base m g (reading ⟨encoding⟩ (start s)) → g ≡ unread r
-    → x ≡ unread_of g → Tells (within (length out) (mangled_name s)) out out x
+pub tells_unread : {k : ℕ} {s base : Text} (out : Text) {m : Memory} {g : Read} {r : Refusal} → Encodes k s base m g (reading ⟨encoding⟩ (start s)) → g ≡ unread r
+    → Tells (within (length out) (mangled_name s)) out out (Err r)
 unfolding mangled_name finished within
-tells_unread {s = s} out h e f =
-    subst (Tells (within (length out) (mangled_name s)) out out) (sym (f ∙ ap unread_of e)) (tells_refusal (ap (λ (y : Result Text). within (length out) (finished y)) (not_read h e)))
+tells_unread {s = s} out h e = tells_refusal (ap (λ (y : Result Text). within (length out) (finished y)) (not_read h e))

@@ -14,6 +14,9 @@ use Rattle.grammar.specs.declared.state.Read.TheVariants.{Text as read, Refused}
 use Rattle.parser.specs.Holds.{Memory, Refines, reads, given_of}
 use Rattle.parser.specs.Holds as holds
 use Rattle.encoding.specs.Encodings.{Prints, Encodes, encodes, refuses}
+use Rattle.grammar.specs.Refusals.{refusal_number}
+use Rattle.grammar.specs.declared.refusal.Refusal.{Refusal}
+use Rattle.grammar.specs.declared.refusal.Refusal.TheVariants.{LongText}
 
 module _ {k : ℕ} {s base : Text} {m : Memory} where
   pub encodes_by : {r : Read} {f g : Result Text} → f ≡ g → Encodes k s base m r g → Encodes k s base m r f
@@ -31,7 +34,7 @@ module _ {k : ℕ} {s base : Text} {m : Memory} where
   encodes_refines l holds.refuses = refuses
 
   -- an answer without a text is the whole answer
-  pub encodes_refused : {j d : ℕ} {s' base' : Text} {from : ℕ} {m' : Memory} {r : Read} {f : Result Text} {i : ℕ} (g : Text → Reader Text) → r ≡ Refused i → Refines j d s' base' from m' r f → Encodes k s base m r (onto g f)
+  pub encodes_refused : {j d : ℕ} {s' base' : Text} {from : ℕ} {m' : Memory} {r : Read} {f : Result Text} {i : Refusal} (g : Text → Reader Text) → r ≡ Refused i → Refines j d s' base' from m' r f → Encodes k s base m r (onto g f)
   unfolding onto
   encodes_refused {j} {d} {s'} {base'} {from} {m'} {r} {f} {i} g e h =
       subst (λ (x : Read). Encodes k s base m x (onto g f)) (sym e) (told (subst (λ (x : Read). Refines j d s' base' from m' x f) e h))
@@ -44,7 +47,7 @@ module _ {k : ℕ} {s base : Text} {m : Memory} where
   encodes_given {p} {n} {t} {σ} {v} e z h = subst (λ (x : Read). Encodes k s base m x (give t σ)) (sym e) (go (leb n most_text_bytes) refl)
     where
       given : Bool → Read
-      given q = if q then read p n otherwise Refused 11
+      given q = if q then read p n otherwise Refused LongText
 
       told : Bool → State → Result Text
       told q = if q then (λ u. ok t u) otherwise (λ u. refused 11)
@@ -58,7 +61,7 @@ module _ {k : ℕ} {s base : Text} {m : Memory} where
           encodes_by (ap (λ (q : Bool). told q σ) (lt-leb (length t) most_text_bytes l)) refuses
 
 module _ {k : ℕ} {s base : Text} {m : Memory} where
-  pub refusal : {j : ℕ} {f : Result Text} → Encodes k s base m (Refused j) f → f ≡ refused j
+  pub refusal : {j : Refusal} {f : Result Text} → Encodes k s base m (Refused j) f → f ≡ refused (refusal_number j)
   refusal refuses = refl
 
 -- what an answer with a text says

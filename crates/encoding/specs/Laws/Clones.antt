@@ -29,6 +29,8 @@ use Rattle.encoding.specs.Encodings.{Fresh, Encodes, refuses, Least}
 use Rattle.encoding.specs.Laws.Answers.{encodes_by, refusal, Answered, answered}
 use Rattle.encoding.specs.Laws.Labels.{after, clone, clone_read}
 use Rattle.encoding.specs.Laws.Specials.{prefixed}
+use Rattle.grammar.specs.Refusals.{refusal_number}
+use Rattle.grammar.specs.declared.refusal.Refusal.{Refusal}
 
 -- ---------------------------------------------------------------- slices with nothing in them
 
@@ -139,7 +141,7 @@ module _ {s text₀ text : Text} {p₀ p : Parser} {n at : ℕ} (c : Clones s te
       read_is : (at ≡ 0 → ⊥) → reading ⟨encoding⟩ (start s) ≡ onto (after c.words) (reading ⟨encoding⟩ (start part))
       read_is h = c.is h ∙ ap (λ (t : Text). onto (after c.words) (reading ⟨encoding⟩ (start t))) (sym i)
 
-      pub clones_refused : {j : ℕ} → r ≡ Refused j → Encodes (keep 0) s [] m r (reading ⟨encoding⟩ (start s))
+      pub clones_refused : {j : Refusal} → r ≡ Refused j → Encodes (keep 0) s [] m r (reading ⟨encoding⟩ (start s))
       unfolding onto
       clones_refused {j} e = go (eqb at 0) refl
         where
@@ -147,7 +149,7 @@ module _ {s text₀ text : Text} {p₀ p : Parser} {n at : ℕ} (c : Clones s te
           go true x = clones_none (eqb-true at 0 x)
           go false x =
               encodes_by (read_is (eqb-false at 0 x) ∙ ap (onto (after c.words)) (refusal (subst (λ (v : Read). Encodes (keep 0) part (take p.top text) m v (reading ⟨encoding⟩ (start part))) e f)))
-              (subst (λ (v : Read). Encodes (keep 0) s [] m v (refused j)) (sym e) refuses)
+              (subst (λ (v : Read). Encodes (keep 0) s [] m v (refused (refusal_number j))) (sym e) refuses)
 
       pub clones_got : {next : Parser} {j : ℕ} → r ≡ read next j → Answered (keep 0) part (take p.top text) m next j (reading ⟨encoding⟩ (start part))
       clones_got e = answered (subst (λ (v : Read). Encodes (keep 0) part (take p.top text) m v (reading ⟨encoding⟩ (start part))) e f)

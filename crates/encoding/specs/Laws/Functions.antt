@@ -25,6 +25,8 @@ use Rattle.reader.specs.Lists.{Lists, listed, ReadsItems, refused_of}
 use Rattle.reader.specs.Laws.LocFns.{unlisted_on}
 use Rattle.reader.specs.Laws.Standing.{stands_joined, stands_least}
 use Rattle.encoding.specs.Encodings.{qualified_by, Qualifies, LoneVoid, GoesOn, with_parameters, with_returned}
+use Rattle.grammar.specs.declared.refusal.Refusal.{Refusal}
+use Rattle.grammar.specs.declared.refusal.Refusal.TheVariants.{LongText}
 
 -- ---------------------------------------------------------------- the definition
 
@@ -101,7 +103,7 @@ module _ {s text text₁ text₂ store ends store₂ ends₂ : Text} {p o : Pars
     abbrev closing : Text → Reader Text
     closing = closed_by t (qualified_by s from to)
 
-    pub items_refused : {m' : Memory} {j : ℕ} {v : Read} → r ≡ items_as.Refused j → v ≡ refused_of r → Opened m' v
+    pub items_refused : {m' : Memory} {j : Refusal} {v : Read} → r ≡ items_as.Refused j → v ≡ refused_of r → Opened m' v
     items_refused i g = by (parameters_is t (qualified_by s from to) σ) (unlisted_on listed_on closing i g (f σ (holds_puts u h.holds)))
 
     module _ (l : n ≤ most_text_bytes + 1 + most_text_bytes) {last : Parser} {m count : ℕ} (i : r ≡ items_as.Listed last m count) where
@@ -156,7 +158,7 @@ module _ {s text text₁ text₂ store ends store₂ ends₂ : Text} {p o : Pars
         void_given y g = by void_is (g _ _ _ _ _ _ _ _ (stands_puts bare_stands y (omega (arith, opened.size, closing_byte (t ++ b "(")))))
 
       module _ (x : LoneVoid s text₂ last m count false) where
-        pub list_long : {m' : Memory} → most_text_bytes < m → Opened m' (Refused 11)
+        pub list_long : {m' : Memory} → most_text_bytes < m → Opened m' (Refused LongText)
         unfolding onto if◌then◌otherwise◌
         list_long y = by (shown_is x ∙ ap (onto closing) (give_long words found.state (omega (arith, found.stands.size)))) refuses
 
@@ -197,7 +199,7 @@ module _ {s text store ends text₁ store₁ ends₁ : Text} {p : Parser} {r : R
         omega (arith, w.size, w.short, w.tail.most, size w.tail, top_size w.holds.text, top_size h.text, length-append (window (mem text store ends) p) returned.said)
 
   module _ {base : Text} {at n : ℕ} {t : Text} {σ : State} (from to : ℕ) (h : Stands (keep (p.depth + 1)) p.depth s base at (mem text store ends) p n t σ) where
-    pub type_refused : {m' : Memory} {j : ℕ} → r ≡ Refused j → Refines (keep p.depth) p.depth s base at m' r (with_returned t (qualified_by s from to) σ)
+    pub type_refused : {m' : Memory} {j : Refusal} → r ≡ Refused j → Refines (keep p.depth) p.depth s base at m' r (with_returned t (qualified_by s from to) σ)
     type_refused e = refused_on (λ x. with_parameters (x ++ b " " ++ t) (qualified_by s from to)) e (f σ h.holds)
 
     pub type_returned :

@@ -18,6 +18,7 @@ use Rattle.parser.specs.Laws.Holds.{by, by_state, less, Got, got, refused_on, ho
 use Rattle.reader.specs.Laws.Opens.{wrote_fits}
 use Rattle.encoding.specs.Encodings.{qualified_by, Qualifies, GoesOn, with_parameters, with_returned}
 use Rattle.encoding.specs.Laws.Functions.{goes_on_at}
+use Rattle.grammar.specs.declared.refusal.Refusal.{Refusal}
 
 -- ---------------------------------------------------------------- the definition
 
@@ -55,7 +56,7 @@ module _ {s text store ends text₁ store₁ ends₁ : Text} {p : Parser} {r : R
   abbrev pub Named : Memory → Read → Type 0
   Named m' v = Refines (keep p.depth) p.depth s (window (mem text store ends) p) (p.at + 1) m' v (function_or_data reading σ)
 
-  pub name_refused : {m' : Memory} {j : ℕ} → r ≡ Refused j → Named m' r
+  pub name_refused : {m' : Memory} {j : Refusal} → r ≡ Refused j → Named m' r
   name_refused e = by (named_is σ) (refused_on from_name e (f σ h))
 
   module _ {named : Parser} {n : ℕ} (e : r ≡ read named n) where

@@ -24,6 +24,7 @@ use Rattle.parser.specs.Laws.Adds.{puts_from}
 use Rattle.encoding.specs.Encodings.{Labels, Fresh, Encodes}
 use Rattle.encoding.specs.Laws.Answers.{encodes_by, encodes_refused, encodes_given}
 use Rattle.encoding.specs.Laws.Labels.{after, guard, guard_read, labelled_is, unlabelled_is}
+use Rattle.grammar.specs.declared.refusal.Refusal.{Refusal}
 
 -- ---------------------------------------------------------------- the empty state
 
@@ -75,7 +76,7 @@ module _ (s : Text) {part text store ends text₁ : Text} {p o : Parser} (l : le
     guard_is : reading ⟨encoding⟩ (start s) ≡ onto (after guard) (reading ⟨name⟩ (start part))
     guard_is = guard_read s e ∙ ap (λ (t : Text). onto (after guard) (reading ⟨name⟩ (start t))) (sym i)
 
-    pub guard_refused : {k : ℕ} {base : Text} {m' : Memory} {j : ℕ} → r ≡ Refused j → Encodes k s base m' r (reading ⟨encoding⟩ (start s))
+    pub guard_refused : {k : ℕ} {base : Text} {m' : Memory} {j : Refusal} → r ≡ Refused j → Encodes k s base m' r (reading ⟨encoding⟩ (start s))
     guard_refused x = encodes_by guard_is (encodes_refused (after guard) x (f (start part) guard_holds))
 
     pub guard_got : {next : Parser} {n : ℕ} → r ≡ read next n → Got (keep (o.depth + 1)) o.depth part (window (mem text₁ store ends) o) (o.at + 1) m₂ next n (reading ⟨name⟩ (start part))
@@ -93,7 +94,7 @@ module _ (s : Text) {part text store ends text₁ : Text} {p o : Parser} (l : le
 
 module _ {s text store ends text₁ : Text} {p o : Parser} {w : Text} {σ : State} (h : Holds s (mem text store ends) p σ) (u : Puts text text₁ p o w) {m₂ : Memory} {r : Read} {f : Reader Text}
     {k from : ℕ} (g : Reads f k from s (mem text₁ store ends) m₂ o r) where
-  pub behind_refused : {j : ℕ} {base : Text} {m' : Memory} {i : ℕ} → r ≡ Refused i → Encodes j s base m' r (labelled w f σ)
+  pub behind_refused : {j : ℕ} {base : Text} {m' : Memory} {i : Refusal} → r ≡ Refused i → Encodes j s base m' r (labelled w f σ)
   behind_refused y = encodes_refused (λ t. give (w ++ t)) y (g σ (holds_puts u h))
 
   pub behind_got : {next : Parser} {n : ℕ} → r ≡ read next n → Got k o.depth s (window (mem text₁ store ends) o) from m₂ next n (f σ)
@@ -128,7 +129,7 @@ module _ {s text store ends text₁ : Text} {p q o : Parser} {word : Text} {x : 
   label_holds = holds_puts (puts_from z u) label_moved
 
   module _ {m₂ : Memory} {r : Read} (f : Reads (reading ⟨type⟩) (keep (o.depth + 1)) (o.at + 1) s (mem text₁ store ends) m₂ o r) where
-    pub label_refused : {j : ℕ} {base : Text} {m' : Memory} {i : ℕ} → r ≡ Refused i → Encodes j s base m' r (reading ⟨encoding⟩ (start s))
+    pub label_refused : {j : ℕ} {base : Text} {m' : Memory} {i : Refusal} → r ≡ Refused i → Encodes j s base m' r (reading ⟨encoding⟩ (start s))
     label_refused y = encodes_by (labelled_is k e) (behind_refused label_moved (puts_from z u) f y)
 
     pub label_got : {next : Parser} {n : ℕ} → r ≡ read next n → Got (keep (o.depth + 1)) o.depth s (window (mem text₁ store ends) o) (o.at + 1) m₂ next n (reading ⟨type⟩ (moved (drop 2 s) (start s)))

@@ -24,6 +24,7 @@ use Rattle.parser.specs.Laws.Holds.{by_state, holds_moved}
 use Rattle.encoding.specs.Encodings.{Fresh, Encodes, refuses, Stepped, past, stopped, StepsOver, SteppedFrom, two_offsets}
 use Rattle.encoding.specs.Laws.Answers.{encodes_by}
 use Rattle.encoding.specs.Laws.Specials.{fresh_holds}
+use Rattle.grammar.specs.declared.refusal.Refusal.TheVariants.{NoRule}
 
 -- ---------------------------------------------------------------- what is stepped over, taken apart
 
@@ -158,7 +159,7 @@ row_starts {s} p c {f} {r} l h e z g = record {
 -- ---------------------------------------------------------------- a function or data behind offsets
 
 module _ {s : Text} {m : Memory} {p : Parser} {r : Eaten} {x : Result (Unit {0})} (h : SteppedFrom s m p r x) where
-  pub stopped_refused : {k : ℕ} {above : Text} (w : Text) {m' : Memory} → r ≡ Nothing → Encodes k s above m' (Refused 4) (onto (λ _. labelled w base) x)
+  pub stopped_refused : {k : ℕ} {above : Text} (w : Text) {m' : Memory} → r ≡ Nothing → Encodes k s above m' (Refused NoRule) (onto (λ _. labelled w base) x)
   unfolding onto
   stopped_refused w e = encodes_by (ap (onto (λ _. labelled w base)) (stepped_none h.stepped e)) refuses
 

@@ -1,6 +1,6 @@
 -- Demand 3 of what the two entries write. A run is given by the entry's contract alone, with slices of any lengths and contents.
 -- Assumes nothing.
-use Rattle.std.specs.Prelude.{◌↔◌, true, ◌≡◌, ◌≤◌, length, take}
+use Rattle.std.specs.Prelude.{◌↔◌, true, ◌≡◌, ℕ, ◌≤◌, length, take, Result}
 use Rattle.std.proofs.Math.Option.{some}
 use Rattle.std.proofs.Common.{sym, ap, subst, ◌∙◌}
 use Rattle.grammar.specs.Text.{Text}
@@ -12,7 +12,7 @@ use Rattle.catalogue.specs.Answer.{normal_work_fits}
 use Rattle.normal_walk.proofs.Laws.SymbolComplete.{walk_complete}
 use Rattle.normal_walk.proofs.Laws.Equal.{walk_is, walk_normal}
 use Rattle.agreement.specs.Laws.NormalNames.{demand_3_first, demand_3_second}
-use Rattle.answer.specs.declared.Answer.{Answer}
+use Rattle.grammar.specs.declared.refusal.Refusal.{Refusal}
 use Rattle.answer.specs.Told.{Slices, lent, number_in, bytes_in}
 use Rattle.entries.specs.Outcome.{Demangles, Normalizes}
 use Rattle.entries.specs.Laws.Runs.{Has_normal, name_written, writes_name, normal_written, writes_normal}
@@ -20,7 +20,7 @@ use Rattle.entries.specs.Laws.Runs.{Has_normal, name_written, writes_name, norma
 -- ---- runs
 
 -- a run answered 0, and the text stands in front of its output slice
-pub record Wrote (x : Text) (after : Slices) (r : Answer) : Type 0 where
+pub record Wrote (x : Text) (after : Slices) (r : Result ℕ Refusal) : Type 0 where
   pub number : number_in r ≡ 0
   pub text : take (bytes_in r) after.out ≡ x
 
@@ -28,7 +28,7 @@ pub record Wrote (x : Text) (after : Slices) (r : Answer) : Type 0 where
 pub record Named (s x : Text) : Type 0 where
   pub before : Slices
   pub after : Slices
-  pub answer : Answer
+  pub answer : Result ℕ Refusal
   pub runs : Demangles s before after answer
   pub wrote : Wrote x after answer
 
@@ -36,18 +36,18 @@ pub record Named (s x : Text) : Type 0 where
 pub record Normalized (s x : Text) : Type 0 where
   pub before : Slices
   pub after : Slices
-  pub answer : Answer
+  pub answer : Result ℕ Refusal
   pub runs : Normalizes s before after answer
   pub wrote : Wrote x after answer
 
 -- every run of the entry for names with slices that are long enough answers 0 for the symbol s, and writes x
 abbrev pub Always_named : Text → Text → Type 0
-Always_named s x = (before after : Slices) (r : Answer) → work_fits (lent before) ≡ true → length x ≤ length before.out → Demangles s before after r → Wrote x after r
+Always_named s x = (before after : Slices) (r : Result ℕ Refusal) → work_fits (lent before) ≡ true → length x ≤ length before.out → Demangles s before after r → Wrote x after r
 
 -- the same of the entry for normal symbols
 abbrev pub Always_normalized : Text → Text → Type 0
 Always_normalized s x =
-    (before after : Slices) (r : Answer) → normal_work_fits most_symbol_bytes (lent before) ≡ true → length x ≤ length before.out → Normalizes s before after r → Wrote x after r
+    (before after : Slices) (r : Result ℕ Refusal) → normal_work_fits most_symbol_bytes (lent before) ≡ true → length x ≤ length before.out → Normalizes s before after r → Wrote x after r
 
 -- ---- what they tell of the definitions
 

@@ -1,5 +1,5 @@
 -- What the entries answer and leave is what they did under the limit before T-07. Assumes nothing.
-use Rattle.std.specs.Prelude.{true, ◌≡◌}
+use Rattle.std.specs.Prelude.{true, ◌≡◌, ℕ, Result}
 use Rattle.std.proofs.Math.Path.{ap}
 use Rattle.std.proofs.Common.{◌∙◌}
 use Rattle.grammar.specs.Text.{Text}
@@ -8,11 +8,11 @@ use Rattle.grammar.specs.Names.{Answer, refusal, answer}
 use Rattle.grammar.specs.Laws.Longer.{earlier_symbol_bytes, earlier_answer}
 use Rattle.catalogue.specs.Answer.{normal_work_fits, normal_answer}
 use Rattle.catalogue.specs.Laws.Longer.{earlier_normal_answer}
-use Rattle.answer.specs.declared.Answer.{Answer as Code}
+use Rattle.grammar.specs.declared.refusal.Refusal.{Refusal}
 use Rattle.answer.specs.Told.{Slices, lent}
 use Rattle.entries.specs.Outcome.{leaves, Leaves, demangled, Demangles, normalized, Normalizes}
 
-module _ (s : Text) (l l' : Slices) (r : Code) where
+module _ (s : Text) (l l' : Slices) (r : Result ℕ Refusal) where
   pub earlier_demangles : Demangles s l l' r → (answer earlier_symbol_bytes (lent l) s ≡ refusal 1 → ⊥) → Leaves (answer earlier_symbol_bytes (lent l) s) l l' r
   unfolding demangled
   earlier_demangles h i = h ∙ ap (λ (a : Answer). leaves a l) (earlier_answer s (lent l) i)

@@ -1,5 +1,5 @@
 -- What a run of an entry with the number 0 wrote, and when a run writes. Assumes nothing.
-use Rattle.std.specs.Prelude.{Bool, true, false, ◌++◌, ◌≡◌, ℕ, ◌≤◌, leb}
+use Rattle.std.specs.Prelude.{Bool, true, false, ◌++◌, ◌≡◌, ℕ, ◌≤◌, leb, Result, Ok, Err}
 use Rattle.std.proofs.Math.Option.{Option, none, some}
 use Rattle.std.proofs.Math.Path.{refl, sym, ap, ap₂}
 use Rattle.std.proofs.Common.{◌∙◌, arith, le-leb, leb-true}
@@ -11,9 +11,8 @@ use Rattle.grammar.specs.Names.{Answer, named, refusal, front, mangled_name, dem
 use Rattle.grammar.specs.Laws.Fuel.{never_0}
 use Rattle.catalogue.specs.Recogniser.{classify}
 use Rattle.catalogue.specs.Answer.{normal_in, normal_told, normal_after, normal_symbol, normal_answer, normal_work_fits}
-use Rattle.answer.specs.declared.Answer.{Answer as Code}
-use Rattle.answer.specs.declared.Answer.TheVariants.{Name}
-use Rattle.answer.specs.Told.{Slices, lent, told, number_in, bytes_in}
+use Rattle.grammar.specs.declared.refusal.Refusal.{Refusal}
+use Rattle.answer.specs.Told.{Slices, lent, told, numbered, number_in, bytes_in}
 use Rattle.answer.specs.Laws.Told.{number_told, bytes_told}
 use Rattle.normalize.specs.Laws.Fronts.{Alike, refuses, behind, fronted, normal_behind}
 use Rattle.entries.specs.Outcome.{Outcome, leaves, Leaves, demangled, Demangles, normalized, Normalizes}
@@ -49,22 +48,26 @@ module _ (F : (Text → Answer) → Answer) (g : Text → Answer) (q : Bool) (n 
 
 -- ---- what an answer leaves
 
-module _ (a : Answer) (l l' : Slices) (r : Code) (h : Leaves a l l' r) where
-  answer_left : r ≡ told a
+is_ok_of : (r : Result ℕ Refusal) {n : ℕ} → numbered r ≡ Ok n → r ≡ Ok (bytes_in r)
+is_ok_of (Ok k) e = refl
+is_ok_of (Err k) e = cc
+
+module _ (a : Answer) (l l' : Slices) (r : Result ℕ Refusal) (h : Leaves a l l' r) where
+  answer_left : numbered r ≡ told a
   unfolding leaves
   answer_left = ap (λ (o : Outcome). o.answer) h
 
   number_left : number_in r ≡ number_of a
-  number_left = ap number_in answer_left ∙ number_told a
+  number_left = number_told a r answer_left
 
-  name_left : (x : Text) → a ≡ named x → r ≡ Name (bytes_in r)
+  name_left : (x : Text) → a ≡ named x → r ≡ Ok (bytes_in r)
   unfolding told
-  name_left x e = let f : r ≡ Name (length x) = answer_left ∙ ap told e in f ∙ ap Name (sym (ap bytes_in f))
+  name_left x e = is_ok_of r (answer_left ∙ ap told e)
 
   text_left : (x : Text) → a ≡ named x → take (bytes_in r) l'.out ≡ x
   unfolding leaves length_of written
   text_left x e =
-      let b : bytes_in r ≡ length x = ap bytes_in answer_left ∙ bytes_told a ∙ ap length_of e in
+      let b : bytes_in r ≡ length x = bytes_told a r answer_left ∙ ap length_of e in
       let o : l'.out ≡ x ++ drop (length x) l.out = ap (λ (o : Outcome). o.slices.out) h ∙ ap (λ (z : Answer). written z l.out) e in
       ap₂ (λ (n : ℕ) (t : Text). take n t) b o ∙ take_at x (drop (length x) l.out) (length x) refl
 
@@ -75,7 +78,7 @@ unfolding number_of
 has_name (named x) z e = (x, refl)
 has_name (refusal r) z e = absurd (z (ap refusal e))
 
-module _ (s : Text) (l l' : Slices) (r : Code) (h : Demangles s l l' r) where
+module _ (s : Text) (l l' : Slices) (r : Result ℕ Refusal) (h : Demangles s l l' r) where
   abbrev asked : Answer
   asked = answer most_symbol_bytes (lent l) s
 
@@ -91,8 +94,8 @@ module _ (s : Text) (l l' : Slices) (r : Code) (h : Demangles s l l' r) where
       let (x, i) = has_name (demangle most_symbol_bytes s) (never_0 most_symbol_bytes s) (ap number_of (sym e) ∙ k) in
       (x, (e ∙ i, i))
 
-  -- the number 0 is always told by `Name`
-  pub named_at_0 : number_in r ≡ 0 → r ≡ Name (bytes_in r)
+  -- the number 0 is always told by `Ok`
+  pub named_at_0 : number_in r ≡ 0 → r ≡ Ok (bytes_in r)
   named_at_0 z = let (x, (e, i)) = asked_name z in name_left asked l l' r named_leaves x e
 
   pub name_written : number_in r ≡ 0 → demangle most_symbol_bytes s ≡ named (take (bytes_in r) l'.out)
@@ -134,7 +137,7 @@ normal_named : (s v : Text) → Has_normal s v → normal_symbol most_symbol_byt
 unfolding normal_symbol normal_after normal_told if◌then◌otherwise◌
 normal_named s v h = ap (normal_after most_symbol_bytes s) h.accepted ∙ ap (normal_told most_symbol_bytes) h.is ∙ rw (le-leb (length v) most_symbol_bytes h.short)
 
-module _ (s : Text) (l l' : Slices) (r : Code) (h : Normalizes s l l' r) where
+module _ (s : Text) (l l' : Slices) (r : Result ℕ Refusal) (h : Normalizes s l l' r) where
   abbrev wanted : Answer
   wanted = normal_answer most_symbol_bytes (lent l) s
 
@@ -154,8 +157,8 @@ module _ (s : Text) (l l' : Slices) (r : Code) (h : Normalizes s l l' r) where
       let (v, (i, j)) = has_normal s (demangle most_symbol_bytes s) refl (ap number_of (sym e) ∙ k) in
       (v, (e ∙ i, j))
 
-  -- the number 0 is always told by `Name`
-  pub normalized_at_0 : number_in r ≡ 0 → r ≡ Name (bytes_in r)
+  -- the number 0 is always told by `Ok`
+  pub normalized_at_0 : number_in r ≡ 0 → r ≡ Ok (bytes_in r)
   normalized_at_0 z = let (v, (e, j)) = wanted_normal z in name_left wanted l l' r normal_leaves v e
 
   pub normal_written : number_in r ≡ 0 → Has_normal s (take (bytes_in r) l'.out)

@@ -14,6 +14,8 @@ use Rattle.grammar.specs.declared.state.Eaten.TheVariants as eaten_as
 use Rattle.grammar.specs.declared.state.Read.{Read}
 use Rattle.grammar.specs.declared.state.Read.TheVariants as read_as
 use Rattle.grammar.specs.States.{moved_to, deeper, taken, eaten, entered}
+use Rattle.grammar.specs.declared.refusal.Refusal.{Refusal}
+use Rattle.grammar.specs.declared.refusal.Refusal.TheVariants.{TooDeep}
 
 -- ---------------------------------------------------------------- one level down
 
@@ -24,13 +26,13 @@ module _ (p : Parser) {r : Read} (e : r ≡ entered p) where
     where
       go : (b : Bool) → nat_lt p.depth most_open ≡ b → (p.depth < most_open) × (q ≡ deeper p)
       go true g = (ltb-true p.depth most_open g, let h : read_as.Text q n ≡ read_as.Text (deeper p) 0 = sym f ∙ e ∙ rw g refl in cc)
-      go false g = let h : read_as.Text q n ≡ read_as.Refused 8 = sym f ∙ e ∙ rw g refl in let z : ◌≡◌ {A = ℕ} 0 1 = cc in absurd (omega arith)
+      go false g = let h : read_as.Text q n ≡ read_as.Refused TooDeep = sym f ∙ e ∙ rw g refl in let z : ◌≡◌ {A = ℕ} 0 1 = cc in absurd (omega arith)
 
-  pub stayed_out : {k : ℕ} → r ≡ read_as.Refused k → (most_open ≤ p.depth) × (r ≡ read_as.Refused 8)
+  pub stayed_out : {k : Refusal} → r ≡ read_as.Refused k → (most_open ≤ p.depth) × (r ≡ read_as.Refused TooDeep)
   unfolding if◌then◌otherwise◌
   stayed_out {k} f = go (nat_lt p.depth most_open) refl
     where
-      go : (b : Bool) → nat_lt p.depth most_open ≡ b → (most_open ≤ p.depth) × (r ≡ read_as.Refused 8)
+      go : (b : Bool) → nat_lt p.depth most_open ≡ b → (most_open ≤ p.depth) × (r ≡ read_as.Refused TooDeep)
       go true g = let h : read_as.Refused k ≡ read_as.Text (deeper p) 0 = sym f ∙ e ∙ rw g refl in let z : ◌≡◌ {A = ℕ} 0 1 = cc in absurd (omega arith)
       go false g = (ltb-false p.depth most_open g, e ∙ rw g refl)
 

@@ -23,6 +23,8 @@ use Rattle.grammar.specs.States.{subs_to, args_to}
 use Rattle.parser.specs.Holds.{Memory, mem, window, part, Holds, Stands, Refines, refuses, Puts, Pushes, pushed, full, given_of, low_bytes, high_bytes, low_ends, high_ends}
 use Rattle.parser.specs.Laws.Holds.{answers, given_refines, holds_puts}
 use Rattle.parser.specs.Halves.{with_subs, with_args, Grows}
+use Rattle.grammar.specs.Refusals.{refusal_number}
+use Rattle.grammar.specs.declared.refusal.Refusal.{Refusal}
 
 -- ---------------------------------------------------------------- sizes
 
@@ -149,9 +151,9 @@ newest_part {base = base} {t = t} h l = newest_lent base t h.holds.text h.tail (
 -- a push onto one of the tables, which answers f
 module _ {k d : ℕ} {s base : Text} {from : ℕ} {m : Memory} {p : Parser} {n : ℕ} {t : Text} {σ : State} (h : Stands k d s base from m p n t σ)
     {l : List Text} {ys zs ys' zs' : List ℕ} {c b : ℕ} {q : Bool} (e : Entries l ys zs c b) (g : Grows c b n (lent m.text p.top n) ys zs ys' zs' q)
-    (σ' : State) (j : ℕ) {f : Result (Unit {0})} (i : f ≡ Pushed (l ++ (t ∷ [])) σ' j) where
-  by_fit : (v : Bool) → fits (l ++ (t ∷ [])) ≡ v → f ≡ (if v then ok tt σ' otherwise refused j)
-  by_fit v u = i ∙ ap (λ (x : Bool). if◌then◌otherwise◌ {A = Result (Unit {0})} x (ok tt σ') (refused j)) u
+    (σ' : State) (j : Refusal) {f : Result (Unit {0})} (i : f ≡ Pushed (l ++ (t ∷ [])) σ' (refusal_number j)) where
+  by_fit : (v : Bool) → fits (l ++ (t ∷ [])) ≡ v → f ≡ (if v then ok tt σ' otherwise refused (refusal_number j))
+  by_fit v u = i ∙ ap (λ (x : Bool). if◌then◌otherwise◌ {A = Result (Unit {0})} x (ok tt σ') (refused (refusal_number j))) u
 
   pub pushes_not : {m' : Memory} {r : Parser} → q ≡ false → Pushes s m' n r (Refused j) f
   unfolding if◌then◌otherwise◌
@@ -176,12 +178,12 @@ module _ {k d : ℕ} {s base : Text} {from : ℕ} {text store ends store' ends' 
       told : {q : Parser} {j : ℕ} {f : Result (Unit {0})} → Pushes s (mem text store' ends') n (subs_to p c b) (read q j) f → Refines k d s base from (mem text store' ends') (given_of q j) (onto (λ _. give t) f)
       told (pushed v) = given_refines (record { holds = v; tail = h.tail; size = h.size; level = h.level; more = h.more; least = h.least; most = h.most })
 
-pub recorded_full : {k d : ℕ} {s s' base : Text} {from : ℕ} {m m' : Memory} {p : Parser} {n : ℕ} (t : Text) (σ : State) {r : Read} {j : ℕ} → r ≡ Refused j → Pushes s m n p r (push_sub t σ) → Refines k d s' base from m' r (recorded t σ)
+pub recorded_full : {k d : ℕ} {s s' base : Text} {from : ℕ} {m m' : Memory} {p : Parser} {n : ℕ} (t : Text) (σ : State) {r : Read} {j : Refusal} → r ≡ Refused j → Pushes s m n p r (push_sub t σ) → Refines k d s' base from m' r (recorded t σ)
 unfolding recorded onto
 recorded_full {k} {d} {s} {s'} {base} {from} {m} {m'} {p} {n} t σ {r} {j} e u =
     subst (λ (x : Read). Refines k d s' base from m' x (recorded t σ)) (sym e) (told (subst (λ (x : Read). Pushes s m n p x (push_sub t σ)) e u))
   where
-    told : {j : ℕ} {f : Result (Unit {0})} → Pushes s m n p (Refused j) f → Refines k d s' base from m' (Refused j) (onto (λ _. give t) f)
+    told : {j : Refusal} {f : Result (Unit {0})} → Pushes s m n p (Refused j) f → Refines k d s' base from m' (Refused j) (onto (λ _. give t) f)
     told full = refuses
 
 module _ (t : Text) (σ : State) where

@@ -16,6 +16,8 @@ use Rattle.grammar.specs.declared.state.Read.{Read}
 use Rattle.grammar.specs.declared.state.Read.TheVariants.{Text as read, Refused}
 use Rattle.grammar.specs.States.{moved_to, raised_to, deeper, at_depth, cv_to, templated_to}
 use Rattle.parser.specs.Holds.{Memory, mem, part, Holds, Wrote, Stands, Refines, reads, refuses, Puts, Cuts, given_of}
+use Rattle.grammar.specs.declared.refusal.Refusal.{Refusal}
+use Rattle.grammar.specs.declared.refusal.Refusal.TheVariants.{LongText}
 
 -- ---------------------------------------------------------------- states
 
@@ -163,7 +165,7 @@ got {k} {d} {s} {base} {from} {m} {r} {f} {p} {n} e h = told (subst (λ (x : Rea
     told (reads {t = t} {σ = σ} w) = record { said = t; state = σ; wrote = w; is = refl }
 
 -- an answer without one is the whole answer
-pub refused_on : {k d k' d' : ℕ} {s base s' base' : Text} {from from' : ℕ} {m m' : Memory} {r : Read} {f : Result Text} {j : ℕ} (g : Text → Reader Text) → r ≡ Refused j → Refines k d s base from m r f → Refines k' d' s' base' from' m' r (onto g f)
+pub refused_on : {k d k' d' : ℕ} {s base s' base' : Text} {from from' : ℕ} {m m' : Memory} {r : Read} {f : Result Text} {j : Refusal} (g : Text → Reader Text) → r ≡ Refused j → Refines k d s base from m r f → Refines k' d' s' base' from' m' r (onto g f)
 unfolding onto
 refused_on {k} {d} {k'} {d'} {s} {base} {s'} {base'} {from} {from'} {m} {m'} {r} {f} {j} g e h =
     subst (λ (x : Read). Refines k' d' s' base' from' m' x (onto g f)) (sym e) (told (subst (λ (x : Read). Refines k d s base from m x f) e h))
@@ -200,7 +202,7 @@ module _ {k d : ℕ} {s base : Text} {from : ℕ} {m : Memory} {p : Parser} {n :
   given_refines h = go (leb n most_text_bytes) refl
     where
       given : Bool → Read
-      given q = if q then read p n otherwise Refused 11
+      given q = if q then read p n otherwise Refused LongText
 
       told : Bool → State → Result Text
       told q = if q then (λ u. ok t u) otherwise (λ u. refused 11)

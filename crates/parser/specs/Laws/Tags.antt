@@ -19,6 +19,7 @@ use Rattle.parser.specs.Adds.{Adds}
 use Rattle.parser.specs.Laws.Adds.{adds_none, adds_more, adds_adds, adds_moved, puts_from, stands_adds}
 use Rattle.parser.specs.Source.{identified, closers}
 use Rattle.parser.specs.Laws.Source.{Located, identified_in, length_closers, tagged, tags_start, tags_refused, tags_end, tags_more}
+use Rattle.grammar.specs.declared.refusal.Refusal.TheVariants.{NoRule}
 
 -- from p on the text `pre` was put, with so many tags open, and the next source name goes inside
 pub record Tagging (s text₀ text : Text) (p next : Parser) (n tags : ℕ) : Type 0 where
@@ -42,7 +43,7 @@ tagging_start {s} {text} {p} l c = record {
 
 module _ {s text₀ text : Text} {p next : Parser} {n tags : ℕ} (g : Tagging s text₀ text p next n tags) where
   pub tagging_refuses : {store ends : List ℕ} {m : Memory} → identified s next.at ≡ Nothing
-      → Reads (reading ⟨source-name⟩) kept_bytes (p.at + 1) s (mem text₀ store ends) m p (Refused 4)
+      → Reads (reading ⟨source-name⟩) kept_bytes (p.at + 1) s (mem text₀ store ends) m p (Refused NoRule)
   tagging_refuses e σ h = by (g.is σ h.rest ∙ tags_refused g.pre tags s next.at (moved (drop next.at s) σ) refl e) refuses
 
   module _ {from to : ℕ} (e : identified s next.at ≡ Part from to) where

@@ -32,6 +32,8 @@ use Rattle.reader.specs.declared.lists.Texts.{Texts}
 use Rattle.reader.specs.declared.lists.Texts.TheVariants as items_as
 use Rattle.reader.specs.Lists.{Lists, listed, unlisted, refused_of}
 use Rattle.reader.specs.Laws.Items.{looped}
+use Rattle.grammar.specs.Refusals.{refusal_number}
+use Rattle.grammar.specs.declared.refusal.Refusal.{Refusal}
 
 -- ---------------------------------------------------------------- what a list says
 
@@ -50,15 +52,15 @@ got_list {k} {d} {s} {base} {from} {m} {r} {f} {p} {n} {count} e h = told (subst
     told : {f : Result (List Text)} → Lists k d s base from m (items_as.Listed p n count) f → GotList k d s base from m p n count f
     told (listed {ts = ts} {σ = σ} w c) = record { texts = ts; state = σ; stands = w; count_is = c; is = refl }
 
-pub list_refused : {k d : ℕ} {s base : Text} {from : ℕ} {m : Memory} {r : Texts} {f : Result (List Text)} {j : ℕ} → r ≡ items_as.Refused j → Lists k d s base from m r f → f ≡ refused j
+pub list_refused : {k d : ℕ} {s base : Text} {from : ℕ} {m : Memory} {r : Texts} {f : Result (List Text)} {j : Refusal} → r ≡ items_as.Refused j → Lists k d s base from m r f → f ≡ refused (refusal_number j)
 list_refused {k} {d} {s} {base} {from} {m} {r} {f} {j} e h = told (subst (λ (x : Texts). Lists k d s base from m x f) e h)
   where
-    told : {f : Result (List Text)} → Lists k d s base from m (items_as.Refused j) f → f ≡ refused j
+    told : {f : Result (List Text)} → Lists k d s base from m (items_as.Refused j) f → f ≡ refused (refusal_number j)
     told unlisted = refl
 
 -- the answer of a list that is none
-pub refuses_list : {k d : ℕ} {s base : Text} {from : ℕ} {m : Memory} {r : Read} {list : Texts} {j : ℕ} → list ≡ items_as.Refused j → r ≡ refused_of list → Refines k d s base from m r (refused j)
-refuses_list {k} {d} {s} {base} {from} {m} {r} {list} {j} e f = subst (λ (x : Read). Refines k d s base from m x (refused j)) (sym (f ∙ ap refused_of e)) refuses
+pub refuses_list : {k d : ℕ} {s base : Text} {from : ℕ} {m : Memory} {r : Read} {list : Texts} {j : Refusal} → list ≡ items_as.Refused j → r ≡ refused_of list → Refines k d s base from m r (refused (refusal_number j))
+refuses_list {k} {d} {s} {base} {from} {m} {r} {list} {j} e f = subst (λ (x : Read). Refines k d s base from m x (refused (refusal_number j))) (sym (f ∙ ap refused_of e)) refuses
 
 -- ---------------------------------------------------------------- up to an E
 
@@ -160,7 +162,7 @@ module _ (s : Text) (at : ℕ) (σ : State) (e : σ.rest ≡ drop at s) where
       ∙ ap (λ (x : Result (List Text)). onto (λ t u. ok t (at_level σ.depth u)) (onto (λ ts. give (g.angled ts)) x)) (up_arguments (at_level (σ.depth + 1) (moved (drop (at + 1) s) σ)))
 
 pub args_deep :
-    {s : Text} {m m' : Memory} {p q : Parser} {r : Read} {j : ℕ} → starts (drop p.at s) (73 ∷ []) ≡ true → q ≡ moved_to p (p.at + 1) → r ≡ entered_from q → r ≡ Refused j →
+    {s : Text} {m m' : Memory} {p q : Parser} {r : Read} {j : Refusal} → starts (drop p.at s) (73 ∷ []) ≡ true → q ≡ moved_to p (p.at + 1) → r ≡ entered_from q → r ≡ Refused j →
     Reads (reading ⟨template-args⟩) (keep (p.depth + 1)) (p.at + 1) s m m' p r
 args_deep {s} {m} {m'} {p} {q} {r} k e f i =
     let o = stayed_out q f i in

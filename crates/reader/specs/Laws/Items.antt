@@ -24,6 +24,8 @@ use Rattle.reader.specs.declared.lists.Texts.TheVariants as items_as
 use Rattle.reader.specs.Laws.Separators.{join_more, before_size, puts_some, puts_none}
 use Rattle.reader.specs.Laws.Standing.{same_sizes, stands_nothing, stands_sized, wrote_kept, wrote_behind}
 use Rattle.reader.specs.Lists.{goes_on, item_of, kept_by, stops_at, Lists, listed, unlisted, unlisted_of, before_text}
+use Rattle.grammar.specs.Refusals.{refusal_number}
+use Rattle.grammar.specs.declared.refusal.Refusal.{Refusal}
 
 -- ---------------------------------------------------------------- the next byte
 
@@ -116,10 +118,10 @@ listed_start kind {s} {m} {p} {σ} h = record {
   same = refl;
 }
 
-pub refused_is : {k d : ℕ} {s base : Text} {from : ℕ} {m : Memory} {r : Read} {f : Result Text} {j : ℕ} → r ≡ Refused j → Refines k d s base from m r f → f ≡ refused j
+pub refused_is : {k d : ℕ} {s base : Text} {from : ℕ} {m : Memory} {r : Read} {f : Result Text} {j : Refusal} → r ≡ Refused j → Refines k d s base from m r f → f ≡ refused (refusal_number j)
 refused_is {k} {d} {s} {base} {from} {m} {r} {f} {j} e h = told (subst (λ (x : Read). Refines k d s base from m x f) e h)
   where
-    told : {f : Result Text} → Refines k d s base from m (Refused j) f → f ≡ refused j
+    told : {f : Result Text} → Refines k d s base from m (Refused j) f → f ≡ refused (refusal_number j)
     told refuses = refl
 
 module _ {kind : Kind} {s : Text} {m₀ : Memory} {p₀ : Parser} {m : Memory} {p : Parser} {n count : ℕ} {σ₀ : State} (l : Listed kind s m₀ p₀ m p n count σ₀) where
@@ -135,13 +137,13 @@ module _ {kind : Kind} {s : Text} {m₀ : Memory} {p₀ : Parser} {m : Memory} {
       (sym (l.same ∙ loop_stops kind l.texts l.state e)) (listed l.stands l.count_is)
 
   pub listed_refuses :
-      {k d k' d' : ℕ} {s' base s'' base' : Text} {from from' : ℕ} {m' m'' : Memory} {r : Read} {list : Texts} {j : ℕ} →
+      {k d k' d' : ℕ} {s' base s'' base' : Text} {from from' : ℕ} {m' m'' : Memory} {r : Read} {list : Texts} {j : Refusal} →
       goes_on kind l.state.rest ≡ true → r ≡ Refused j → Refines k d s' base from m' r (item_of kind l.state) → list ≡ unlisted_of r →
       Lists k' d' s'' base' from' m'' list (looped kind [] σ₀)
   listed_refuses {k' = k'} {d' = d'} {s'' = s''} {base' = base'} {from' = from'} {m'' = m''} {r = r} {list = list} {j = j} e f h g =
       subst (λ (x : Result (List Text)). Lists k' d' s'' base' from' m'' list x)
       (sym (l.same ∙ loop_refuses kind l.texts l.state e (refused_is f h)))
-      (subst (λ (x : Texts). Lists k' d' s'' base' from' m'' x (refused j)) (sym (g ∙ ap unlisted_of f)) unlisted)
+      (subst (λ (x : Texts). Lists k' d' s'' base' from' m'' x (refused (refusal_number j))) (sym (g ∙ ap unlisted_of f)) unlisted)
 
 comma_size : (n : ℕ) → length (before_text n) ≡ 2 * min n 1
 unfolding b
@@ -243,7 +245,7 @@ pub by_kind :
 by_kind {d = d} {s = s} {base = base} {from = from} {m = m} {r = r} σ e h = subst (λ (k : Kind). Refines (kept_by k d) d s base from m r (item_of k σ)) (sym e) h
 
 pub argument_refused :
-    {kind : Kind} {k d d' : ℕ} {s base s' base' : Text} {from from' : ℕ} {m m' : Memory} {r : Read} {j : ℕ} (σ : State) → kind ≡ Arguments → r ≡ Refused j →
+    {kind : Kind} {k d d' : ℕ} {s base s' base' : Text} {from from' : ℕ} {m m' : Memory} {r : Read} {j : Refusal} (σ : State) → kind ≡ Arguments → r ≡ Refused j →
     Refines k d' s' base' from' m' r (reading ⟨template-arg⟩ σ) → Refines (kept_by kind d) d s base from m r (item_of kind σ)
 argument_refused σ e f h = by_kind σ e (refused_on _ f h)
 

@@ -27,6 +27,7 @@ use Rattle.reader.specs.declared.lists.Prefix.TheVariants as prefix_as
 use Rattle.reader.specs.Laws.Separators.{join_more, before_size}
 use Rattle.reader.specs.Laws.Standing.{parted_kept, stands_sized, wrote_behind, wrote_least}
 use Rattle.reader.specs.Lists.{Alike, same_text, both_long, Parted, Parting, parted, unparted, before_part, longer_of, unread_of, part_of}
+use Rattle.grammar.specs.declared.refusal.Refusal.{Refusal}
 
 -- ---------------------------------------------------------------- one part more
 
@@ -84,7 +85,7 @@ module _ {k d : ℕ} {s base : Text} {from : ℕ} {m : Memory} where
   answer_by {f = f} e h = subst (λ (x : Prefix). Parting k d s base from m x f) (sym e) h
 
 -- an answer without a text is the whole answer
-pub unread_on : {k d k' d' : ℕ} {s base s' base' : Text} {from from' : ℕ} {m m' : Memory} {r : Read} {v : Prefix} {f : Result Text} {j : ℕ} (h : Text → Reader g.Parts) → r ≡ Refused j → v ≡ unread_of r → Refines k d s base from m r f → Parting k' d' s' base' from' m' v (onto h f)
+pub unread_on : {k d k' d' : ℕ} {s base s' base' : Text} {from from' : ℕ} {m m' : Memory} {r : Read} {v : Prefix} {f : Result Text} {j : Refusal} (h : Text → Reader g.Parts) → r ≡ Refused j → v ≡ unread_of r → Refines k d s base from m r f → Parting k' d' s' base' from' m' v (onto h f)
 unfolding onto
 unread_on {k} {d} {k'} {d'} {s} {base} {s'} {base'} {from} {from'} {m} {m'} {r} {v} {f} {j} h e w a =
     answer_by (w ∙ ap unread_of e) (told (subst (λ (x : Read). Refines k d s base from m x f) e a))
@@ -92,7 +93,7 @@ unread_on {k} {d} {k'} {d'} {s} {base} {s'} {base'} {from} {from'} {m} {m'} {r} 
     told : {f : Result Text} → Refines k d s base from m (Refused j) f → Parting k' d' s' base' from' m' (prefix_as.Refused j) (onto h f)
     told refuses = unparted
 
-pub unpushed_on : {k' d' n : ℕ} {s s' base' : Text} {from' : ℕ} {m m' : Memory} {p : Parser} {r : Read} {v : Prefix} {f : Result (Unit {0})} {j : ℕ} (h : Unit {0} → Reader g.Parts) → r ≡ Refused j → v ≡ unread_of r → Pushes s m n p r f → Parting k' d' s' base' from' m' v (onto h f)
+pub unpushed_on : {k' d' n : ℕ} {s s' base' : Text} {from' : ℕ} {m m' : Memory} {p : Parser} {r : Read} {v : Prefix} {f : Result (Unit {0})} {j : Refusal} (h : Unit {0} → Reader g.Parts) → r ≡ Refused j → v ≡ unread_of r → Pushes s m n p r f → Parting k' d' s' base' from' m' v (onto h f)
 unfolding onto
 unpushed_on {k'} {d'} {n} {s} {s'} {base'} {from'} {m} {m'} {p} {r} {v} {f} {j} h e w a =
     answer_by (w ∙ ap unread_of e) (told (subst (λ (x : Read). Pushes s m n p x f) e a))

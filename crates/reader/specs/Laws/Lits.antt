@@ -27,6 +27,8 @@ use Rattle.grammar.specs.Laws.Runs.{case_here, case_not, need_here, need_not, ea
 use Rattle.reader.specs.Laws.Opens.{call_moved}
 use Rattle.reader.specs.Laws.Arrays.{run_front}
 use Rattle.reader.specs.Laws.Standing.{wrote_moved, given_as, stands_sized, wrote_behind}
+use Rattle.grammar.specs.declared.refusal.Refusal.{Refusal}
+use Rattle.grammar.specs.declared.refusal.Refusal.TheVariants.{NoRule}
 
 -- ---------------------------------------------------------------- the definition
 
@@ -84,7 +86,7 @@ module _ {s : Text} {m : Memory} {p q : Parser} {σ : State} (h : Holds s m p σ
       name_read : Refines (keep (p.depth + 1)) p.depth s (window m p) (p.at + 1 + 1 + 1) m' r (reading ⟨name⟩ (moved (drop (p.at + 1 + 1) s) σ))
       name_read = call_moved (λ d. keep (d + 1)) i f h inside_name
 
-      pub lit_name_refused : {j : ℕ} → r ≡ Refused j → Primary s m m' p r σ
+      pub lit_name_refused : {j : Refusal} → r ≡ Refused j → Primary s m m' p r σ
       lit_name_refused e = by (lit_named s p.at σ h.rest l g) (refused_on named_on e name_read)
 
       module _ {next : Parser} {n : ℕ} (e : r ≡ read next n) where
@@ -120,7 +122,7 @@ module _ {s : Text} {m : Memory} {p q : Parser} {σ : State} (h : Holds s m p σ
       type_read : Refines (keep (p.depth + 1)) p.depth s (window m p) (p.at + 1 + 1) m' r (reading ⟨type⟩ (moved (drop (p.at + 1) s) σ))
       type_read = call_moved (λ d. keep (d + 1)) i f h inside_type
 
-      pub lit_type_refused : {j : ℕ} → r ≡ Refused j → Primary s m m' p r σ
+      pub lit_type_refused : {j : Refusal} → r ≡ Refused j → Primary s m m' p r σ
       lit_type_refused e = by (lit_valued s p.at σ h.rest l g) (refused_on valued_on e type_read)
 
       module _ {next : Parser} {n : ℕ} (e : r ≡ read next n) where
@@ -140,7 +142,7 @@ module _ {s : Text} {m : Memory} {p q : Parser} {σ : State} (h : Holds s m p σ
               ∙ ap (onto valued_on) lit_type_got.is
               ∙ ap (onto (λ x w. onto (λ _. give (literal lit_type_got.said x)) (need "E" w))) value_is
 
-          pub lit_open : {m'' : Memory} → starts (drop to s) (69 ∷ []) ≡ false → Primary s m m'' p (Refused 4) σ
+          pub lit_open : {m'' : Memory} → starts (drop to s) (69 ∷ []) ≡ false → Primary s m m'' p (Refused NoRule) σ
           unfolding onto b
           lit_open x =
               by (valued_is ∙ ap (onto (λ _. give (literal lit_type_got.said (run not_E (drop next.at s))))) (need_not "E" s to (moved (drop to s) lit_type_got.state) refl x))
@@ -214,7 +216,7 @@ module _ {s : Text} {m : Memory} {p q : Parser} {σ : State} (h : Holds s m p σ
     outer_read : Refines (keep p.depth) p.depth s (window m p) (p.at + 1 + 1) (mem text₁ store₁ ends₁) r (local_encoding reading (moved (drop (p.at + 1) s) σ))
     outer_read = call_moved keep i f h inside_local
 
-    pub local_refused : {j : ℕ} → r ≡ Refused j → Localized s m (mem text₁ store₁ ends₁) p r σ
+    pub local_refused : {j : Refusal} → r ≡ Refused j → Localized s m (mem text₁ store₁ ends₁) p r σ
     local_refused e = by (behind_Z s p.at σ h.rest l) (refused_on outer_on e outer_read)
 
     module _ {outer : Parser} {n : ℕ} (e : r ≡ read outer n) where
@@ -247,7 +249,7 @@ module _ {s : Text} {m : Memory} {p q : Parser} {σ : State} (h : Holds s m p σ
         entity_is = outer_is ∙ case_not "s" s outer.at local_got.state local_got.wrote.holds.rest (give (local_got.said ++ b "::string literal")) (entity local_got.said) x
 
         module _ {m₃ : Memory} {r₂ : Read} (f₂ : Reads (reading ⟨name⟩) (keep (o₁.depth + 1)) (o₁.at + 1) s (mem text₂ store₁ ends₁) m₃ o₁ r₂) where
-          pub local_name_refused : {j : ℕ} → r₂ ≡ Refused j → Localized s m m₃ p r₂ σ
+          pub local_name_refused : {j : Refusal} → r₂ ≡ Refused j → Localized s m m₃ p r₂ σ
           local_name_refused j = by entity_is (refused_on (entity_on local_got.said) j (f₂ _ local_name_ready))
 
           pub local_name_got : {next : Parser} {k : ℕ} → r₂ ≡ read next k → Got (keep (o₁.depth + 1)) o₁.depth s (window (mem text₂ store₁ ends₁) o₁) (o₁.at + 1) m₃ next k (reading ⟨name⟩ local_got.state)

@@ -26,6 +26,8 @@ use Rattle.reader.specs.declared.lists.Texts.TheVariants as items_as
 use Rattle.reader.specs.Lists.{Lists, ReadsItems, refused_of}
 use Rattle.reader.specs.Laws.Standing.{stands_moved, wrote_moved, joined}
 use Rattle.reader.specs.Laws.Closes.{GotList, got_list, list_refused, then_refused, refuses_list}
+use Rattle.grammar.specs.declared.refusal.Refusal.{Refusal}
+use Rattle.grammar.specs.declared.refusal.Refusal.TheVariants.{LongText, NoRule}
 
 -- ---------------------------------------------------------------- the definition
 
@@ -70,7 +72,7 @@ module _ (n : Text) (s : Text) (at : ℕ) (σ : State) (e : σ.rest ≡ drop at 
 
 -- a list that was refused is the whole answer
 pub unlisted_on :
-    {k d k' d' : ℕ} {s base s' base' : Text} {from from' : ℕ} {m m' : Memory} {r : Texts} {v : Read} {f : Result (List Text)} {j : ℕ} (g : List Text → Reader Text) (g' : Text → Reader Text) →
+    {k d k' d' : ℕ} {s base s' base' : Text} {from from' : ℕ} {m m' : Memory} {r : Texts} {v : Read} {f : Result (List Text)} {j : Refusal} (g : List Text → Reader Text) (g' : Text → Reader Text) →
     r ≡ items_as.Refused j → v ≡ refused_of r → Lists k d s base from m r f → Refines k' d' s' base' from' m' v (onto g' (onto g f))
 unlisted_on g g' e i h = by (then_refused g' (then_refused g (list_refused e h))) (refuses_list e i)
 
@@ -83,7 +85,7 @@ abbrev Encoded : Text → Memory → Memory → Parser → Read → State → Ty
 Encoded s m m' p r σ = Refines (keep p.depth) p.depth s (window m p) (p.at + 1) m' r (local_encoding reading σ)
 
 module _ {s : Text} {m : Memory} {p : Parser} {σ : State} (h : Holds s m p σ) {text₁ store₁ ends₁ : Text} {r : Read} (f : Reads (reading ⟨name⟩) (keep (p.depth + 1)) (p.at + 1) s m (mem text₁ store₁ ends₁) p r) where
-  pub fn_refused : {j : ℕ} → r ≡ Refused j → Encoded s m (mem text₁ store₁ ends₁) p r σ
+  pub fn_refused : {j : Refusal} → r ≡ Refused j → Encoded s m (mem text₁ store₁ ends₁) p r σ
   fn_refused e = by (encoding_is σ) (refused_on encoded_on e (f σ h))
 
   module _ {named : Parser} {n : ℕ} (e : r ≡ read named n) where
@@ -116,7 +118,7 @@ module _ {s : Text} {m : Memory} {p : Parser} {σ : State} (h : Holds s m p σ) 
           stands_puts (stands w (omega arith) (omega (arith, h.deep))) u (omega (arith, length-append fn_got.said (b "("), w.size, w.short))
 
       module _ {text₃ store₃ ends₃ : Text} {r₂ : Texts} (f₂ : ReadsItems Types s (mem text₂ store₁ ends₁) (mem text₃ store₃ ends₃) o r₂) where
-        pub fn_items_refused : {j : ℕ} {v : Read} → r₂ ≡ items_as.Refused j → v ≡ refused_of r₂ → Encoded s m (mem text₃ store₃ ends₃) p v σ
+        pub fn_items_refused : {j : Refusal} {v : Read} → r₂ ≡ items_as.Refused j → v ≡ refused_of r₂ → Encoded s m (mem text₃ store₃ ends₃) p v σ
         fn_items_refused i g = by opened_is (unlisted_on listed_on (closing fn_got.said) i g (f₂ fn_got.state fn_items_ready))
 
         module _ {last : Parser} {k count : ℕ} (i : r₂ ≡ items_as.Listed last k count) where
@@ -130,7 +132,7 @@ module _ {s : Text} {m : Memory} {p : Parser} {σ : State} (h : Holds s m p σ) 
           unfolding onto
           listed_is = opened_is ∙ ap (λ (l : Result (List Text)). onto (closing fn_got.said) (onto listed_on l)) fn_listing.is
 
-          pub fn_long : {m' : Memory} → most_text_bytes < k → Encoded s m m' p (Refused 11) σ
+          pub fn_long : {m' : Memory} → most_text_bytes < k → Encoded s m m' p (Refused LongText) σ
           unfolding onto
           fn_long l = by (listed_is ∙ ap (λ (z : Result Text). onto (closing fn_got.said) (onto bracketed z)) (give_long words fn_listing.state (omega (arith, fn_listing.stands.size)))) refuses
 
@@ -142,7 +144,7 @@ module _ {s : Text} {m : Memory} {p : Parser} {σ : State} (h : Holds s m p σ) 
             unfolding onto
             given_is = listed_is ∙ ap (λ (z : Result Text). onto (closing fn_got.said) (onto bracketed z)) (give_short words fn_listing.state short)
 
-            pub fn_open : {m' : Memory} → starts (drop last.at s) (69 ∷ []) ≡ false → Encoded s m m' p (Refused 4) σ
+            pub fn_open : {m' : Memory} → starts (drop last.at s) (69 ∷ []) ≡ false → Encoded s m m' p (Refused NoRule) σ
             unfolding onto b
             fn_open y = by (given_is ∙ ap (onto (λ _. give (fn_got.said ++ ((b "(" ++ words) ++ b ")")))) (need_not "E" s last.at fn_listing.state fn_listing.stands.holds.rest y)) refuses
 

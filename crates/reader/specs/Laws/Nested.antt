@@ -31,6 +31,8 @@ use Rattle.reader.specs.Laws.Items.{peek_byte, peek_end, byte_within, while_stop
 use Rattle.reader.specs.Laws.Arrays.{run_front}
 use Rattle.reader.specs.Laws.Closes.{closed_no, closed_yes, then_ok, then_refused, behind_is}
 use Rattle.reader.specs.Laws.Standing.{same_sizes, stands_nothing, stands_kept, parted_kept, stands_least}
+use Rattle.grammar.specs.Refusals.{refusal_number}
+use Rattle.grammar.specs.declared.refusal.Refusal.{Refusal}
 
 abbrev pub no_parts : g.Parts
 no_parts = record { texts = []; structor = false }
@@ -181,10 +183,10 @@ module _ {s : Text} {m₀ : Memory} {p₀ : Parser} {m : Memory} {p : Parser} {q
 
 -- ---------------------------------------------------------------- one part more
 
-part_refused : {k d : ℕ} {s base : Text} {from : ℕ} {m : Memory} {r : Prefix} {f : Result g.Parts} {j : ℕ} → r ≡ prefix_as.Refused j → Parting k d s base from m r f → f ≡ refused j
+part_refused : {k d : ℕ} {s base : Text} {from : ℕ} {m : Memory} {r : Prefix} {f : Result g.Parts} {j : Refusal} → r ≡ prefix_as.Refused j → Parting k d s base from m r f → f ≡ refused (refusal_number j)
 part_refused {k} {d} {s} {base} {from} {m} {r} {f} {j} e h = told (subst (λ (x : Prefix). Parting k d s base from m x f) e h)
   where
-    told : {f : Result g.Parts} → Parting k d s base from m (prefix_as.Refused j) f → f ≡ refused j
+    told : {f : Result g.Parts} → Parting k d s base from m (prefix_as.Refused j) f → f ≡ refused (refusal_number j)
     told unparted = refl
 
 pub record GotParts (k d : ℕ) (s base : Text) (from : ℕ) (m : Memory) (p : Parser) (q : Parts) (f : Result g.Parts) : Type 0 where
@@ -210,12 +212,12 @@ module _ {s : Text} {m₀ : Memory} {p₀ : Parser} {m m' : Memory} {p : Parser}
   told_next = x (drop 1 (drop p.at s)) (peek_byte (drop p.at s) e) (window m₀ p₀) p₀.at l.parts l.state (at_depth l)
 
   pub prefixed_refuses :
-      {k d : ℕ} {s' base : Text} {from : ℕ} {m'' : Memory} {v : Read} {j : ℕ} (y : Text) → r ≡ prefix_as.Refused j → v ≡ unprefixed_of r →
+      {k d : ℕ} {s' base : Text} {from : ℕ} {m'' : Memory} {v : Read} {j : Refusal} (y : Text) → r ≡ prefix_as.Refused j → v ≡ unprefixed_of r →
       Refines k d s' base from m'' v (onto (named y) (onto closed (prefixes no_parts σ₀)))
   unfolding onto
   prefixed_refuses {k} {d} {s'} {base} {from} {m''} {v} {j} y f g =
       by (ap (onto (named y)) (then_refused closed (l.same ∙ prefixes_refuse l.parts l.state (byte_here l e (ne_eqb c 69 n)) (part_refused f told_next))))
-      (subst (λ (w : Read). Refines k d s' base from m'' w (refused j)) (sym (g ∙ ap unprefixed_of f)) refuses)
+      (subst (λ (w : Read). Refines k d s' base from m'' w (refused (refusal_number j))) (sym (g ∙ ap unprefixed_of f)) refuses)
 
   pub prefixed_more : {p' : Parser} {q' : Parts} → r ≡ prefix_as.Parts p' q' → Prefixed s m₀ p₀ m' p' q' σ₀
   prefixed_more {p'} {q'} f =

@@ -22,6 +22,7 @@ use Rattle.grammar.specs.Laws.States.{went_in, stayed_out}
 use Rattle.parser.specs.Holds.{Memory, window, Holds, Ready, Wrote, Refines, refuses, Reads, keep}
 use Rattle.reader.specs.Laws.Standing.{wrote_kept}
 use Rattle.parser.specs.Laws.Holds.{at_level, by_state, holds_moved, holds_entered, holds_depth, by, answers, Got, got, refused_on}
+use Rattle.grammar.specs.declared.refusal.Refusal.{Refusal}
 
 pub at_of : {p q : Parser} → q ≡ p → q.at ≡ p.at
 at_of e = ap (λ (x : Parser). x.at) e
@@ -44,7 +45,7 @@ module _ (k : Production) (f : Reader Text) (opens : (σ : State) → g.producti
       ∙ entered_in f σ (omega (arith, h.depth))
       ∙ ap (λ (d : ℕ). onto (leaving d) (f (at_level (σ.depth + 1) σ))) h.depth
 
-  pub too_deep : {m' : Memory} {r : Read} {j : ℕ} → r ≡ entered_from p → r ≡ Refused j → Reads (reading k) (keep (p.depth + 1)) (p.at + 1) s m m' p r
+  pub too_deep : {m' : Memory} {r : Read} {j : Refusal} → r ≡ entered_from p → r ≡ Refused j → Reads (reading k) (keep (p.depth + 1)) (p.at + 1) s m m' p r
   too_deep {m'} {r} e i =
       let o = stayed_out p e i in
       subst (λ (x : Read). Reads (reading k) (keep (p.depth + 1)) (p.at + 1) s m m' p x) (sym o.1)
@@ -54,7 +55,7 @@ module _ (k : Production) (f : Reader Text) (opens : (σ : State) → g.producti
     inner : Reads f (keep (p.depth + 1)) (p.at + 1) s m m' (deeper p) r
     inner = subst (λ (x : Parser). Reads f (keep x.depth) (x.at + 1) s m m' x r) e h
 
-    pub still_refused : {j : ℕ} → r ≡ Refused j → Reads (reading k) (keep (p.depth + 1)) (p.at + 1) s m m' p r
+    pub still_refused : {j : Refusal} → r ≡ Refused j → Reads (reading k) (keep (p.depth + 1)) (p.at + 1) s m m' p r
     still_refused i σ v = by (is_in v l) (refused_on (leaving p.depth) i (inner _ (holds_entered v l)))
 
     pub left_again : {x y : Parser} {n : ℕ} → r ≡ read x n → y ≡ at_depth x p.depth → Reads (reading k) (keep (p.depth + 1)) (p.at + 1) s m m' p (read y n)

@@ -37,6 +37,8 @@ use Rattle.parser.specs.Laws.Wraps.{spelled_at, spelled_none}
 use Rattle.reader.specs.Laws.Opens.{call_moved}
 use Rattle.reader.specs.Laws.Standing.{stands_templated, given_as, fewer, word_holds, word_joined}
 use Rattle.reader.specs.Laws.Items.{peek_end, byte_there, byte_within}
+use Rattle.grammar.specs.declared.refusal.Refusal.{Refusal}
+use Rattle.grammar.specs.declared.refusal.Refusal.TheVariants.{NoRule}
 
 -- ---------------------------------------------------------------- two bytes
 
@@ -159,7 +161,7 @@ module _ {s text store ends : Text} {p q : Parser} {σ : State} (h : Holds s (me
 
     module _ (e : x ≡ Nothing) (a : slice_index_or s p.at 0 ≡ 99) (c : slice_index_or s (p.at + 1) 0 ≡ 118) {m' : Memory} {r : Read}
         (f : Reads (reading ⟨type⟩) (keep (q₁.depth + 1)) (q₁.at + 1) s (mem text₁ store ends) m' q₁ r) where
-      pub oper_refused : {j : ℕ} → r ≡ Refused j → Refines (keep p.depth) p.depth s (window (mem text store ends) p) (p.at + 1) m' r (reading ⟨operator-name⟩ σ)
+      pub oper_refused : {j : Refusal} → r ≡ Refused j → Refines (keep p.depth) p.depth s (window (mem text store ends) p) (p.at + 1) m' r (reading ⟨operator-name⟩ σ)
       oper_refused g = by (operator_cv s p.at σ h.rest l (spelled_none k e) a c) (refused_on typed_on g (f _ oper_holds))
 
       pub oper_typed : {next q₂ : Parser} {n : ℕ} {v : Read} → r ≡ read next n → q₂ ≡ templated_to next false → v ≡ given_of q₂ (n + 9)
@@ -214,7 +216,7 @@ module _ {s text store ends : Text} {p q : Parser} {σ : State} {to : ℕ} (h : 
   unq_ready = by_state m (holds_moved h to n.1)
 
   module _ {r : Peeked} (k : r ≡ peeked (drop q.at s)) where
-    pub unq_end : {m' : Memory} → r ≡ peeked_as.End → Unqualified s (mem text store ends) m' p (Refused 4) σ
+    pub unq_end : {m' : Memory} → r ≡ peeked_as.End → Unqualified s (mem text store ends) m' p (Refused NoRule) σ
     unq_end e = by (unq_is (end_at s p m k e) ∙ unqualified_end σ) refuses
 
     module _ {c : ℕ} (e : r ≡ peeked_as.Byte c) where
@@ -231,7 +233,7 @@ module _ {s text store ends : Text} {p q : Parser} {σ : State} {to : ℕ} (h : 
       as_byte y f = unq_is (here ∙ ap (λ (z : ℕ). z ∷ drop (to + 1) s) f)
 
       -- a byte that begins a code of two, and no more
-      pub unq_short : (y : ℕ) → reading ⟨unqualified-name⟩ (moved (y ∷ []) σ) ≡ refused 4 → {m' : Memory} → c ≡ y → length s ≤ to + 1 → Unqualified s (mem text store ends) m' p (Refused 4) σ
+      pub unq_short : (y : ℕ) → reading ⟨unqualified-name⟩ (moved (y ∷ []) σ) ≡ refused 4 → {m' : Memory} → c ≡ y → length s ≤ to + 1 → Unqualified s (mem text store ends) m' p (Refused NoRule) σ
       unq_short y g f l = by (as_byte y f ∙ ap (λ (t : Text). reading ⟨unqualified-name⟩ (moved (y ∷ t) σ)) (rest_none s (to + 1) l) ∙ g) refuses
 
       behind_two : to + 1 < length s → drop (to + 1) s ≡ slice_index s (to + 1) ∷ drop (to + 2) s

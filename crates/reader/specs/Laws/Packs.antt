@@ -31,6 +31,9 @@ use Rattle.reader.specs.Laws.Standing.{same_sizes}
 use Rattle.reader.specs.Lists.{before_text, ends_pack, opens_pack}
 use Rattle.reader.specs.Laws.Items.{peek_byte, peek_end, byte_within, while_stops, while_goes, ends_on, on_byte, refused_is}
 use Rattle.reader.specs.Laws.Closes.{closed_no, closed_yes, then_refused, then_ok, behind_is, arg_pack}
+use Rattle.grammar.specs.declared.refusal.Refusal.{Refusal}
+use Rattle.grammar.specs.declared.refusal.Refusal.TheVariants.{LongText}
+use Rattle.grammar.specs.Refusals.{refusal_number}
 
 -- ---------------------------------------------------------------- the definition, from a pack with texts on
 
@@ -255,10 +258,10 @@ module _ {s : Text} {m₀ : Memory} {p₀ : Parser} {text text' store ends : Lis
   told : Refines (keep q.depth) q.depth s (take q.top text') (q.at + 1) m'' r (reading ⟨template-arg⟩ l.state)
   told = k l.state (holds_puts u l.holds)
 
-  pub packed_refuses : {k d : ℕ} {s' base : Text} {from : ℕ} {m : Memory} {j : ℕ} → r ≡ Refused j → Refines k d s' base from m r (g.pack reading σ₀)
+  pub packed_refuses : {k d : ℕ} {s' base : Text} {from : ℕ} {m : Memory} {j : Refusal} → r ≡ Refused j → Refines k d s' base from m r (g.pack reading σ₀)
   packed_refuses {k} {d} {s'} {base} {from} {m} {j} f =
       by (l.same ∙ goes_wrong l.around l.texts l.state (before l e i) (refused_is f told))
-      (subst (λ (x : Read). Refines k d s' base from m x (refused j)) (sym f) refuses)
+      (subst (λ (x : Read). Refines k d s' base from m x (refused (refusal_number j))) (sym f) refuses)
 
   module _ {p'' : Parser} {x : ℕ} (f : r ≡ read p'' x) where
     pub text_short : x ≤ most_text_bytes
@@ -358,7 +361,7 @@ module _ {s : Text} {m₀ : Memory} {p₀ : Parser} {m : Memory} {p : Parser} {o
       subst (λ (x : Read). Refines (keep p₀.depth) p₀.depth s (window m₀ p₀) (p₀.at + 1) m x (g.pack reading σ₀)) (sym (k ∙ ap (λ (x : Parser). given_of x j) f)) (go (nat_le j most_text_bytes) refl l.around l.tail l.level_is l.same)
     where
       answer : Bool → Read
-      answer q = if q then read (moved_to p (p.at + 1)) j otherwise Refused 11
+      answer q = if q then read (moved_to p (p.at + 1)) j otherwise Refused LongText
 
       go : (q : Bool) → nat_le j most_text_bytes ≡ q → (around : List (List Text)) → Tail (keep p₀.depth) (window m p) (window m₀ p₀ ++ (under around ++ shown)) → level ≡ length around →
           g.pack reading σ₀ ≡ outward around (rest_of l.texts l.state) → Refines (keep p₀.depth) p₀.depth s (window m₀ p₀) (p₀.at + 1) m (answer q) (g.pack reading σ₀)

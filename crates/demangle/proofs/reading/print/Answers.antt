@@ -20,7 +20,7 @@ returns-then-out-size c store ends t σ h =
 
 pub write_counted-requires : goal.write_counted-requires
 write_counted-requires c =
-    (c.slots-slots.ensures.0, (omega (arith, c.requires), (c.requires.1.0, omega (arith, c.if-out-size.false, newest_length c.args.text.now c.args.p.top c.args.n c.requires.0 c.requires.1.0 c.slots-slots.ensures.0))))
+    (c.slots-slots.ensures.0, omega (arith, c.if-out-size.false, newest_length c.args.text.now c.args.p.top c.args.n c.requires.0 c.requires.1.0 c.slots-slots.ensures.0))
 
 pub returns : goal.returns
 returns c store ends t σ h =

@@ -1,12 +1,11 @@
-use mathlib.Core.List.{◌++◌}
-use mathlib.Core.Path.{◌≡◌}
-use Prim.Native.Nat.{◌-◌, ◌≤◌}
-use lib.ListN.{length, take, drop}
+use Rattle.std.proofs.Common.{◌≡◌, ◌++◌, length, take, drop}
 use Rattle.grammar.specs.Names.{without_slots}
 use Rattle.demangle.proofs.symbol.write_name.Given as goal
 
-abbrev pub invariant-loop-i : goal.invariant-loop-i
-invariant-loop-i l = (l.i ≤ l.n) × ((length l.out ≡ length l.initial.out) × ((l.at ≡ length (without_slots (take l.i (drop l.from l.text)))) × (l.out ≡ without_slots (take l.i (drop l.from l.text)) ++ drop l.at l.initial.out)))
-
-abbrev pub decreases-loop-i : goal.decreases-loop-i
-decreases-loop-i l = l.n - l.i
+abbrev pub invariant-loop-at : goal.invariant-loop-at
+invariant-loop-at l = record {
+  can : (goal.iterator-loop-at).can_next l.at-iterator;
+  finite : (goal.iterator-loop-at).is_finite l.at-iterator;
+  size : length l.out ≡ length l.initial.out;
+  is : l.out ≡ take (length l.yielded) (without_slots l.text) ++ drop (length l.yielded) l.initial.out;
+}

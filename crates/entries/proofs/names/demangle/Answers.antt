@@ -1,8 +1,8 @@
-use native.Mathlib.Omega.{arith}
 use Rattle.entries.specs.Laws.Outcome.{told_demangles}
 use Rattle.entries.proofs.names.demangle.Goals as goal
 
-pub returns : goal.returns
-returns c =
-    told_demangles c.args.s.now c.args.out.now c.args.text.now c.args.store.now c.args.ends.now c.clear.ensures
-    (omega (arith, c.demangle_uncleared-answer.auto.out)) (omega (arith, c.demangle_uncleared-answer.auto.out)) (omega (arith, c.demangle_uncleared-answer.auto.out)) c.demangle_uncleared-answer.ensures
+pub returns-clause-left : goal.returns-clause-left
+returns-clause-left c =
+    let w = c.args.work.now in
+    let s = c.demangle_uncleared-answer.ensures.same in
+    told_demangles c.args.s.now c.args.out.now w.text.now w.store.now w.ends.now c.clear.ensures.cleared s.text_length s.store_length s.ends_length c.demangle_uncleared-answer.ensures.told

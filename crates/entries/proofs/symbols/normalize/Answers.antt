@@ -1,9 +1,10 @@
-use native.Mathlib.Omega.{arith}
-use Rattle.answer.specs.Told.{normal_slices}
+use Rattle.answer.specs.Lent.{all_slices_of}
 use Rattle.entries.specs.Laws.Outcome.{told_normalizes}
 use Rattle.entries.proofs.symbols.normalize.Goals as goal
 
-pub returns : goal.returns
-returns c =
-    told_normalizes c.args.s.now (normal_slices c.args.out.now c.args.text.now c.args.store.now c.args.ends.now c.args.words.now c.args.tables.now c.args.chains.now) c.clear.ensures
-    (omega (arith, c.normalize_uncleared-answer.auto.out)) (omega (arith, c.normalize_uncleared-answer.auto.out)) (omega (arith, c.normalize_uncleared-answer.auto.out)) c.clear_numbers.ensures (omega (arith, c.normalize_uncleared-answer.auto.out)) (omega (arith, c.normalize_uncleared-answer.auto.out)) (omega (arith, c.normalize_uncleared-answer.auto.out)) c.normalize_uncleared-answer.ensures
+pub returns-clause-left : goal.returns-clause-left
+returns-clause-left c =
+    let a = c.normalize_uncleared-answer.ensures in
+    told_normalizes c.args.s.now (all_slices_of c.args.out.now c.args.work.now c.args.numbers.now) c.clear.ensures.cleared
+    a.same.text_length a.same.store_length a.same.ends_length c.clear-2.ensures.cleared
+    a.same_numbers.words_length a.same_numbers.tables_length a.same_numbers.chains_length a.told

@@ -1,7 +1,8 @@
 use native.Mathlib.Omega.{arith}
-use Rattle.normalize.specs.Laws.Answers.{number_is}
+use Rattle.normalize.specs.Laws.Answers.{reading_is}
 use Rattle.normalize.proofs.reading.accepted.Goals as goal
 
-pub returns : goal.returns
-returns c =
-    number_is c.args.s.now _ c.args.text.now c.args.store.now c.args.ends.now c.demangle_uncleared.result c.demangle_uncleared.ensures (omega arith) c.requires c.number.ensures
+pub returns-clause-told : goal.returns-clause-told
+returns-clause-told c =
+    let w = c.args.work.now in
+    reading_is c.args.s.now _ w.text.now w.store.now w.ends.now c.demangle_uncleared.result c.demangle_uncleared.ensures.told (omega arith) c.requires

@@ -1,59 +1,30 @@
-use mathlib.Core.Bool.{true}
-use mathlib.Core.Path.{◌≡◌, sym, ◌∙◌}
-use native.Mathlib.Omega.{arith}
-use Rattle.catalogue.specs.Answer.{least_numbers}
-use Rattle.answer.specs.Told.{normal_slices, fit, numbers_fit}
-use Rattle.answer.specs.Laws.Told.{fit_long, fit_long_numbers}
-use Rattle.demangle.specs.Laws.Told.{front_inside}
+use mathlib.Core.Path.{sym, ◌∙◌}
+use Rattle.std.proofs.lemmas.Result.{err_from_is_err_and}
+use Rattle.answer.specs.Lent.{all_slices_of}
 use Rattle.normalize.specs.Laws.Answers.{front_refuses, front_short, numbers_short, reading_refuses, reading_accepts}
 use Rattle.normalize.proofs.reading.normalize_uncleared.Goals as goal
+use Rattle.normalize.proofs.reading.normalize_uncleared.Goals.{then-not-fits-via-then-not-fits, then-not-fits-via-else-not-fits+then-not-fits-2}
 
-pub returns-in_default : goal.returns-in_default
-returns-in_default c =
-    front_refuses c.behind_front-front.ensures (normal_slices c.args.out.now c.args.text.now c.args.store.now c.args.ends.now c.args.words.now c.args.tables.now c.args.chains.now) c.in_default.is c.refused.ensures
+pub returns-in_err-behind_front-clause-told : goal.returns-in_err-behind_front-clause-told
+returns-in_err-behind_front-clause-told c =
+    let p = err_from_is_err_and c.from_residual.result c.from_residual.ensures.1 in
+    rw (p.1, p.2) (front_refuses c.in_err-behind_front.ensures (all_slices_of c.args.out.now c.args.work.now c.args.numbers.now))
 
-pub returns-then-not-work_fits : goal.returns-then-not-work_fits
-returns-then-not-work_fits c =
-    front_short c.behind_front-front.ensures c.in-Behind.is (normal_slices c.args.out.now c.args.text.now c.args.store.now c.args.ends.now c.args.words.now c.args.tables.now c.args.chains.now) (sym c.work_fits.ensures ∙ c.if-not-work_fits.true)
+pub returns-then-not-fits-clause-told : goal.returns-then-not-fits-clause-told
+returns-then-not-fits-clause-told c =
+    let l = all_slices_of c.args.out.now c.args.work.now c.args.numbers.now in
+    elim c.then-not-fits.branch [
+      | then-not-fits-via-then-not-fits w ↦ front_short c.in_ok-behind_front.ensures l (sym c.fits.ensures ∙ w.if-not-fits.true)
+      | then-not-fits-via-else-not-fits+then-not-fits-2 w ↦ numbers_short c.in_ok-behind_front.ensures l (sym c.fits.ensures ∙ w.if-not-fits.false) (sym w.fits-else-not-fits.ensures ∙ w.if-not-fits-2.true)
+    ]
 
-pub returns-then-not-numbers_fit : goal.returns-then-not-numbers_fit
-returns-then-not-numbers_fit c =
-    let fits : fit least_numbers (normal_slices c.args.out.now c.args.text.now c.args.store.now c.args.ends.now c.args.words.now c.args.tables.now c.args.chains.now) ≡ true =
-    sym c.work_fits.ensures ∙ c.if-not-work_fits.false in
-    numbers_short c.behind_front-front.ensures c.in-Behind.is (normal_slices c.args.out.now c.args.text.now c.args.store.now c.args.ends.now c.args.words.now c.args.tables.now c.args.chains.now) fits (sym c.numbers_fit.ensures ∙ c.if-not-numbers_fit.true)
+pub returns-in_err-accepted-clause-told : goal.returns-in_err-accepted-clause-told
+returns-in_err-accepted-clause-told c =
+    let p = err_from_is_err_and c.from_residual-in_err-accepted.result c.from_residual-in_err-accepted.ensures.1 in
+    rw (p.1, p.2) (reading_refuses c.in_ok-behind_front.ensures (all_slices_of c.args.out.now c.args.work.now c.args.numbers.now)
+    (sym c.fits.ensures ∙ c.if-not-fits.false) (sym c.fits-else-not-fits.ensures ∙ c.if-not-fits-2.false) c.in_err-accepted.ensures.told)
 
-pub accepted-first-requires : goal.accepted-first-requires
-accepted-first-requires c =
-    let fits : fit least_numbers (normal_slices c.args.out.now c.args.text.now c.args.store.now c.args.ends.now c.args.words.now c.args.tables.now c.args.chains.now) ≡ true =
-    sym c.work_fits.ensures ∙ c.if-not-work_fits.false in
-    let l = fit_long _ (normal_slices c.args.out.now c.args.text.now c.args.store.now c.args.ends.now c.args.words.now c.args.tables.now c.args.chains.now) fits in
-    record { text = l.text; store = l.store; ends = l.ends }
-
-pub returns-then-first-ne0 : goal.returns-then-first-ne0
-returns-then-first-ne0 c =
-    let fits : fit least_numbers (normal_slices c.args.out.now c.args.text.now c.args.store.now c.args.ends.now c.args.words.now c.args.tables.now c.args.chains.now) ≡ true =
-    sym c.work_fits.ensures ∙ c.if-not-work_fits.false in
-    let numbers : numbers_fit least_numbers (normal_slices c.args.out.now c.args.text.now c.args.store.now c.args.ends.now c.args.words.now c.args.tables.now c.args.chains.now) ≡ true =
-    sym c.numbers_fit.ensures ∙ c.if-not-numbers_fit.false in
-    reading_refuses c.behind_front-front.ensures c.in-Behind.is (normal_slices c.args.out.now c.args.text.now c.args.store.now c.args.ends.now c.args.words.now c.args.tables.now c.args.chains.now) fits numbers c.accepted-first.ensures c.if-first-ne0.true
-
-pub write_within-requires : goal.write_within-requires
-write_within-requires c =
-    let fits : fit least_numbers (normal_slices c.args.out.now c.args.text.now c.args.store.now c.args.ends.now c.args.words.now c.args.tables.now c.args.chains.now) ≡ true =
-    sym c.work_fits.ensures ∙ c.if-not-work_fits.false in
-    let numbers : numbers_fit least_numbers (normal_slices c.args.out.now c.args.text.now c.args.store.now c.args.ends.now c.args.words.now c.args.tables.now c.args.chains.now) ≡ true =
-    sym c.numbers_fit.ensures ∙ c.if-not-numbers_fit.false in
-    let l = fit_long _ (normal_slices c.args.out.now c.args.text.now c.args.store.now c.args.ends.now c.args.words.now c.args.tables.now c.args.chains.now) fits in
-    let n = fit_long_numbers _ (normal_slices c.args.out.now c.args.text.now c.args.store.now c.args.ends.now c.args.words.now c.args.tables.now c.args.chains.now) numbers in
-    record {
-      s_len_bound = ((front_inside c.behind_front-front.ensures c.in-Behind.is).1, (omega (arith, l.store, c.accepted-first.auto), omega (arith, l.ends, c.accepted-first.auto)));
-      long_numbers = record { words = n.words; tables = n.tables; chains = n.chains };
-    }
-
-pub returns : goal.returns
-returns c =
-    let fits : fit least_numbers (normal_slices c.args.out.now c.args.text.now c.args.store.now c.args.ends.now c.args.words.now c.args.tables.now c.args.chains.now) ≡ true =
-    sym c.work_fits.ensures ∙ c.if-not-work_fits.false in
-    let numbers : numbers_fit least_numbers (normal_slices c.args.out.now c.args.text.now c.args.store.now c.args.ends.now c.args.words.now c.args.tables.now c.args.chains.now) ≡ true =
-    sym c.numbers_fit.ensures ∙ c.if-not-numbers_fit.false in
-    reading_accepts c.behind_front-front.ensures c.in-Behind.is (normal_slices c.args.out.now c.args.text.now c.args.store.now c.args.ends.now c.args.words.now c.args.tables.now c.args.chains.now) fits numbers c.accepted-first.ensures c.if-first-ne0.false c.write_within.ensures
+pub returns-clause-told : goal.returns-clause-told
+returns-clause-told c =
+    reading_accepts c.in_ok-behind_front.ensures (all_slices_of c.args.out.now c.args.work.now c.args.numbers.now)
+    (sym c.fits.ensures ∙ c.if-not-fits.false) (sym c.fits-else-not-fits.ensures ∙ c.if-not-fits-2.false) c.in_ok-accepted.ensures.told c.write_within.ensures.told

@@ -6,8 +6,8 @@ pub returns-in_default : goal.returns-in_default
 returns-in_default c =
     told_6 c.args.s.now c.args.out.now (not_written c.write_symbol.ensures c.in_default.is)
 
-pub print-requires : goal.print-requires
-print-requires c =
+pub slice_bounds-print-end : goal.slice_bounds-print-end
+slice_bounds-print-end c =
     written_fits (was_written c.write_symbol.ensures c.in-Symbol.is).1.1
 
 pub returns : goal.returns

@@ -3,6 +3,7 @@ use native.Mathlib.Omega.{arith}
 use Rattle.store.specs.Laws.Entries.{entries_sized}
 use Rattle.parser.specs.Halves.{with_args}
 use Rattle.parser.specs.Laws.Halves.{store_size, ends_size, holds_args, args_lent, push_arg_is, pushes_not, pushes_entry}
+use Rattle.grammar.specs.declared.refusal.Refusal.TheVariants.{ArgumentsFull}
 use Rattle.parser.proofs.memory.push_arg.Goals as goal
 
 pub slice_bounds-push-count : goal.slice_bounds-push-count
@@ -27,7 +28,7 @@ push-requires c =
 
 pub returns-then-not-push : goal.returns-then-not-push
 returns-then-not-push c k d s base from t σ h =
-    pushes_not h (args_lent h.holds) c.push.ensures (with_args (σ.args ++ (t ∷ [])) σ) 10 (push_arg_is t σ) c.if-not-push.true
+    pushes_not h (args_lent h.holds) c.push.ensures (with_args (σ.args ++ (t ∷ [])) σ) ArgumentsFull (push_arg_is t σ) c.if-not-push.true
 
 pub overflow_add-args-2 : goal.overflow_add-args-2
 overflow_add-args-2 c =
@@ -35,4 +36,4 @@ overflow_add-args-2 c =
 
 pub returns : goal.returns
 returns c k d s base from t σ h =
-    pushes_entry h (args_lent h.holds) c.push.ensures (with_args (σ.args ++ (t ∷ [])) σ) 10 (push_arg_is t σ) c.if-not-push.false c.with_args.ensures (holds_args h.holds)
+    pushes_entry h (args_lent h.holds) c.push.ensures (with_args (σ.args ++ (t ∷ [])) σ) ArgumentsFull (push_arg_is t σ) c.if-not-push.false c.with_args.ensures (holds_args h.holds)

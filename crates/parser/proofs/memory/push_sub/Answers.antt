@@ -5,6 +5,7 @@ use Rattle.store.specs.Laws.Entries.{entries_sized}
 use Rattle.parser.specs.Holds.{low_bytes, low_ends}
 use Rattle.parser.specs.Halves.{with_subs}
 use Rattle.parser.specs.Laws.Halves.{store_size, ends_size, holds_subs, push_sub_is, pushes_not, pushes_entry}
+use Rattle.grammar.specs.declared.refusal.Refusal.TheVariants.{TableFull}
 use Rattle.parser.proofs.memory.push_sub.Goals as goal
 
 pub slice_bounds-push-end : goal.slice_bounds-push-end
@@ -33,7 +34,7 @@ push-requires c =
 pub returns-then-not-push : goal.returns-then-not-push
 unfolding low_bytes low_ends
 returns-then-not-push c k d s base from t σ h =
-    pushes_not h h.holds.subs c.push.ensures (with_subs (σ.subs ++ (t ∷ [])) σ) 9 (push_sub_is t σ) c.if-not-push.true
+    pushes_not h h.holds.subs c.push.ensures (with_subs (σ.subs ++ (t ∷ [])) σ) TableFull (push_sub_is t σ) c.if-not-push.true
 
 pub overflow_add-subs-2 : goal.overflow_add-subs-2
 overflow_add-subs-2 c =
@@ -42,4 +43,4 @@ overflow_add-subs-2 c =
 pub returns : goal.returns
 unfolding low_bytes low_ends
 returns c k d s base from t σ h =
-    pushes_entry h h.holds.subs c.push.ensures (with_subs (σ.subs ++ (t ∷ [])) σ) 9 (push_sub_is t σ) c.if-not-push.false c.with_subs.ensures (holds_subs h.holds)
+    pushes_entry h h.holds.subs c.push.ensures (with_subs (σ.subs ++ (t ∷ [])) σ) TableFull (push_sub_is t σ) c.if-not-push.false c.with_subs.ensures (holds_subs h.holds)
