@@ -20,14 +20,14 @@ abbrev pub numbered : Result ℕ Refusal → Result ℕ ℕ
 numbered (Ok n) = Ok n
 numbered (Err e) = Err (refusal_number e)
 
--- the number and the length that C is told of it
-abbrev pub number_in : Result ℕ Refusal → ℕ
+-- document 01's number and value of an answer
+abbrev pub number_in : Result ℕ ℕ → ℕ
 number_in (Ok n) = 0
-number_in (Err e) = refusal_number e
+number_in (Err k) = k
 
-abbrev pub bytes_in : Result ℕ Refusal → ℕ
+abbrev pub bytes_in : Result ℕ ℕ → ℕ
 bytes_in (Ok n) = n
-bytes_in (Err e) = 0
+bytes_in (Err k) = 0
 
 -- the code's answer and the output are the definition's
 pub record Tells (a : n.Answer) (before after : Text) (r : Result ℕ Refusal) : Type 0 where

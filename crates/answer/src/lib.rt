@@ -4,12 +4,12 @@
 pub mod work;
 
 ghost use Rattle.std.specs.Prelude.{◌≡◌};
-ghost use Rattle.answer.specs.Told.{number_in, bytes_in};
+ghost use Rattle.answer.specs.Told.{numbered, number_in, bytes_in};
 
 use grammar::refusal::Refusal;
 
 pub fn number(answer: Result<usize, Refusal>) -> u8
-    ensures { result ≡ number_in answer }
+    ensures { result ≡ number_in (numbered answer) }
 {
     match answer {
         Ok(_) => 0,
@@ -18,7 +18,7 @@ pub fn number(answer: Result<usize, Refusal>) -> u8
 }
 
 pub fn bytes(answer: Result<usize, Refusal>) -> usize
-    ensures { result ≡ bytes_in answer }
+    ensures { result ≡ bytes_in (numbered answer) }
 {
     answer.unwrap_or(0)
 }

@@ -43,7 +43,7 @@ pub fn write_counted(out: &mut [u8], text: &[u8], slots: usize)
     ensures { out.new ≡ without_slots text.now ++ drop (length (without_slots text.now)) out.old }
 {
     if slots == 0 {
-        bytes::copy(out, 0, text);
+        out[..text.len()].copy_from_slice(text);
     } else {
         write_name(out, text);
     }

@@ -15,7 +15,6 @@ use answer::work::{Numbers, Work};
 use demangle::{reading, symbol};
 use grammar::refusal::Refusal;
 use grammar::state::Parser;
-use grammar::text as bytes;
 use normal_steps::state::{State, Writer};
 use normal_writer::symbol as writing;
 
@@ -109,6 +108,6 @@ fn print(out: &mut [u8], text: &[u8]) -> Result<usize, Refusal>
     if out.len() < text.len() {
         return Err(Refusal::ShortOutput);
     }
-    bytes::copy(out, 0, text);
+    out[..text.len()].copy_from_slice(text);
     Ok(text.len())
 }

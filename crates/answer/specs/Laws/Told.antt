@@ -10,19 +10,15 @@ use Rattle.grammar.specs.declared.refusal.Refusal.{Refusal}
 use Rattle.answer.specs.Told.{Slices, told, numbered, number_in, bytes_in, Tells, Long, fit, LongNumbers, numbers_fit}
 
 -- the number and the length of what is told
-pub number_told : (a : Answer) (r : Result ℕ Refusal) → numbered r ≡ told a → number_in r ≡ number_of a
+pub number_told : (a : Answer) → number_in (told a) ≡ number_of a
 unfolding told number_of
-number_told (named t) (Ok n) e = refl
-number_told (refusal k) (Err r) e = cc
-number_told (named t) (Err r) e = cc
-number_told (refusal k) (Ok n) e = cc
+number_told (named t) = refl
+number_told (refusal r) = refl
 
-pub bytes_told : (a : Answer) (r : Result ℕ Refusal) → numbered r ≡ told a → bytes_in r ≡ length_of a
+pub bytes_told : (a : Answer) → bytes_in (told a) ≡ length_of a
 unfolding told length_of
-bytes_told (named t) (Ok n) e = cc
-bytes_told (refusal k) (Err r) e = refl
-bytes_told (named t) (Err r) e = cc
-bytes_told (refusal k) (Ok n) e = cc
+bytes_told (named t) = refl
+bytes_told (refusal r) = refl
 
 module _ {a : Answer} {out : Text} where
   pub tells_refusal : {r : Refusal} → a ≡ refusal (refusal_number r) → Tells a out out (Err r)
@@ -34,11 +30,11 @@ module _ {a : Answer} {out : Text} where
   tells_name e f g = record { answer = ap Ok f ∙ sym (ap told e); out = g ∙ sym (ap (λ (x : Answer). written x out) e) }
 
 module _ {a : Answer} {before after : Text} {r : Result ℕ Refusal} (h : Tells a before after r) where
-  pub tells_number : number_in r ≡ number_of a
-  tells_number = number_told a r h.answer
+  pub tells_number : number_in (numbered r) ≡ number_of a
+  tells_number = ap number_in h.answer ∙ number_told a
 
-  pub tells_bytes : bytes_in r ≡ length_of a
-  tells_bytes = bytes_told a r h.answer
+  pub tells_bytes : bytes_in (numbered r) ≡ length_of a
+  tells_bytes = ap bytes_in h.answer ∙ bytes_told a
 
 pub tells_as : {a c : Answer} {before after : Text} {r : Result ℕ Refusal} → a ≡ c → Tells a before after r → Tells c before after r
 tells_as {before = before} {after = after} {r = r} e h = subst (λ (x : Answer). Tells x before after r) e h

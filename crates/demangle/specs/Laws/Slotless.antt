@@ -2,7 +2,7 @@
 use Rattle.std.specs.Prelude.{Bool, true, false, cond, not, List, [], ◌∷◌, ◌++◌, ◌≡◌, refl, ℕ, suc, ◌+◌, ◌≤◌, ◌<◌, eqb, length, take, drop, get_or, set, filter}
 use Rattle.std.specs.List.{enumerate_from}
 use Rattle.std.proofs.Common.{append_assoc, sym, ap, ap₂, ◌∙◌, add-one, arith, take-suc, length-take-le, drop-cons}
-use Rattle.std.proofs.Math.Seq.{paste, take-length}
+use Rattle.std.proofs.Math.Seq.{take-length}
 use Rattle.std.proofs.lemmas.Grind.{get_or_default_zero}
 use Rattle.std.proofs.lemmas.List.{set_at}
 use Rattle.std.proofs.lemmas.List.FromFn.{get_or-enumerate_from, length-enumerate_from}
@@ -33,10 +33,8 @@ slotless_same [] e = refl
 slotless_same (x ∷ t) e = bare x (without_slots t) t (eqb x 1) e (slotless_same t)
 
 -- it is written as it stands
-pub slotless_copied : (t out : Text) → slots_in t ≡ 0 → paste out 0 t (length t) ≡ without_slots t ++ drop (length (without_slots t)) out
-slotless_copied t out e =
-    ap₂ (λ (x : Text) (k : ℕ). x ++ drop k out) (take-length t) (let z : 0 + length t ≡ length t = omega arith in z)
-    ∙ ap (λ (x : Text). x ++ drop (length x) out) (sym (slotless_same t e))
+pub slotless_copied : (t out : Text) → slots_in t ≡ 0 → t ++ drop (length t) out ≡ without_slots t ++ drop (length (without_slots t)) out
+slotless_copied t out e = ap (λ (x : Text). x ++ drop (length x) out) (sym (slotless_same t e))
 
 -- ---- its bytes, one after the other
 

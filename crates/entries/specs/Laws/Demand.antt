@@ -13,7 +13,7 @@ use Rattle.normal_walk.proofs.Laws.SymbolComplete.{walk_complete}
 use Rattle.normal_walk.proofs.Laws.Equal.{walk_is, walk_normal}
 use Rattle.agreement.specs.Laws.NormalNames.{demand_3_first, demand_3_second}
 use Rattle.grammar.specs.declared.refusal.Refusal.{Refusal}
-use Rattle.answer.specs.Told.{Slices, lent, number_in, bytes_in}
+use Rattle.answer.specs.Told.{Slices, lent, numbered, number_in, bytes_in}
 use Rattle.entries.specs.Outcome.{Demangles, Normalizes}
 use Rattle.entries.specs.Laws.Runs.{Has_normal, name_written, writes_name, normal_written, writes_normal}
 
@@ -21,8 +21,8 @@ use Rattle.entries.specs.Laws.Runs.{Has_normal, name_written, writes_name, norma
 
 -- a run answered 0, and the text stands in front of its output slice
 pub record Wrote (x : Text) (after : Slices) (r : Result ℕ Refusal) : Type 0 where
-  pub number : number_in r ≡ 0
-  pub text : take (bytes_in r) after.out ≡ x
+  pub number : number_in (numbered r) ≡ 0
+  pub text : take (bytes_in (numbered r)) after.out ≡ x
 
 -- a run of the entry for names answered 0 for the symbol s, and wrote x
 pub record Named (s x : Text) : Type 0 where

@@ -48,26 +48,26 @@ module _ (F : (Text → Answer) → Answer) (g : Text → Answer) (q : Bool) (n 
 
 -- ---- what an answer leaves
 
-is_ok_of : (r : Result ℕ Refusal) {n : ℕ} → numbered r ≡ Ok n → r ≡ Ok (bytes_in r)
-is_ok_of (Ok k) e = refl
-is_ok_of (Err k) e = cc
+is_ok : (r : Result ℕ Refusal) {n : ℕ} → numbered r ≡ Ok n → r ≡ Ok n
+is_ok (Ok k) e = let z : k ≡ _ = cc in ap Ok z
+is_ok (Err k) e = cc
 
 module _ (a : Answer) (l l' : Slices) (r : Result ℕ Refusal) (h : Leaves a l l' r) where
   answer_left : numbered r ≡ told a
   unfolding leaves
   answer_left = ap (λ (o : Outcome). o.answer) h
 
-  number_left : number_in r ≡ number_of a
-  number_left = number_told a r answer_left
+  number_left : number_in (numbered r) ≡ number_of a
+  number_left = ap number_in answer_left ∙ number_told a
 
-  name_left : (x : Text) → a ≡ named x → r ≡ Ok (bytes_in r)
+  name_left : (x : Text) → a ≡ named x → r ≡ Ok (bytes_in (numbered r))
   unfolding told
-  name_left x e = is_ok_of r (answer_left ∙ ap told e)
+  name_left x e = let f : r ≡ Ok (length x) = is_ok r (answer_left ∙ ap told e) in f ∙ ap Ok (sym (ap (λ (q : Result ℕ Refusal). bytes_in (numbered q)) f))
 
-  text_left : (x : Text) → a ≡ named x → take (bytes_in r) l'.out ≡ x
+  text_left : (x : Text) → a ≡ named x → take (bytes_in (numbered r)) l'.out ≡ x
   unfolding leaves length_of written
   text_left x e =
-      let b : bytes_in r ≡ length x = bytes_told a r answer_left ∙ ap length_of e in
+      let b : bytes_in (numbered r) ≡ length x = ap bytes_in answer_left ∙ bytes_told a ∙ ap length_of e in
       let o : l'.out ≡ x ++ drop (length x) l.out = ap (λ (o : Outcome). o.slices.out) h ∙ ap (λ (z : Answer). written z l.out) e in
       ap₂ (λ (n : ℕ) (t : Text). take n t) b o ∙ take_at x (drop (length x) l.out) (length x) refl
 
@@ -86,7 +86,7 @@ module _ (s : Text) (l l' : Slices) (r : Result ℕ Refusal) (h : Demangles s l 
   unfolding demangled
   named_leaves = h
 
-  asked_name : number_in r ≡ 0 → (x : Text) × ((asked ≡ named x) × (demangle most_symbol_bytes s ≡ named x))
+  asked_name : number_in (numbered r) ≡ 0 → (x : Text) × ((asked ≡ named x) × (demangle most_symbol_bytes s ≡ named x))
   unfolding answer demangle
   asked_name z =
       let k : number_of asked ≡ 0 = sym (number_left asked l l' r named_leaves) ∙ z in
@@ -95,14 +95,14 @@ module _ (s : Text) (l l' : Slices) (r : Result ℕ Refusal) (h : Demangles s l 
       (x, (e ∙ i, i))
 
   -- the number 0 is always told by `Ok`
-  pub named_at_0 : number_in r ≡ 0 → r ≡ Ok (bytes_in r)
+  pub named_at_0 : number_in (numbered r) ≡ 0 → r ≡ Ok (bytes_in (numbered r))
   named_at_0 z = let (x, (e, i)) = asked_name z in name_left asked l l' r named_leaves x e
 
-  pub name_written : number_in r ≡ 0 → demangle most_symbol_bytes s ≡ named (take (bytes_in r) l'.out)
+  pub name_written : number_in (numbered r) ≡ 0 → demangle most_symbol_bytes s ≡ named (take (bytes_in (numbered r)) l'.out)
   name_written z = let (x, (e, i)) = asked_name z in i ∙ ap named (sym (text_left asked l l' r named_leaves x e))
 
   pub writes_name : (x : Text) → demangle most_symbol_bytes s ≡ named x → work_fits (lent l) ≡ true → length x ≤ length l.out
-      → (number_in r ≡ 0) × (take (bytes_in r) l'.out ≡ x)
+      → (number_in (numbered r) ≡ 0) × (take (bytes_in (numbered r)) l'.out ≡ x)
   unfolding answer demangle number_of
   writes_name x e f g =
       let i : asked ≡ named x = named_front (front most_symbol_bytes s) mangled_name (work_fits (lent l)) (length l.out) (fronted s) x e f g in
@@ -148,7 +148,7 @@ module _ (s : Text) (l l' : Slices) (r : Result ℕ Refusal) (h : Normalizes s l
   abbrev behind_front : Text → Answer
   behind_front u = normal_after most_symbol_bytes s (mangled_name u)
 
-  wanted_normal : number_in r ≡ 0 → (v : Text) × ((wanted ≡ named v) × Has_normal s v)
+  wanted_normal : number_in (numbered r) ≡ 0 → (v : Text) × ((wanted ≡ named v) × Has_normal s v)
   unfolding normal_answer normal_symbol
   wanted_normal z =
       let k : number_of wanted ≡ 0 = sym (number_left wanted l l' r normal_leaves) ∙ z in
@@ -158,14 +158,14 @@ module _ (s : Text) (l l' : Slices) (r : Result ℕ Refusal) (h : Normalizes s l
       (v, (e ∙ i, j))
 
   -- the number 0 is always told by `Ok`
-  pub normalized_at_0 : number_in r ≡ 0 → r ≡ Ok (bytes_in r)
+  pub normalized_at_0 : number_in (numbered r) ≡ 0 → r ≡ Ok (bytes_in (numbered r))
   normalized_at_0 z = let (v, (e, j)) = wanted_normal z in name_left wanted l l' r normal_leaves v e
 
-  pub normal_written : number_in r ≡ 0 → Has_normal s (take (bytes_in r) l'.out)
+  pub normal_written : number_in (numbered r) ≡ 0 → Has_normal s (take (bytes_in (numbered r)) l'.out)
   normal_written z = let (v, (e, j)) = wanted_normal z in rw (text_left wanted l l' r normal_leaves v e) j
 
   pub writes_normal : (v : Text) → Has_normal s v → normal_work_fits most_symbol_bytes (lent l) ≡ true → length v ≤ length l.out
-      → (number_in r ≡ 0) × (take (bytes_in r) l'.out ≡ v)
+      → (number_in (numbered r) ≡ 0) × (take (bytes_in (numbered r)) l'.out ≡ v)
   unfolding normal_answer number_of
   writes_normal v e f g =
       let i : wanted ≡ named v =

@@ -1,12 +1,11 @@
 -- Laws of the answer of the entry for normal symbols, by what is told on the way. Assumes nothing.
-use Rattle.std.specs.Prelude.{true, false, [], ◌++◌, ◌≡◌, refl, ℕ, ◌+◌, ◌≤◌, ◌<◌, Result, Ok, Err}
+use Rattle.std.specs.Prelude.{true, false, [], ◌++◌, ◌≡◌, refl, ℕ, ◌≤◌, ◌<◌, Result, Ok, Err}
 use Rattle.std.proofs.Math.Option.{Option, none, some}
 use Rattle.std.proofs.Common.{sym, ◌∙◌}
-use Rattle.std.proofs.Math.Path.{ap, ap₂}
+use Rattle.std.proofs.Math.Path.{ap}
 use native.Mathlib.Omega.{arith}
 use borrow.Author.Tests.{le-leb, lt-leb}
 use Rattle.std.proofs.Math.ListN.{length, drop}
-use Rattle.std.proofs.Math.Seq.{paste, take-length}
 use Rattle.grammar.specs.Text.{Text, if◌then◌otherwise◌}
 use Rattle.grammar.specs.Limits.{most_symbol_bytes, most_text_bytes}
 use Rattle.grammar.specs.Names.{refusal, named, demangle, mangled_name, answer, within, work_fits}
@@ -37,12 +36,10 @@ module _ (w out : Text) where
   unfolding normal_told within if◌then◌otherwise◌
   told_12 h l = tells_refusal (rw (le-leb (length w) most_symbol_bytes h, lt-leb (length w) (length out) l))
 
-  pub told_name : length w ≤ most_symbol_bytes → length w ≤ length out → {out' : Text} {n : ℕ} → n ≡ length w → out' ≡ paste out 0 w (length w)
+  pub told_name : length w ≤ most_symbol_bytes → length w ≤ length out → {out' : Text} {n : ℕ} → n ≡ length w → out' ≡ w ++ drop (length w) out
       → Tells (within (length out) (normal_told most_symbol_bytes (some w))) out out' (Ok n)
   unfolding normal_told within if◌then◌otherwise◌
-  told_name h l e f =
-      tells_name {t = w} (rw (le-leb (length w) most_symbol_bytes h, le-leb (length w) (length out) l)) e
-      (f ∙ ap₂ (λ (x : Text) (k : ℕ). x ++ drop k out) (take-length w) (let e : 0 + length w ≡ length w = omega arith in e))
+  told_name h l e f = tells_name {t = w} (rw (le-leb (length w) most_symbol_bytes h, le-leb (length w) (length out) l)) e f
 
 -- the code's walk finds what the recogniser finds
 pub note_is : (s : Text) → note_symbol s ≡ normal_in (classify s)

@@ -9,14 +9,24 @@ use Rattle.demangle.proofs.symbol.write_name.Goals as goal
 pub bounds-out-at : goal.bounds-out-at
 bounds-out-at c =
     let i = c.into_iter-at-iterator.ensures.into_iter_gives in
-    let t = YieldsList-turn (YieldsList-at i (YieldsList-from_enumerate (YieldsList-at c.enumerate-at-items.ensures.source (YieldsList-from_filter _ no_slot (YieldsList-at c.filter.ensures.source (YieldsList-from_slice c.args.text.now cc)) c.filter.ensures.closure (λ x r q k. search (rules, tests)))) c.enumerate-at-items.ensures.count)) c.loop-at.yielded _ c.loop-at.yielded_by _ _ _ c.in-Some.is c.next.ensures.steps in
+    let e = c.enumerate-at-items.ensures in
+    let slice = YieldsList-at c.filter.ensures.source (YieldsList-from_slice c.args.text.now cc) in
+    let t =
+    YieldsList-turn
+    (YieldsList-at i (YieldsList-from_enumerate (YieldsList-at e.source (YieldsList-from_filter _ no_slot slice c.filter.ensures.closure (λ x r q k. search (rules, tests)))) e.count))
+    c.loop-at.yielded _ c.loop-at.yielded_by _ _ _ c.in-Some.is c.next.ensures.steps in
     let b = slotless_turn c.args.text.now t.0 t.1 in
     omega arith
 
 pub loop-at-preserved : goal.loop-at-preserved
 loop-at-preserved c =
     let i = c.into_iter-at-iterator.ensures.into_iter_gives in
-    let t = YieldsList-turn (YieldsList-at i (YieldsList-from_enumerate (YieldsList-at c.enumerate-at-items.ensures.source (YieldsList-from_filter _ no_slot (YieldsList-at c.filter.ensures.source (YieldsList-from_slice c.args.text.now cc)) c.filter.ensures.closure (λ x r q k. search (rules, tests)))) c.enumerate-at-items.ensures.count)) c.loop-at.yielded _ c.loop-at.yielded_by _ _ _ c.in-Some.is c.next.ensures.steps in
+    let e = c.enumerate-at-items.ensures in
+    let slice = YieldsList-at c.filter.ensures.source (YieldsList-from_slice c.args.text.now cc) in
+    let t =
+    YieldsList-turn
+    (YieldsList-at i (YieldsList-from_enumerate (YieldsList-at e.source (YieldsList-from_filter _ no_slot slice c.filter.ensures.closure (λ x r q k. search (rules, tests)))) e.count))
+    c.loop-at.yielded _ c.loop-at.yielded_by _ _ _ c.in-Some.is c.next.ensures.steps in
     let b = slotless_turn c.args.text.now t.0 t.1 in
     record {
       can = search rules;
@@ -28,5 +38,10 @@ loop-at-preserved c =
 pub returns : goal.returns
 returns c =
     let i = c.into_iter-at-iterator.ensures.into_iter_gives in
-    let t = YieldsList-end (YieldsList-at i (YieldsList-from_enumerate (YieldsList-at c.enumerate-at-items.ensures.source (YieldsList-from_filter _ no_slot (YieldsList-at c.filter.ensures.source (YieldsList-from_slice c.args.text.now cc)) c.filter.ensures.closure (λ x r q k. search (rules, tests)))) c.enumerate-at-items.ensures.count)) c.loop-at.yielded _ c.loop-at.yielded_by _ _ c.in-None.is c.next.ensures.steps in
+    let e = c.enumerate-at-items.ensures in
+    let slice = YieldsList-at c.filter.ensures.source (YieldsList-from_slice c.args.text.now cc) in
+    let t =
+    YieldsList-end
+    (YieldsList-at i (YieldsList-from_enumerate (YieldsList-at e.source (YieldsList-from_filter _ no_slot slice c.filter.ensures.closure (λ x r q k. search (rules, tests)))) e.count))
+    c.loop-at.yielded _ c.loop-at.yielded_by _ _ c.in-None.is c.next.ensures.steps in
     slotless_end c.args.text.now c.args.out.now c.loop-at.invariant.is t.1
