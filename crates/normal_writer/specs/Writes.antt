@@ -1,6 +1,6 @@
 -- What the writing of a normal symbol promises.
 use Rattle.std.specs.Prelude.{Bool, false, [], ◌≡◌, ℕ, ◌+◌, ◌≤◌, length, drop, Option, Some, None}
-use Rattle.std.proofs.Math.Option.{Option as Told, none, some}
+use Rattle.std.proofs.Math.Option.{Option as Normal, none, some}
 use Rattle.grammar.specs.Text.{Text}
 use Rattle.grammar.specs.Limits.{most_symbol_bytes}
 use Rattle.store.specs.Table.{Front}
@@ -19,7 +19,7 @@ pub record Lent (w : Writer) : Type 0 where
   pub numbers : Sized w.ends.now w.words.now w.tables.now w.chains.now
 
 -- the normal symbol stands in `out`, and the state says what is used of the slices
-pub data Writes (w : Writer) : Option (Unit {0}) → Told Text → Type 0 where
+pub data Writes (w : Writer) : Option (Unit {0}) → Normal Text → Type 0 where
   writes : {σ : Notes} → Held w σ → Writes w (Some tt) (some σ.out)
   outside : Writes w None none
 

@@ -16,7 +16,7 @@ use demangle::{reading, symbol};
 use grammar::refusal::Refusal;
 use grammar::state::Parser;
 use normal_steps::state::{State, Writer};
-use normal_writer::symbol::write_symbol;
+use normal_writer::symbol as writing;
 
 // The normal symbol of the symbol, into `out`. Work slices of any lengths and contents; what they hold at the end is left free.
 pub fn normalize_uncleared(
@@ -84,7 +84,7 @@ fn write(
     requires { (length s.now ≤ most_symbol_bytes) × ((length store.old ≡ out_length) × Sized ends.old words.old tables.old chains.old) }
     ensures { Tells (accepted_answer (length out.old) s.now) out.old out.new result }
 {
-    let mut writer = Writer {
+    let mut w = Writer {
         s,
         out: store,
         ends,
@@ -93,12 +93,9 @@ fn write(
         chains,
         state: State::begun(0, 0),
     };
-    let Some(()) = write_symbol(&mut writer) else {
-        return Err(Refusal::NotCatalogue);
-    };
-    let n = writer.state.out;
-    let written = &mut *writer.out;
-    print(out, &written[..n])
+    writing::write_symbol(&mut w).ok_or(Refusal::NotCatalogue)?;
+    let n = w.state.out;
+    print(out, &w.out[..n])
 }
 
 // The text as the normal symbol.

@@ -1,5 +1,5 @@
 -- A loop of a member as far as it went. Assumes nothing.
-use Rattle.std.specs.Prelude.{◌≡◌, refl, ℕ, ◌+◌, ◌≤◌, ◌<◌, Option}
+use Rattle.std.specs.Prelude.{◌≡◌, ℕ, ◌+◌, ◌≤◌, ◌<◌, Option}
 use Rattle.std.proofs.Common.{◌∙◌, arith}
 use Rattle.normal_nodes.specs.Nodes.{Got}
 use Rattle.normal_steps.specs.States.{moved_to}
@@ -28,9 +28,6 @@ pub record SoFar (F : Writer → Option ℕ → Type 0) (w₀ : Writer) (G : Wri
   pub whole : (w' : Writer) (r : Option ℕ) → G w' r → F w' r
 
 module _ {F : Writer → Option ℕ → Type 0} where
-  pub nothing_yet : (w : Writer) {t : ℕ} → t < most_number → Ready w → SoFar F w F w t
-  nothing_yet w l y = record { source = refl; further = omega arith; small = l; ready = y; whole = λ w' r x. x }
-
   pub one_more : {G H : Writer → Option ℕ → Type 0} {w₀ w : Writer} (w₁ : Writer) {t d : ℕ} → SoFar F w₀ G w t
       → w₁.s.now ≡ w.s.now → w.state.at ≤ w₁.state.at → d < most_number → Ready w₁ → ((w' : Writer) (r : Option ℕ) → H w' r → G w' r)
       → SoFar F w₀ H w₁ d

@@ -24,7 +24,7 @@ use Rattle.normal_steps.specs.Laws.Slices.{numbered}
 use Rattle.normal_steps.specs.Laws.Limits.{spent_nothing, spent_room}
 use Rattle.normal_writer.specs.Laws.FirstBytes.{parts_none, parts_some, more_some}
 use Rattle.normal_writer.specs.Laws.Types.{Here, here_byte, by_name, by_reference, Behind, FirstPart, args_at, args_from, args_closed, Enclosed, close_next, closed_next, Enters}
-use Rattle.normal_writer.specs.Laws.Loops.{Told, moved, SoFar, nothing_yet, one_more}
+use Rattle.normal_writer.specs.Laws.Loops.{Told, moved, SoFar, one_more}
 use Rattle.normal_steps.specs.declared.lead.Lead.TheVariants.{Digit, S}
 use Rattle.normal_steps.specs.declared.state.Writer.{Writer}
 
@@ -265,9 +265,6 @@ module _ (w : Writer) (d : ℕ) (lone : Bool) (from : ℕ) where
 
 abbrev pub MoreSoFar : ℕ → Writer → ℕ → Bool → Writer → ℕ → Bool → Type 0
 MoreSoFar from w₀ t₀ lone₀ w t lone = (Stretch from w.state) × SoFar (MoreFrom t₀ lone₀ from w₀) w₀ (MoreFrom t lone from w) w t
-
-pub more_start : (w : Writer) {t from : ℕ} (lone : Bool) → t < most_number → Stretch from w.state → Ready w → MoreSoFar from w t lone w t lone
-more_start w lone l b y = (b, nothing_yet w l y)
 
 -- no E is behind what was read, and it enters the table
 module _ {from t d : ℕ} {lone lone' : Bool} {w w₁ : Writer} (a : Onward from t lone w w₁ d lone') (w₂ : Writer) (v : Enters d from w₁ w₂) (z : w₂.s.now ≡ w₁.s.now) where

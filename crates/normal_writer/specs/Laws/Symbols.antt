@@ -234,9 +234,6 @@ pub record Turned (w w' : Writer) : Type 0 where
   pub source : w'.s.now ≡ w.s.now
   pub goes : (σ : Notes) → Held w σ → (m : ℕ) → length w.s.now + 1 ≤ m + w.state.at → Goes w' (note_at_end σ σ.rest (λ ρ. note_types m ρ))
 
-pub turned_none : (w : Writer) → Turned w w
-turned_none w = record { source = refl; goes = λ σ h m l. record { state = σ; fuel = m; holds = h; enough = l; is = refl } }
-
 -- where the first state is ready, so is this one
 pub turned_from : {w w' : Writer} → Turned w w' → (y : Ready w) → Goes w' (note_at_end y.0 y.0.rest (λ ρ. note_types (length w.s.now + 1) ρ))
 turned_from {w} a y = a.goes y.0 y.1 (length w.s.now + 1) (omega arith)
