@@ -1,28 +1,27 @@
 -- The lines that are taken, one after another. Assumes nothing.
-use Rattle.std.specs.Prelude.{true, not, List, ◌++◌, ◌≡◌, ℕ, ◌+◌, ◌-◌, ◌≤◌, eqb, length, drop}
+use Rattle.std.specs.Prelude.{true, not, List, ◌++◌, ◌≡◌, ℕ, ◌+◌, ◌-◌, ◌≤◌, eqb, length, drop, Result, Ok, Err}
 use Rattle.grammar.specs.Text.{Text, if◌then◌otherwise◌, run}
-use Rattle.listing.specs.Listing.{lines, bytes_taken, listing, fitting, number_for}
+use Rattle.grammar.specs.declared.refusal.Refusal.{Refusal}
+use Rattle.grammar.specs.declared.refusal.Refusal.TheVariants.{ShortOutput}
+use Rattle.listing.specs.Listing.{lines, bytes_taken, listing, fitting, number_for, number_told, taken_told, written_told}
 use Rattle.listing.specs.declared.listing.Kind.{Kind}
 use Rattle.listing.specs.declared.listing.Listed.{Listed}
 
 -- the lines ss were taken and listed, and the number is told
-pub record Goes (kind : Kind) (number : ℕ) (out out' : Text) (ss : List Text) (r : Listed) : Type 0 where
-  pub told : r.number ≡ number
-  pub taken : r.taken ≡ bytes_taken ss
-  pub written : r.written ≡ length (listing kind ss)
+pub record Goes (kind : Kind) (number : ℕ) (out out' : Text) (ss : List Text) (r : Result Listed Refusal) : Type 0 where
+  pub told : number_told r ≡ number
+  pub taken : taken_told r ≡ bytes_taken ss
+  pub written : written_told r ≡ length (listing kind ss)
   pub is : out' ≡ listing kind ss ++ drop (length (listing kind ss)) out
 
 -- the same of the lines that fit, with work slices that are long enough
-abbrev pub GoesOn : Kind → Text → Text → Text → Listed → Type 0
+abbrev pub GoesOn : Kind → Text → Text → Text → Result Listed Refusal → Type 0
 GoesOn kind input out out' r =
     let ss : List Text = fitting kind (length out) (lines input) in Goes kind (number_for true (lines input) ss) out out' ss r
 
--- the number where the next line does not fit
-abbrev pub full_number : ℕ → ℕ
-full_number taken = if eqb taken 0 then 12 otherwise 0
-
-abbrev pub full_at : ℕ → ℕ → Listed
-full_at taken written = record { number = full_number taken; taken = taken; written = written }
+-- what is told where the next line does not fit
+abbrev pub full_at : ℕ → ℕ → Result Listed Refusal
+full_at taken written = if eqb taken 0 then Err ShortOutput otherwise Ok (record { taken = taken; written = written })
 
 -- ---------------------------------------------------------------- the first line
 

@@ -1,8 +1,10 @@
 -- The listing: for each line of the input a line with the number, the length and the name or the normal symbol that the symbol gets.
-use Rattle.std.specs.Prelude.{Bool, true, false, ◌&&◌, List, [], ◌∷◌, ◌++◌, ◌≡◌, ℕ, ◌+◌, ◌-◌, length, drop, eqb, leb}
+use Rattle.std.specs.Prelude.{Bool, true, false, ◌&&◌, List, [], ◌∷◌, ◌++◌, ◌≡◌, ℕ, ◌+◌, ◌-◌, length, drop, eqb, leb, Result, Ok, Err}
 use Prim.Native.Char.{code}
 use Rattle.grammar.specs.Text.{Text, if◌then◌otherwise◌, decimal}
 use Rattle.grammar.specs.Limits.{most_symbol_bytes, most_text_bytes, least_text, least_store, least_ends}
+use Rattle.grammar.specs.Refusals.{refusal_number}
+use Rattle.grammar.specs.declared.refusal.Refusal.{Refusal}
 use Rattle.grammar.specs.Names.{Answer, named, refusal, Lent, demangle, number_of, length_of}
 use Rattle.catalogue.specs.Answer.{normal_symbol, least_numbers}
 use Rattle.store.specs.Stack.{zeros}
@@ -84,10 +86,6 @@ abbrev pub least_numbers_of : Kind → ℕ
 least_numbers_of Names = 0
 least_numbers_of Symbols = least_numbers
 
-abbrev pub lengths : ℕ → ℕ → ℕ → ℕ → ℕ → ℕ → ℕ → Lent
-lengths name text store ends words tables chains =
-    record { out = name; text = text; store = store; ends = ends; words = words; tables = tables; chains = chains }
-
 -- the work slices have their least lengths; `out` is the one for a name or a normal symbol
 unfoldable pub sized : Kind → Lent → Bool
 sized kind l =
@@ -141,6 +139,19 @@ listed kind input out work =
     lists kind (number_for (work_sized kind work) (lines input) (fitting kind (length out) (lines input)))
     (if work_sized kind work then fitting kind (length out) (lines input) otherwise []) out work
 
-abbrev pub Lists : Kind → Text → Text → Text → Slices → Slices → Listed → Type 0
+-- the number that C is told of the code's result, and how many bytes were taken and written: none where it is an error
+abbrev pub number_told : Result Listed Refusal → ℕ
+number_told (Ok l) = 0
+number_told (Err e) = refusal_number e
+
+abbrev pub taken_told : Result Listed Refusal → ℕ
+taken_told (Ok l) = l.taken
+taken_told (Err e) = 0
+
+abbrev pub written_told : Result Listed Refusal → ℕ
+written_told (Ok l) = l.written
+written_told (Err e) = 0
+
+abbrev pub Lists : Kind → Text → Text → Text → Slices → Slices → Result Listed Refusal → Type 0
 Lists kind input out out' work work' r =
-    ◌≡◌ {A = Outcome} (record { number = r.number; taken = r.taken; written = r.written; out = out'; work = work' }) (listed kind input out work)
+    ◌≡◌ {A = Outcome} (record { number = number_told r; taken = taken_told r; written = written_told r; out = out'; work = work' }) (listed kind input out work)

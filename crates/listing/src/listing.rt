@@ -1,34 +1,62 @@
 // The listing of lines: for each the number, the length and the name or the normal symbol that the symbol gets.
 ghost use Rattle.std.specs.Prelude.{◌≡◌, ◌≤◌, ◌<◌, length};
-ghost use Rattle.answer.specs.Told.{normal_slices, Tells};
-ghost use Rattle.listing.specs.Listing.{line, answer_of, listing_line, least_ends_of, least_numbers_of, lengths, sized, Lists};
+ghost use Rattle.answer.specs.Told.{Tells};
+ghost use Rattle.answer.specs.Lent.{SameWork, SameNumbers, all_slices_of};
+ghost use Rattle.listing.specs.Listing.{line, answer_of, listing_line, least_ends_of, least_numbers_of, work_sized, Lists};
 ghost use Rattle.listing.specs.Printed.{Heads, Printed};
 ghost use Rattle.listing.specs.Lines.{GoesOn, full_at};
 ghost use Rattle.listing.specs.Kinds.{LongFor};
 ghost use Rattle.listing.specs.Entry.{Tried};
 
 use crate::feeds::line_end;
-use answer::{Answer, bytes, number, work};
+use answer::work::{Numbers, Work};
+use answer::{bytes, number, work};
 use demangle::reading::demangle_uncleared;
+use grammar::refusal::Refusal;
 use grammar::state::Parser;
-use grammar::{numbers, text};
+use grammar::{numbers as digits, text};
 use normalize::reading::normalize_uncleared;
 
 // The least length of the slice for a name or a normal symbol; those of the others are the entries'.
 pub const NAME: usize = Parser::TEXT;
 
 // What is listed of a symbol: its name, or its normal symbol.
-#[derive(Clone, Copy)]
+#[derive(Clone, Copy, Debug, PartialEq, Eq)]
 pub enum Kind {
     Names,
     Symbols,
 }
 
-// How many bytes of the input were taken, and how many of the output written. The number is 14 where a work slice is too
-// short, 12 where the output is too short for the first line, and 0 otherwise.
-#[derive(Clone, Copy)]
+impl Kind {
+    fn least_ends(self) -> usize
+        ensures { result ≡ least_ends_of self }
+    {
+        match self {
+            Kind::Names => work::ENDS,
+            Kind::Symbols => work::NUMBERS,
+        }
+    }
+
+    fn least_numbers(self) -> usize
+        ensures { result ≡ least_numbers_of self }
+    {
+        match self {
+            Kind::Names => 0,
+            Kind::Symbols => work::NUMBERS,
+        }
+    }
+
+    // Whether the slices are as long as they have to be.
+    fn fits(self, name: &[u8], work: &Work, numbers: &Numbers) -> bool
+        ensures { result ≡ work_sized self (all_slices_of name.now work.now numbers.now) }
+    {
+        NAME <= name.len() && work.fits(self.least_ends()) && numbers.fits(self.least_numbers())
+    }
+}
+
+// How many bytes of the input were taken, and how many of the output written.
+#[derive(Clone, Copy, Debug, PartialEq, Eq)]
 pub struct Listed {
-    pub number: u8,
     pub taken: usize,
     pub written: usize,
 }
@@ -39,14 +67,14 @@ fn write_head(out: &mut [u8], number: usize, bytes: usize) -> usize
     ensures { Heads number bytes out.new result }
 {
     out[11] = b',';
-    let second = numbers::write_decimal(out, 11, bytes as u64);
+    let second = digits::write_decimal(out, 11, bytes as u64);
     let comma = second - 1;
     out[comma] = b',';
-    numbers::write_decimal(out, comma, number as u64)
+    digits::write_decimal(out, comma, number as u64)
 }
 
-// The line with the number and the name, into `out` from `at` on. Returned is its length, or 0 where it does not fit.
-fn print_line(out: &mut [u8], at: usize, number: usize, name: &[u8]) -> usize
+// The line with the number and the name, into `out` from `at` on. Returned is its length, if it fits.
+fn print_line(out: &mut [u8], at: usize, number: usize, name: &[u8]) -> Option<usize>
     requires { (at ≤ length out.old) × ((number < 100000) × (length name.now < 100000)) }
     ensures { Printed (line number (length name.now) name.now) at out.old out.new result }
 {
@@ -55,167 +83,81 @@ fn print_line(out: &mut [u8], at: usize, number: usize, name: &[u8]) -> usize
     let n = 12 - from;
     let last = n + name.len();
     if out.len() - at <= last {
-        return 0;
+        return None;
     }
     text::copy(out, at, &head[from..]);
     text::copy(out, at + n, name);
     out[at + last] = b'\n';
-    last + 1
-}
-
-// The name or the normal symbol, into `name`. The work slices have their least lengths; only `list_lines` clears them.
-fn answer(
-    kind: Kind,
-    s: &[u8],
-    name: &mut [u8],
-    text: &mut [u8],
-    store: &mut [u8],
-    ends: &mut [u16],
-    words: &mut [u16],
-    tables: &mut [u16],
-    chains: &mut [u16],
-) -> Answer
-    requires { LongFor kind (normal_slices name.old text.old store.old ends.old words.old tables.old chains.old) }
-    ensures { Tells (answer_of kind s.now) name.old name.new result }
-{
-    match kind {
-        Kind::Names => demangle_uncleared(s, name, text, store, ends),
-        Kind::Symbols => normalize_uncleared(s, name, text, store, ends, words, tables, chains),
-    }
-}
-
-// The listing line of a symbol, as `print_line` writes a line.
-fn write_line(
-    kind: Kind,
-    s: &[u8],
-    out: &mut [u8],
-    at: usize,
-    name: &mut [u8],
-    text: &mut [u8],
-    store: &mut [u8],
-    ends: &mut [u16],
-    words: &mut [u16],
-    tables: &mut [u16],
-    chains: &mut [u16],
-) -> usize
-    requires { (at ≤ length out.old) × LongFor kind (normal_slices name.old text.old store.old ends.old words.old tables.old chains.old) }
-    ensures { Printed (listing_line kind s.now) at out.old out.new result }
-{
-    let answer = answer(kind, s, name, text, store, ends, words, tables, chains);
-    let number = number(answer) as usize;
-    let bytes = bytes(answer);
-    print_line(out, at, number, &name[..bytes])
+    Some(last + 1)
 }
 
 // What is told where the next line does not fit.
-fn full(taken: usize, written: usize) -> Listed
+fn full(taken: usize, written: usize) -> Result<Listed, Refusal>
     ensures { result ≡ full_at taken written }
 {
     if taken == 0 {
-        return Listed {
-            number: 12,
-            taken: taken,
-            written: written,
-        };
+        return Err(Refusal::ShortOutput);
     }
-    Listed {
-        number: 0,
-        taken: taken,
-        written: written,
-    }
+    Ok(Listed { taken, written })
 }
 
-// The lines one after another, as long as their listing fits.
-fn write_lines(
+// What lines are listed with: `name` gets a name or a normal symbol, and the others are the work slices of its entry. Only
+// `list_lines` clears them.
+#[derive(Drop)]
+struct Lister<'n, 'w, 'a, 'm, 'b> {
     kind: Kind,
-    input: &[u8],
-    out: &mut [u8],
-    name: &mut [u8],
-    text: &mut [u8],
-    store: &mut [u8],
-    ends: &mut [u16],
-    words: &mut [u16],
-    tables: &mut [u16],
-    chains: &mut [u16],
-) -> Listed
-    requires { LongFor kind (normal_slices name.old text.old store.old ends.old words.old tables.old chains.old) }
-    ensures { GoesOn kind input.now out.old out.new result }
-{
-    let mut at: usize = 0;
-    let mut end: usize = 0;
-    while at < input.len() {
-        let feed = line_end(input, at);
-        if input.len() <= feed {
-            return Listed {
-                number: 0,
-                taken: at,
-                written: end,
+    name: &'n mut [u8],
+    work: &'w mut Work<'a>,
+    numbers: &'m mut Numbers<'b>,
+    ghost long: { LongFor kind (all_slices_of name.now work.now numbers.now) },
+}
+
+impl Lister<'_, '_, '_, '_, '_> {
+    ghost use Rattle.listing.specs.Lister.{SameLister};
+
+    // The name or the normal symbol, into `name`.
+    fn answer(&mut self, s: &[u8]) -> Result<usize, Refusal>
+        ensures same { SameLister self.old self.new }
+        ensures told { Tells (answer_of self.old.kind s.now) self.old.name.now self.new.name.now result }
+    {
+        match self.kind {
+            Kind::Names => demangle_uncleared(s, self.name, self.work),
+            Kind::Symbols => normalize_uncleared(s, self.name, self.work, self.numbers),
+        }
+    }
+
+    // The listing line of a symbol, as `print_line` writes a line.
+    fn write_line(&mut self, s: &[u8], out: &mut [u8], at: usize) -> Option<usize>
+        requires { at ≤ length out.old }
+        ensures same { SameLister self.old self.new }
+        ensures line { Printed (listing_line self.old.kind s.now) at out.old out.new result }
+    {
+        let answer = self.answer(s);
+        let number = usize::from(number(answer));
+        let bytes = bytes(answer);
+        print_line(out, at, number, &self.name[..bytes])
+    }
+
+    // The lines one after another, as long as their listing fits.
+    fn write_lines(&mut self, input: &[u8], out: &mut [u8]) -> Result<Listed, Refusal>
+        ensures same { SameLister self.old self.new }
+        ensures lines { GoesOn self.old.kind input.now out.old out.new result }
+    {
+        let mut taken: usize = 0;
+        let mut written: usize = 0;
+        while taken < input.len() {
+            let feed = line_end(input, taken);
+            if input.len() <= feed {
+                return Ok(Listed { taken, written });
+            }
+            let Some(n) = self.write_line(&input[taken..feed], out, written) else {
+                return full(taken, written);
             };
+            taken = feed + 1;
+            written += n;
         }
-        let n = write_line(
-            kind,
-            &input[at..feed],
-            out,
-            end,
-            name,
-            text,
-            store,
-            ends,
-            words,
-            tables,
-            chains,
-        );
-        if n == 0 {
-            return full(at, end);
-        }
-        at = feed + 1;
-        end += n;
+        Ok(Listed { taken, written })
     }
-    Listed {
-        number: 0,
-        taken: at,
-        written: end,
-    }
-}
-
-fn least_ends(kind: Kind) -> usize
-    ensures { result ≡ least_ends_of kind }
-{
-    match kind {
-        Kind::Names => work::ENDS,
-        Kind::Symbols => work::NUMBERS,
-    }
-}
-
-fn least_numbers(kind: Kind) -> usize
-    ensures { result ≡ least_numbers_of kind }
-{
-    match kind {
-        Kind::Names => 0,
-        Kind::Symbols => work::NUMBERS,
-    }
-}
-
-// By the lengths of the work slices.
-fn long_enough(
-    kind: Kind,
-    name: usize,
-    text: usize,
-    store: usize,
-    ends: usize,
-    words: usize,
-    tables: usize,
-    chains: usize,
-) -> bool
-    ensures { result ≡ sized kind (lengths name text store ends words tables chains) }
-{
-    if name < NAME {
-        return false;
-    }
-    if !work::work_fits(text, store, ends, least_ends(kind)) {
-        return false;
-    }
-    work::numbers_fit(words, tables, chains, least_numbers(kind))
 }
 
 // The listing, or no line where a work slice is too short.
@@ -224,60 +166,43 @@ fn list_uncleared(
     input: &[u8],
     out: &mut [u8],
     name: &mut [u8],
-    text: &mut [u8],
-    store: &mut [u8],
-    ends: &mut [u16],
-    words: &mut [u16],
-    tables: &mut [u16],
-    chains: &mut [u16],
-) -> Listed
-    ensures { Tried kind input.now out.old out.new
-        (normal_slices name.old text.old store.old ends.old words.old tables.old chains.old) result }
+    work: &mut Work,
+    numbers: &mut Numbers,
+) -> Result<Listed, Refusal>
+    ensures same { SameWork work.old work.new }
+    ensures same_numbers { SameNumbers numbers.old numbers.new }
+    ensures lines { Tried kind input.now out.old out.new (all_slices_of name.old work.old numbers.old) result }
 {
-    if !long_enough(
-        kind,
-        name.len(),
-        text.len(),
-        store.len(),
-        ends.len(),
-        words.len(),
-        tables.len(),
-        chains.len(),
-    ) {
-        return Listed {
-            number: 14,
-            taken: 0,
-            written: 0,
-        };
+    if !kind.fits(name, work, numbers) {
+        return Err(Refusal::ShortWork);
     }
-    write_lines(
-        kind, input, out, name, text, store, ends, words, tables, chains,
-    )
+    let mut lister = Lister {
+        kind,
+        name,
+        work,
+        numbers,
+    };
+    lister.write_lines(input, out)
 }
 
 // The listing of the complete lines at the front of `input`, as many as fit into `out`. Work slices of any lengths and
-// contents; where one is too short, no line is taken.
+// contents; where one is too short, or `out` for the first line, no line is taken.
 pub fn list_lines(
     kind: Kind,
     input: &[u8],
     out: &mut [u8],
     name: &mut [u8],
-    text: &mut [u8],
-    store: &mut [u8],
-    ends: &mut [u16],
-    words: &mut [u16],
-    tables: &mut [u16],
-    chains: &mut [u16],
-) -> Listed
-    ensures { Lists kind input.now out.old out.new
-        (normal_slices name.old text.old store.old ends.old words.old tables.old chains.old)
-        (normal_slices name.new text.new store.new ends.new words.new tables.new chains.new) result }
+    work: &mut Work,
+    numbers: &mut Numbers,
+) -> Result<Listed, Refusal>
+    ensures same { SameWork work.old work.new }
+    ensures same_numbers { SameNumbers numbers.old numbers.new }
+    ensures left { Lists kind input.now out.old out.new
+        (all_slices_of name.old work.old numbers.old) (all_slices_of name.new work.new numbers.new) result }
 {
-    let listed = list_uncleared(
-        kind, input, out, name, text, store, ends, words, tables, chains,
-    );
+    let listed = list_uncleared(kind, input, out, name, work, numbers);
     name.fill(0);
-    work::clear(text, store, ends);
-    work::clear_numbers(words, tables, chains);
+    work.clear();
+    numbers.clear();
     listed
 }

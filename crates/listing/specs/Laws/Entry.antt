@@ -1,11 +1,11 @@
 -- Laws of Entry.antt. Assumes nothing.
-use Rattle.std.specs.Prelude.{Bool, true, false, ◌&&◌, ◌≡◌, ◌≤◌, ◌<◌, leb, length}
+use Rattle.std.specs.Prelude.{Bool, true, false, ◌&&◌, ◌≡◌, ◌≤◌, ◌<◌, leb, length, Result, Err}
 use Rattle.std.proofs.Math.Path.{refl, sym}
-use Rattle.std.proofs.Common.{◌∙◌}
-use borrow.Author.Tests.{le-leb, lt-leb, leb-true}
+use Rattle.std.proofs.Common.{◌∙◌, le-leb, leb-true}
+use borrow.Author.Tests.{lt-leb}
 use Rattle.grammar.specs.Text.{Text, if◌then◌otherwise◌}
-use Rattle.grammar.specs.Limits.{least_text, least_store}
-use Rattle.grammar.specs.Names.{Lent}
+use Rattle.grammar.specs.declared.refusal.Refusal.{Refusal}
+use Rattle.grammar.specs.declared.refusal.Refusal.TheVariants.{ShortWork}
 use Rattle.store.specs.Stack.{zeros}
 use Rattle.answer.specs.Told.{Slices, lent, fit, numbers_fit, Cleared, NumbersCleared}
 use Rattle.answer.specs.Laws.Told.{both_true, fit_long, fit_long_numbers}
@@ -19,25 +19,24 @@ use Rattle.listing.specs.Entry.{Tried}
 -- ---------------------------------------------------------------- the lengths
 
 -- by a test of each
-module _ (kind : Kind) (l : Lent) where
-  pub short_name : l.out < least_name → false ≡ sized kind l
-  unfolding sized
-  short_name h = rw (lt-leb least_name l.out h)
+module _ (kind : Kind) (l : Slices) where
+  pub short_name : length l.out < least_name → false ≡ work_sized kind l
+  unfolding work_sized sized
+  short_name h = rw (lt-leb least_name (length l.out) h)
 
-  module _ (h : least_name ≤ l.out) {p : Bool} (e : p ≡ (leb least_text l.text && leb least_store l.store && leb (least_ends_of kind) l.ends)) where
-    pub short_work : p ≡ false → false ≡ sized kind l
-    unfolding sized
-    short_work f = rw (le-leb least_name l.out h, sym e ∙ f)
+  module _ (h : least_name ≤ length l.out) where
+    pub short_work : fit (least_ends_of kind) l ≡ false → false ≡ work_sized kind l
+    unfolding work_sized sized
+    short_work e = rw (le-leb least_name (length l.out) h, e)
 
-    pub long_work : p ≡ true → {q : Bool} → q ≡ (leb (least_numbers_of kind) l.words && leb (least_numbers_of kind) l.tables && leb (least_numbers_of kind) l.chains)
-        → q ≡ sized kind l
-    unfolding sized
-    long_work f g = rw (le-leb least_name l.out h, sym e ∙ f) g
+    pub long_work : fit (least_ends_of kind) l ≡ true → {q : Bool} → q ≡ numbers_fit (least_numbers_of kind) l → q ≡ work_sized kind l
+    unfolding work_sized sized
+    long_work e f = rw (le-leb least_name (length l.out) h, e) f
 
 -- by the test of all
-module _ (kind : Kind) (work : Slices) {q : Bool} (e : q ≡ sized kind (lent work)) where
+module _ (kind : Kind) (work : Slices) {q : Bool} (e : q ≡ work_sized kind work) where
   pub least_lengths : q ≡ true → LongFor kind work
-  unfolding sized
+  unfolding work_sized sized
   least_lengths f =
       let reading = fit (least_ends_of kind) work in
       let numbers = numbers_fit (least_numbers_of kind) work in
@@ -49,19 +48,19 @@ module _ (kind : Kind) (work : Slices) {q : Bool} (e : q ≡ sized kind (lent wo
         numbers = fit_long_numbers (least_numbers_of kind) work z;
       }
 
-  pub goes_none : (input out : Text) → q ≡ false → Tried kind input out out work (record { number = 14; taken = 0; written = 0 })
-  unfolding work_sized number_for bytes_taken listing if◌then◌otherwise◌
+  pub goes_none : (input out : Text) → q ≡ false → Tried kind input out out work (Err ShortWork)
+  unfolding number_for bytes_taken listing if◌then◌otherwise◌
   goes_none input out f = rw (sym e ∙ f) (record { told = refl; taken = refl; written = refl; is = refl })
 
-  pub goes_some : (input : Text) {out out' : Text} {r : Listed} → q ≡ true → GoesOn kind input out out' r
+  pub goes_some : (input : Text) {out out' : Text} {r : Result Listed Refusal} → q ≡ true → GoesOn kind input out out' r
       → Tried kind input out out' work r
-  unfolding work_sized if◌then◌otherwise◌
+  unfolding if◌then◌otherwise◌
   goes_some input f g = rw (sym e ∙ f) g
 
 -- ---------------------------------------------------------------- the outcome
 
 -- the lines were taken, and the work slices cleared
-pub goes_lists : (kind : Kind) (input : Text) {out out' : Text} (work work' : Slices) {r : Listed} → Tried kind input out out' work r
+pub goes_lists : (kind : Kind) (input : Text) {out out' : Text} (work work' : Slices) {r : Result Listed Refusal} → Tried kind input out out' work r
     → work'.out ≡ zeros (length work.out) → Cleared work work' → NumbersCleared work work' → Lists kind input out out' work work' r
 unfolding listed lists
 goes_lists kind input work work' g e c d = λ i. record {

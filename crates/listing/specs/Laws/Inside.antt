@@ -1,5 +1,5 @@
 -- What a caller of the entry for listings may rely on: no more is taken than there is, and no more written than fits. Assumes nothing.
-use Rattle.std.specs.Prelude.{Bool, ◌≡◌, ℕ, zero, suc, ◌+◌, ◌-◌, ◌/◌, ◌%◌, ◌≤◌, ◌<◌, eqb, leb, ltb}
+use Rattle.std.specs.Prelude.{Bool, ◌≡◌, ℕ, zero, suc, ◌+◌, ◌-◌, ◌/◌, ◌%◌, ◌≤◌, ◌<◌, eqb, leb, ltb, Result}
 use Rattle.std.proofs.Math.Bool.{true, false}
 use mathlib.Core.List.{List, [], ◌∷◌, ◌++◌}
 use Rattle.std.proofs.Math.Path.{refl, ap, ap₂}
@@ -9,10 +9,11 @@ use borrow.Author.Tests.{leb-true, le-leb}
 use Rattle.std.proofs.Math.ListN.{length, length-append}
 use Rattle.grammar.specs.Text.{Text, if◌then◌otherwise◌, decimal}
 use Rattle.grammar.specs.Limits.{most_text_bytes}
+use Rattle.grammar.specs.declared.refusal.Refusal.{Refusal}
 use Rattle.grammar.specs.Names.{Answer, number_of, length_of}
 use Rattle.answer.specs.Told.{Slices}
 use Rattle.listing.specs.Listing.{Outcome, answer_of, line_for, listing_line, in_front, lines, bytes_taken, listing, fitting, none_fits, number_for, work_sized, lists, listed}
-use Rattle.listing.specs.Listing.{Lists, line_feed, head, line, name_of, most_line_bytes}
+use Rattle.listing.specs.Listing.{Lists, number_told, taken_told, written_told, line_feed, head, line, name_of, most_line_bytes}
 use Rattle.listing.specs.Laws.Kinds.{short_answer_of}
 use Rattle.listing.specs.Laws.Answers.{name_length}
 use Rattle.listing.specs.Laws.Lines.{fits_first, fits_none}
@@ -55,7 +56,7 @@ fitting_room kind room (s ∷ ss) =
     let n = length (listing_line kind s) in more_room kind s ss (fitting kind (room - n) ss) room (leb n room) refl (fitting_room kind (room - n) ss)
 
 -- no more is taken than there is, and no more written than fits
-pub lists_inside : (kind : Kind) (input out out' : Text) (work work' : Slices) (r : Listed) → Lists kind input out out' work work' r → (r.taken ≤ length input) × (r.written ≤ length out)
+pub lists_inside : (kind : Kind) (input out out' : Text) (work work' : Slices) (r : Result Listed Refusal) → Lists kind input out out' work work' r → (taken_told r ≤ length input) × (written_told r ≤ length out)
 unfolding listed lists if◌then◌otherwise◌ bytes_taken listing
 lists_inside kind input out out' work work' r e =
     let (a, c) = go (work_sized kind work) in
@@ -95,12 +96,12 @@ some_taken kind room s ss h = rw (le-leb (length (listing_line kind s)) room h) 
 
 -- ---------------------------------------------------------------- the number
 
-module _ (kind : Kind) (input out out' : Text) (work work' : Slices) (r : Listed) (e : Lists kind input out out' work work' r) where
+module _ (kind : Kind) (input out out' : Text) (work work' : Slices) (r : Result Listed Refusal) (e : Lists kind input out out' work work' r) where
   abbrev fit : List Text
   fit = fitting kind (length out) (lines input)
 
   by_work : (q : Bool) → work_sized kind work ≡ q
-      → (r.number ≡ number_for q (lines input) fit) × ((r.taken ≡ bytes_taken (if q then fit otherwise [])) × (r.written ≡ length (listing kind (if q then fit otherwise []))))
+      → (number_told r ≡ number_for q (lines input) fit) × ((taken_told r ≡ bytes_taken (if q then fit otherwise [])) × (written_told r ≡ length (listing kind (if q then fit otherwise []))))
   unfolding listed lists
   by_work q f = (
     ap (λ (x : Outcome). x.number) e ∙ ap (λ (p : Bool). number_for p (lines input) fit) f,
@@ -111,13 +112,13 @@ module _ (kind : Kind) (input out out' : Text) (work work' : Slices) (r : Listed
   )
 
   -- 14: a work slice is too short, and nothing is taken or written
-  pub lists_14 : work_sized kind work ≡ false → (r.number ≡ 14) × ((r.taken ≡ 0) × (r.written ≡ 0))
+  pub lists_14 : work_sized kind work ≡ false → (number_told r ≡ 14) × ((taken_told r ≡ 0) × (written_told r ≡ 0))
   unfolding number_for bytes_taken listing if◌then◌otherwise◌
   lists_14 f = by_work false f
 
   -- 12: there is a complete line, but the output is too short for the listing of the first; nothing is taken or written
   pub lists_12 : work_sized kind work ≡ true → {s : Text} {ss : List Text} → lines input ≡ s ∷ ss → length out < length (listing_line kind s)
-      → (r.number ≡ 12) × ((r.taken ≡ 0) × (r.written ≡ 0))
+      → (number_told r ≡ 12) × ((taken_told r ≡ 0) × (written_told r ≡ 0))
   unfolding number_for none_fits bytes_taken listing if◌then◌otherwise◌
   lists_12 f {s} {ss} g h =
       let k : fit ≡ [] = ap (fitting kind (length out)) g ∙ fits_none kind (length out) s ss h in
@@ -125,7 +126,7 @@ module _ (kind : Kind) (input out out' : Text) (work work' : Slices) (r : Listed
       (a ∙ ap₂ (number_for true) g k, (c ∙ ap bytes_taken k, d ∙ ap (λ (ts : List Text). length (listing kind ts)) k))
 
   -- 0: there is no complete line, or the listing of the first fits
-  pub lists_0 : work_sized kind work ≡ true → ((s : Text) (ss : List Text) → lines input ≡ s ∷ ss → length (listing_line kind s) ≤ length out) → r.number ≡ 0
+  pub lists_0 : work_sized kind work ≡ true → ((s : Text) (ss : List Text) → lines input ≡ s ∷ ss → length (listing_line kind s) ≤ length out) → number_told r ≡ 0
   unfolding number_for none_fits fitting
   lists_0 f h = (by_work true f).0 ∙ go (lines input) h where
     go : (ls : List Text) → ((s : Text) (ss : List Text) → ls ≡ s ∷ ss → length (listing_line kind s) ≤ length out) → number_for true ls (fitting kind (length out) ls) ≡ 0
@@ -133,13 +134,13 @@ module _ (kind : Kind) (input out out' : Text) (work work' : Slices) (r : Listed
     go (s ∷ ss) h = ap (number_for true (s ∷ ss)) (fits_first kind (length out) s ss (h s ss refl))
 
   -- with an output of so many bytes the number is never 12, and a line that is complete is taken
-  pub never_12 : most_line_bytes ≤ length out → r.number ≡ 12 → ⊥
+  pub never_12 : most_line_bytes ≤ length out → number_told r ≡ 12 → ⊥
   never_12 h z = go (work_sized kind work) refl where
     go : (q : Bool) → work_sized kind work ≡ q → ⊥
     go true f = omega (arith, lists_0 f (λ s ss g. omega (arith, line_fits kind s)), z)
     go false f = omega (arith, (lists_14 f).0, z)
 
-  pub lists_some_line : work_sized kind work ≡ true → most_line_bytes ≤ length out → (r.number ≡ 0) × (1 ≤ length (lines input) → 1 ≤ r.taken)
+  pub lists_some_line : work_sized kind work ≡ true → most_line_bytes ≤ length out → (number_told r ≡ 0) × (1 ≤ length (lines input) → 1 ≤ taken_told r)
   unfolding if◌then◌otherwise◌
   lists_some_line f h = (lists_0 f (λ s ss g. omega (arith, line_fits kind s)), λ k. omega (arith, go (lines input) k, (by_work true f).1.0)) where
     go : (ss : List Text) → 1 ≤ length ss → 1 ≤ bytes_taken (fitting kind (length out) ss)

@@ -1,5 +1,5 @@
 -- Laws of Kinds.antt. Assumes nothing.
-use Rattle.std.specs.Prelude.{Bool, true, false, ◌≡◌, refl, ◌≤◌, ◌<◌, leb, length}
+use Rattle.std.specs.Prelude.{Bool, true, false, ◌≡◌, refl, ◌≤◌, ◌<◌, leb, length, ℕ, Result}
 use Rattle.std.proofs.Math.Option.{Option, none, some}
 use Rattle.std.proofs.Common.{sym, ◌∙◌, arith, lt-ltb, leb-true}
 use Rattle.std.proofs.Math.Path.{ap, subst}
@@ -9,9 +9,9 @@ use Rattle.grammar.specs.Names.{Answer, named, refusal, mangled_name, front, dem
 use Rattle.catalogue.specs.Recogniser.{classify}
 use Rattle.catalogue.specs.Answer.{normal_in, normal_told, normal_after, normal_symbol, normal_work_fits, normal_answer}
 use Rattle.demangle.specs.Laws.Lengths.{short_answer, within_is, answer_is}
+use Rattle.grammar.specs.declared.refusal.Refusal.{Refusal}
 use Rattle.answer.specs.Told.{Slices, slices, lent, bytes_in, Tells}
 use Rattle.answer.specs.Laws.Told.{tells_bytes, tells_as, long_fit, long_numbers_fit}
-use Rattle.answer.specs.declared.Answer.{Answer as Code}
 use Rattle.normalize.specs.Laws.Fronts.{normal_behind}
 use Rattle.listing.specs.Listing.{answer_of}
 use Rattle.listing.specs.declared.listing.Kind.{Kind}
@@ -51,7 +51,7 @@ unfolding answer_of normal_symbol
 short_answer_of Names s = short_answer s
 short_answer_of Symbols s = omega (arith, after_short s (demangle most_symbol_bytes s))
 
-pub short_told : (kind : Kind) (s : Text) {out out' : Text} {r : Code} → Tells (answer_of kind s) out out' r → bytes_in r ≤ most_text_bytes
+pub short_told : (kind : Kind) (s : Text) {out out' : Text} {r : Result ℕ Refusal} → Tells (answer_of kind s) out out' r → bytes_in r ≤ most_text_bytes
 short_told kind s h = omega (arith, tells_bytes h, short_answer_of kind s)
 
 too_long_for_name : (s : Text) → most_symbol_bytes < length s → demangle most_symbol_bytes s ≡ refusal 1
@@ -64,7 +64,7 @@ too_long Names s h = too_long_for_name s h
 too_long Symbols s h = ap (normal_after most_symbol_bytes s) (too_long_for_name s h)
 
 -- either entry tells the answer
-module _ {kind : Kind} {l : Slices} {out : Text} {r : Code} (s : Text) (h : LongFor kind l) where
+module _ {kind : Kind} {l : Slices} {out : Text} {r : Result ℕ Refusal} (s : Text) (h : LongFor kind l) where
   -- the entry for names is lent no more than these
   pub name_told : kind ≡ Names → Tells (answer most_symbol_bytes (lent (slices l.out l.text l.store l.ends)) s) l.out out r → Tells (answer_of kind s) l.out out r
   unfolding answer_of work_fits

@@ -1,17 +1,18 @@
 -- Laws of Lines.antt. Assumes nothing.
-use Rattle.std.specs.Prelude.{Bool, true, false, not, List, [], ◌∷◌, ◌++◌, ◌≡◌, refl, ℕ, zero, suc, ◌+◌, ◌-◌, ◌≤◌, ◌<◌, eqb, length, take, drop, get_or}
+use Rattle.std.specs.Prelude.{Bool, true, false, not, List, [], ◌∷◌, ◌++◌, ◌≡◌, refl, ℕ, zero, suc, ◌+◌, ◌-◌, ◌≤◌, ◌<◌, eqb, length, take, drop, get_or, Option, Some, None, unwrap_or, Result, Ok, Err}
 use Rattle.std.proofs.Common.{append_assoc, append-nil, sym, ap, ap₂, ◌∙◌, subst, arith, ne_eqb, eqb-true, le-leb, length-append, length-drop, drop_of_length-le, take_at, drop-drop}
 use Rattle.std.proofs.lemmas.Bool.{not-false, lt-leb}
 use Rattle.std.proofs.Math.Seq.{paste, paste-zero, drop-append-add, take-length}
 use Rattle.std.proofs.lemmas.List.Edits.{length-paste}
 use Rattle.grammar.specs.Text.{Text, if◌then◌otherwise◌, run}
+use Rattle.grammar.specs.declared.refusal.Refusal.{Refusal}
 use Rattle.grammar.specs.Laws.Runs.{run_more, run_stops}
-use Rattle.listing.specs.Listing.{line, line_for, listing_line, in_front, lines, bytes_taken, listing, fitting, none_fits, number_for}
+use Rattle.listing.specs.Listing.{line, line_for, listing_line, in_front, lines, bytes_taken, listing, fitting, none_fits, number_for, number_told, taken_told, written_told}
 use Rattle.listing.specs.Printed.{Printed}
 use Rattle.listing.specs.Laws.Printed.{prints, prints_not}
 use Rattle.listing.specs.declared.listing.Kind.{Kind}
 use Rattle.listing.specs.declared.listing.Listed.{Listed}
-use Rattle.listing.specs.Lines.{Goes, GoesOn, full_number, full_at, before_feed, feed_from, Gone}
+use Rattle.listing.specs.Lines.{Goes, GoesOn, full_at, before_feed, feed_from, Gone}
 
 module _ (s : Text) where
   -- none of the next n bytes is a line feed
@@ -71,10 +72,6 @@ pub fits_no_line : (kind : Kind) (room : ℕ) → fitting kind room [] ≡ []
 unfolding fitting
 fits_no_line kind room = refl
 
-some_bytes : (kind : Kind) (s : Text) → 1 ≤ length (listing_line kind s)
-unfolding listing_line line_for line
-some_bytes kind s = simp length-append (omega arith)
-
 taken_one : (ss : List Text) (s : Text) → bytes_taken (ss ++ (s ∷ [])) ≡ bytes_taken ss + (length s + 1)
 unfolding bytes_taken
 taken_one [] s = omega arith
@@ -94,10 +91,15 @@ number_last [] ls ss e f = sym (ap₂ (number_for true) (f refl) e)
 number_last (d ∷ ds) ls ss e f = sym (ap (number_for true ls) e)
 
 -- the next line does not fit
-number_full : (s : Text) (rest done ls ss : List Text) → ss ≡ done → (bytes_taken done ≡ 0 → ls ≡ s ∷ rest) → full_number (bytes_taken done) ≡ number_for true ls ss
-unfolding number_for none_fits bytes_taken if◌then◌otherwise◌
-number_full s rest [] ls ss e f = sym (ap₂ (number_for true) (f refl) e)
-number_full s rest (d ∷ ds) ls ss e f = rw (ne_eqb (length d + 1 + bytes_taken ds) 0 (λ z. omega arith)) (sym (ap (number_for true ls) e))
+module _ (kind : Kind) (s : Text) (rest ls ss : List Text) where
+  abbrev full_behind : List Text → Result Listed Refusal
+  full_behind done = full_at (bytes_taken done) (length (listing kind done))
+
+  full_told : (done : List Text) → ss ≡ done → (bytes_taken done ≡ 0 → ls ≡ s ∷ rest)
+      → (number_told (full_behind done) ≡ number_for true ls ss) × ((taken_told (full_behind done) ≡ bytes_taken done) × (written_told (full_behind done) ≡ length (listing kind done)))
+  unfolding number_for none_fits bytes_taken listing if◌then◌otherwise◌
+  full_told [] e f = (sym (ap₂ (number_for true) (f refl) e), (refl, refl))
+  full_told (d ∷ ds) e f = rw (ne_eqb (length d + 1 + bytes_taken ds) 0 (λ z. omega arith)) (sym (ap (number_for true ls) e), (refl, refl))
 
 -- ---------------------------------------------------------------- the loop
 
@@ -120,30 +122,31 @@ module _ {kind : Kind} {input out out' : Text} {at end : ℕ} (g : Gone kind inp
     all_done : fitting kind (length out) (lines input) ≡ g.done
     all_done = g.from ∙ ap (λ (ss : List Text). g.done ++ ss) e ∙ append-nil g.done
 
-    gone_all : {number : ℕ} → number ≡ number_for true (lines input) (fitting kind (length out) (lines input)) → GoesOn kind input out out' (record { number = number; taken = at; written = end })
-    gone_all {number} k =
-        subst (λ (ss : List Text). Goes kind (number_for true (lines input) (fitting kind (length out) (lines input))) out out' ss (record { number = number; taken = at; written = end }))
+    gone_all : {r : Result Listed Refusal} → number_told r ≡ number_for true (lines input) (fitting kind (length out) (lines input)) → taken_told r ≡ at → written_told r ≡ end
+        → GoesOn kind input out out' r
+    gone_all {r} k t w =
+        subst (λ (ss : List Text). Goes kind (number_for true (lines input) (fitting kind (length out) (lines input))) out out' ss r)
         (sym all_done)
-        (record { told = k; taken = g.taken; written = g.written; is = g.is ∙ ap (λ (j : ℕ). listing kind g.done ++ drop j out) g.written })
+        (record { told = k; taken = t ∙ g.taken; written = w ∙ g.written; is = g.is ∙ ap (λ (j : ℕ). listing kind g.done ++ drop j out) g.written })
 
   -- where no line is taken, all are left
   all_left : bytes_taken g.done ≡ 0 → lines input ≡ lines (drop at input)
   all_left z = ap (λ (j : ℕ). lines (drop j input)) {x = 0} {y = at} (sym (g.taken ∙ z))
 
-  gone_last : lines (drop at input) ≡ [] → GoesOn kind input out out' (record { number = 0; taken = at; written = end })
+  gone_last : lines (drop at input) ≡ [] → GoesOn kind input out out' (Ok (record { taken = at; written = end }))
   gone_last e =
       let f = ap (fitting kind (length out - end)) e ∙ fits_no_line kind (length out - end) in
-      gone_all f (number_last g.done (lines input) (fitting kind (length out) (lines input)) (all_done f) (λ z. all_left z ∙ e))
+      gone_all f (number_last g.done (lines input) (fitting kind (length out) (lines input)) (all_done f) (λ z. all_left z ∙ e)) refl refl
 
-  pub gone_end : length input ≤ at → GoesOn kind input out out' (record { number = 0; taken = at; written = end })
+  pub gone_end : length input ≤ at → GoesOn kind input out out' (Ok (record { taken = at; written = end }))
   unfolding lines
   gone_end h = gone_last (ap lines (drop_of_length-le input {i = at} h))
 
-  pub gone_feed : length input ≤ at + length (before_feed (drop at input)) → GoesOn kind input out out' (record { number = 0; taken = at; written = end })
+  pub gone_feed : length input ≤ at + length (before_feed (drop at input)) → GoesOn kind input out out' (Ok (record { taken = at; written = end }))
   gone_feed h = gone_last (no_line (drop at input) (omega (arith, h, length-drop at input, g.inside)))
 
-  module _ {out'' : Text} {feed n : ℕ} (e : feed ≡ at + length (before_feed (drop at input))) (l : feed < length input)
-      (p : Printed (listing_line kind (take (feed - at) (drop at input))) end out' out'' n) where
+  module _ {out'' : Text} {feed : ℕ} {o : Option ℕ} (e : feed ≡ at + length (before_feed (drop at input))) (l : feed < length input)
+      (p : Printed (listing_line kind (take (feed - at) (drop at input))) end out' out'' o) where
     abbrev s : Text
     s = before_feed (drop at input)
 
@@ -155,26 +158,29 @@ module _ {kind : Kind} {input out out' : Text} {at end : ℕ} (g : Gone kind inp
         first_line (drop at input) (omega (arith, length-drop at input))
         ∙ ap (λ (t : Text). s ∷ lines t) (drop-drop (length s + 1) at input ∙ ap (λ (j : ℕ). drop j input) {x = at + (length s + 1)} {y = feed + 1} (omega arith))
 
-    p_is : Printed (listing_line kind s) end out' out'' n
-    p_is = subst (λ (t : Text). Printed (listing_line kind t) end out' out'' n) s_is p
+    p_is : Printed (listing_line kind s) end out' out'' o
+    p_is = subst (λ (t : Text). Printed (listing_line kind t) end out' out'' o) s_is p
 
     -- the next line does not fit
-    pub gone_full : n ≡ 0 → {r : Listed} → r ≡ full_at at end → GoesOn kind input out out'' r
-    gone_full z i =
-        let k = prints_not (listing_line kind s) end out' p_is (some_bytes kind s) z in
-        let f : out' ≡ out'' = paste-zero out' end (listing_line kind s) ∙ ap (paste out' end (listing_line kind s)) (sym z) ∙ sym p_is.is in
+    pub gone_full : o ≡ None → {r : Result Listed Refusal} → r ≡ full_at at end → GoesOn kind input out out'' r
+    gone_full z {r} i =
+        let k = prints_not (listing_line kind s) end out' (subst (Printed (listing_line kind s) end out' out'') z p_is) in
+        let f : out' ≡ out'' = paste-zero out' end (listing_line kind s) ∙ ap (λ (o : Option ℕ). paste out' end (listing_line kind s) (unwrap_or o 0)) (sym z) ∙ sym p_is.is in
         let rest = lines (drop (feed + 1) input) in
         let h = ap (fitting kind (length out - end)) next ∙ fits_none kind (length out - end) s rest (omega (arith, k, g.size)) in
-        let number = ap full_number g.taken ∙ number_full s rest g.done (lines input) (fitting kind (length out) (lines input)) (all_done h) (λ y. all_left y ∙ next) in
-        subst (GoesOn kind input out out'') (sym i) (subst (λ (t : Text). GoesOn kind input out t (full_at at end)) f (gone_all h number))
+        let told = full_told kind s rest (lines input) (fitting kind (length out) (lines input)) g.done (all_done h) (λ y. all_left y ∙ next) in
+        let q = i ∙ ap₂ full_at g.taken g.written in
+        subst (λ (t : Text). GoesOn kind input out t r) f
+        (gone_all h (ap number_told q ∙ told.0) (ap taken_told q ∙ told.1.0 ∙ sym g.taken) (ap written_told q ∙ told.1.1 ∙ sym g.written))
 
-    pub gone_more : (n ≡ 0 → ⊥) → Gone kind input out out'' (feed + 1) (end + n)
-    gone_more z =
-        let (k, m) = prints (listing_line kind s) end out' p_is (omega (arith, g.size, g.room)) z in
+    pub gone_more : {n : ℕ} → o ≡ Some n → Gone kind input out out'' (feed + 1) (end + n)
+    gone_more {n} z =
+        let q = subst (Printed (listing_line kind s) end out' out'') z p_is in
+        let (k, m) = prints (listing_line kind s) end out' q (omega (arith, g.size, g.room)) in
         let t : Text = listing_line kind s in
         let a : length (listing kind (g.done ++ (s ∷ []))) ≡ end + n = ap length (listing_one kind g.done s) ∙ length-append (listing kind g.done) t ∙ omega (arith, g.written) in
         let f : out'' ≡ listing kind g.done ++ t ++ drop (end + n) out =
-        p_is.is
+        q.is
         ∙ ap₂ (λ (u v : Text). u ++ take n t ++ v)
         (ap (take end) g.is ∙ take_at (listing kind g.done) (drop end out) end (sym g.written))
         (ap (drop (end + n)) g.is ∙ ap (λ (j : ℕ). drop (j + n) (listing kind g.done ++ drop end out)) g.written ∙ drop-append-add (listing kind g.done) (drop end out) n ∙ drop-drop n end out)
@@ -185,7 +191,7 @@ module _ {kind : Kind} {input out out' : Text} {at end : ℕ} (g : Gone kind inp
           written = sym a;
           inside = omega arith;
           room = omega (arith, g.size, k, m);
-          size = ap length (p_is.is ∙ ap (paste out' end t) k) ∙ length-paste out' end t (length t) m (omega arith) ∙ g.size;
+          size = ap length (q.is ∙ ap (paste out' end t) k) ∙ length-paste out' end t (length t) m (omega arith) ∙ g.size;
           is = f ∙ ap (λ (u : Text). u ++ drop (end + n) out) (sym (listing_one kind g.done s));
           from =
               g.from

@@ -1,5 +1,5 @@
 -- Laws of Printed.antt. Assumes nothing.
-use Rattle.std.specs.Prelude.{Bool, [], ◌∷◌, ◌++◌, ◌≡◌, ℕ, suc, ◌+◌, ◌-◌, ◌≤◌, ◌<◌, drop}
+use Rattle.std.specs.Prelude.{Bool, [], ◌∷◌, ◌++◌, ◌≡◌, ℕ, suc, ◌+◌, ◌-◌, ◌≤◌, ◌<◌, drop, Option, Some, None, unwrap_or}
 use Rattle.std.proofs.Math.Bool.{true, false}
 use Rattle.std.proofs.Common.{append_assoc, sym, ◌∙◌, arith, add-one, length-drop, drop_of_length-le, drop-drop}
 use Rattle.std.proofs.Math.Path.{refl, ap, ap₂}
@@ -49,28 +49,28 @@ heads {number} {bytes} {second} {r} l l₁ l₂ z z₁ z₂ d e =
     record { place = omega (arith, ap length f, length-drop r l₂, e.below, d.below); is = f }
 
 module _ (t : Text) (at : ℕ) (l : Text) where
-  pub not_printed : length l - at < length t → Printed t at l l 0
+  pub not_printed : length l - at < length t → Printed t at l l None
   unfolding if_fits if◌then◌otherwise◌
-  not_printed h = record { size = rw (lt-leb (length t) (length l - at) h); is = paste-zero l at t }
+  not_printed h = record { size = rw (lt-leb (length t) (length l - at) h) refl; is = paste-zero l at t }
 
-  pub printed : {l' : Text} {r : ℕ} → at + length t ≤ length l → r ≡ length t → l' ≡ paste l at t (length t) → Printed t at l l' r
+  pub printed : {l' : Text} {r : ℕ} → at + length t ≤ length l → r ≡ length t → l' ≡ paste l at t (length t) → Printed t at l l' (Some r)
   unfolding if_fits if◌then◌otherwise◌
-  printed h e f = record { size = e ∙ rw (le-leb (length t) (length l - at) (omega arith)); is = f ∙ ap (paste l at t) (sym e) }
+  printed h e f = record { size = ap Some e ∙ rw (le-leb (length t) (length l - at) (omega arith)); is = f ∙ ap (paste l at t) (sym e) }
 
   -- a text fits, or nothing was printed
-  pub prints : {l' : Text} {r : ℕ} → Printed t at l l' r → at ≤ length l → (r ≡ 0 → ⊥) → (r ≡ length t) × (at + length t ≤ length l)
+  pub prints : {l' : Text} {n : ℕ} → Printed t at l l' (Some n) → at ≤ length l → (n ≡ length t) × (at + length t ≤ length l)
   unfolding if_fits if◌then◌otherwise◌
-  prints {l'} {r} p a z = go (leb (length t) (length l - at)) refl where
-    go : (q : Bool) → leb (length t) (length l - at) ≡ q → (r ≡ length t) × (at + length t ≤ length l)
-    go true e = (p.size ∙ ap (λ (q : Bool). if q then length t otherwise 0) e, omega (arith, leb-true (length t) (length l - at) e))
-    go false e = absurd (z (p.size ∙ ap (λ (q : Bool). if q then length t otherwise 0) e))
+  prints {l'} {n} p a = go (leb (length t) (length l - at)) refl p.size where
+    go : (q : Bool) → leb (length t) (length l - at) ≡ q → Some n ≡ (if q then Some (length t) otherwise None) → (n ≡ length t) × (at + length t ≤ length l)
+    go true e f = (cc, omega (arith, leb-true (length t) (length l - at) e))
+    go false e f = absurd cc
 
-  pub prints_not : {l' : Text} {r : ℕ} → Printed t at l l' r → 1 ≤ length t → r ≡ 0 → length l - at < length t
+  pub prints_not : {l' : Text} → Printed t at l l' None → length l - at < length t
   unfolding if_fits if◌then◌otherwise◌
-  prints_not {l'} {r} p a z = go (leb (length t) (length l - at)) refl where
-    go : (q : Bool) → leb (length t) (length l - at) ≡ q → length l - at < length t
-    go true e = absurd (omega (arith, p.size ∙ ap (λ (q : Bool). if q then length t otherwise 0) e))
-    go false e = omega (arith, leb-false (length t) (length l - at) e)
+  prints_not {l'} p = go (leb (length t) (length l - at)) refl p.size where
+    go : (q : Bool) → leb (length t) (length l - at) ≡ q → None ≡ (if q then Some (length t) otherwise None) → length l - at < length t
+    go true e f = absurd cc
+    go false e f = omega (arith, leb-false (length t) (length l - at) e)
 
 -- one text behind another
 pub paste_on : (l a c : Text) (at : ℕ) → at + (length a + length c) ≤ length l
@@ -99,7 +99,7 @@ module _ {number r : ℕ} (at : ℕ) (name l l₁ l₂ front : Text) (h : Heads 
 
   pub line_printed : at + (12 - r + length name) < length l → l₁ ≡ paste l at (take (12 - r) (drop r front)) (length (take (12 - r) (drop r front)))
       → l₂ ≡ paste l₁ (at + (12 - r)) name (length name)
-      → Printed (line number (length name) name) at l (set l₂ (at + (12 - r + length name)) 10) (12 - r + length name + 1)
+      → Printed (line number (length name) name) at l (set l₂ (at + (12 - r + length name)) 10) (Some (12 - r + length name + 1))
   unfolding line
   line_printed k e f =
       let d : Text = head number (length name) in

@@ -1,15 +1,17 @@
 use Rattle.std.proofs.Common.{◌≡◌, length, ap, ◌∙◌, rules}
 use Rattle.store.specs.Stack.{zeros}
-use Rattle.answer.specs.Told.{normal_slices}
+use Rattle.answer.specs.Lent.{all_slices_of}
 use Rattle.listing.specs.Laws.Entry.{goes_lists}
 use Rattle.listing.proofs.listing.list_lines.Goals as goal
 
-pub returns : goal.returns
+pub returns-clause-left : goal.returns-clause-left
 unfolding zeros
-returns c =
-    let filled : c.fill.new.self ≡ zeros (length c.list_uncleared-listed.new.name) = search rules in
-    goes_lists _ _ (normal_slices c.args.name.now c.args.text.now c.args.store.now c.args.ends.now c.args.words.now c.args.tables.now c.args.chains.now)
-    (normal_slices c.fill.new.self c.clear.new.text c.clear.new.store c.clear.new.ends c.clear_numbers.new.words c.clear_numbers.new.tables c.clear_numbers.new.chains) c.list_uncleared-listed.ensures
-    (filled ∙ ap zeros c.list_uncleared-listed.auto.name)
-    (record { text = c.clear.ensures.text ∙ ap zeros c.list_uncleared-listed.auto.text; store = c.clear.ensures.store ∙ ap zeros c.list_uncleared-listed.auto.store; ends = c.clear.ensures.ends ∙ ap zeros c.list_uncleared-listed.auto.ends })
-    (record { words = c.clear_numbers.ensures.words ∙ ap zeros c.list_uncleared-listed.auto.words; tables = c.clear_numbers.ensures.tables ∙ ap zeros c.list_uncleared-listed.auto.tables; chains = c.clear_numbers.ensures.chains ∙ ap zeros c.list_uncleared-listed.auto.chains })
+returns-clause-left c =
+    let a = c.list_uncleared-listed in
+    let w = a.ensures.same in
+    let n = a.ensures.same_numbers in
+    let filled : c.fill.new.self ≡ zeros (length a.new.name) = search rules in
+    goes_lists _ _ (all_slices_of c.args.name.now c.args.work.now c.args.numbers.now) (all_slices_of c.fill.new.self c.clear.new.self c.clear-2.new.self) a.ensures.lines
+    (filled ∙ ap zeros a.auto.name)
+    (record { text = c.clear.ensures.cleared.text ∙ ap zeros w.text_length; store = c.clear.ensures.cleared.store ∙ ap zeros w.store_length; ends = c.clear.ensures.cleared.ends ∙ ap zeros w.ends_length })
+    (record { words = c.clear-2.ensures.cleared.words ∙ ap zeros n.words_length; tables = c.clear-2.ensures.cleared.tables ∙ ap zeros n.tables_length; chains = c.clear-2.ensures.cleared.chains ∙ ap zeros n.chains_length })

@@ -1,15 +1,15 @@
-use Rattle.answer.specs.Told.{normal_slices}
+use Rattle.answer.specs.Lent.{all_slices_of}
 use Rattle.listing.specs.Laws.Entry.{least_lengths, goes_none, goes_some}
 use Rattle.listing.proofs.listing.list_uncleared.Goals as goal
 
-pub returns-then-not-long_enough : goal.returns-then-not-long_enough
-returns-then-not-long_enough c =
-    goes_none _ (normal_slices c.args.name.now c.args.text.now c.args.store.now c.args.ends.now c.args.words.now c.args.tables.now c.args.chains.now) c.long_enough.ensures _ _ c.if-not-long_enough.true
+pub returns-then-not-fits-clause-lines : goal.returns-then-not-fits-clause-lines
+returns-then-not-fits-clause-lines c =
+    goes_none _ (all_slices_of c.args.name.now c.args.work.now c.args.numbers.now) c.fits.ensures _ _ c.if-not-fits.true
 
-pub write_lines-requires : goal.write_lines-requires
-write_lines-requires c =
-    least_lengths _ (normal_slices c.args.name.now c.args.text.now c.args.store.now c.args.ends.now c.args.words.now c.args.tables.now c.args.chains.now) c.long_enough.ensures c.if-not-long_enough.false
+pub invariant_of-lister : goal.invariant_of-lister
+invariant_of-lister c =
+    record { long = least_lengths _ (all_slices_of c.args.name.now c.args.work.now c.args.numbers.now) c.fits.ensures c.if-not-fits.false }
 
-pub returns : goal.returns
-returns c =
-    goes_some _ (normal_slices c.args.name.now c.args.text.now c.args.store.now c.args.ends.now c.args.words.now c.args.tables.now c.args.chains.now) c.long_enough.ensures _ c.if-not-long_enough.false c.write_lines.ensures
+pub returns-clause-lines : goal.returns-clause-lines
+returns-clause-lines c =
+    goes_some _ (all_slices_of c.args.name.now c.args.work.now c.args.numbers.now) c.fits.ensures _ c.if-not-fits.false c.write_lines.ensures.lines
