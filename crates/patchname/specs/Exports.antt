@@ -1,40 +1,68 @@
 -- What the C functions promise: the same equations as the entries and the listing.
-use Rattle.std.specs.Prelude.{◌≡◌, ℕ}
-use Rattle.std.proofs.Common.{sym, ap, ap₂, ◌∙◌}
+use Rattle.std.specs.Prelude.{◌≡◌, refl, ℕ, Result, Ok, Err}
+use Rattle.std.proofs.Common.{sym, ap, ◌∙◌}
 use Rattle.grammar.specs.Text.{Text}
-use Rattle.answer.specs.declared.Answer.{Answer}
-use Rattle.answer.specs.Told.{Slices, slices, normal_slices, number_in, bytes_in}
+use Rattle.grammar.specs.declared.refusal.Refusal.{Refusal}
+use Rattle.answer.specs.Told.{Slices, slices, normal_slices, numbered, number_in, bytes_in}
+use Rattle.answer.specs.Lent.{slices_of, all_slices_of}
+use Rattle.answer.specs.declared.work.Work.{Work}
+use Rattle.answer.specs.declared.work.Numbers.{Numbers}
 use Rattle.entries.specs.Outcome.{Outcome}
 use Rattle.entries.specs.Laws.Outcome.{no_zeros}
-use Rattle.listing.specs.Listing.{Outcome as Listing, lists, listed}
+use Rattle.listing.specs.Listing.{Outcome as Listing, lists, listed, number_told, taken_told, written_told}
 use Rattle.listing.specs.declared.listing.Kind.{Kind}
 use Rattle.listing.specs.declared.listing.Listed.{Listed}
 
 -- an outcome, its answer as document 01's number and value
-pub record Numbers : Type 0 where
+pub record Returned : Type 0 where
   pub number : ℕ
   pub bytes : ℕ
   pub slices : Slices
 
-abbrev pub in_numbers : Outcome → Numbers
-in_numbers o = record { number = number_in o.answer; bytes = bytes_in o.answer; slices = o.slices }
+abbrev pub number_of : Result ℕ ℕ → ℕ
+number_of (Ok n) = 0
+number_of (Err k) = k
+
+abbrev pub length_of : Result ℕ ℕ → ℕ
+length_of (Ok n) = n
+length_of (Err k) = 0
+
+abbrev pub in_numbers : Outcome → Returned
+in_numbers o = record { number = number_of o.answer; bytes = length_of o.answer; slices = o.slices }
 
 abbrev pub Returns : Outcome → Slices → ℕ → ℕ → Type 0
-Returns o l' number bytes = ◌≡◌ {A = Numbers} (record { number = number; bytes = bytes; slices = l' }) (in_numbers o)
+Returns o l' number bytes = ◌≡◌ {A = Returned} (record { number = number; bytes = bytes; slices = l' }) (in_numbers o)
+
+number_in_numbers : (r : Result ℕ Refusal) → number_in r ≡ number_of (numbered r)
+number_in_numbers (Ok n) = refl
+number_in_numbers (Err e) = refl
+
+bytes_in_numbers : (r : Result ℕ Refusal) → bytes_in r ≡ length_of (numbered r)
+bytes_in_numbers (Ok n) = refl
+bytes_in_numbers (Err e) = refl
 
 -- the entry's answer, taken apart
-pub told : {o : Outcome} {l' : Slices} {number bytes : ℕ} (r : Answer) → (number ≡ number_in r) × (bytes ≡ bytes_in r)
-    → ◌≡◌ {A = Outcome} (record { answer = r; slices = l' }) o → Returns o l' number bytes
-told {l' = l'} r (e, f) h = ap₂ (λ (n b : ℕ). record { number = n; bytes = b; slices = l' }) e f ∙ ap in_numbers h
+pub told : {o : Outcome} {l l' : Slices} {number bytes : ℕ} (r : Result ℕ Refusal) → (number ≡ number_in r) × (bytes ≡ bytes_in r) → l' ≡ l
+    → ◌≡◌ {A = Outcome} (record { answer = numbered r; slices = l }) o → Returns o l' number bytes
+told r (e, f) g h = (λ i. record { number = (e ∙ number_in_numbers r) i; bytes = (f ∙ bytes_in_numbers r) i; slices = g i }) ∙ ap in_numbers h
 
 abbrev pub Returns_listing : Listing → Text → Slices → ℕ → ℕ → ℕ → Type 0
 Returns_listing o out work number taken written = ◌≡◌ {A = Listing} (record { number = number; taken = taken; written = written; out = out; work = work }) o
 
 -- what was listed, taken apart
-pub told_listing : {o : Listing} {out : Text} {work : Slices} {number taken written : ℕ} (r : Listed)
-    → (number ≡ r.number) × ((taken ≡ r.taken) × (written ≡ r.written)) → Returns_listing o out work r.number r.taken r.written
-    → Returns_listing o out work number taken written
-told_listing {out = out} {work = work} r (e, (f, g)) h = (λ i. record { number = e i; taken = f i; written = g i; out = out; work = work }) ∙ h
+pub told_listing : {o : Listing} {out : Text} {l l' : Slices} {number taken written : ℕ} (r : Result Listed Refusal)
+    → (number ≡ number_told r) × ((taken ≡ taken_told r) × (written ≡ written_told r)) → l' ≡ l → Returns_listing o out l (number_told r) (taken_told r) (written_told r)
+    → Returns_listing o out l' number taken written
+told_listing {out = out} r (e, (f, g)) k h = (λ i. record { number = e i; taken = f i; written = g i; out = out; work = k i }) ∙ h
+
+-- the caller's slices are those that the structs had
+module _ {out text store ends : Text} (w : Work) (e : text ≡ w.text.now) (f : store ≡ w.store.now) (g : ends ≡ w.ends.now) where
+  pub same_slices : slices out text store ends ≡ slices_of out w
+  same_slices = λ i. slices out (e i) (f i) (g i)
+
+  pub all_same_slices : {words tables chains : Text} (n : Numbers) → words ≡ n.words.now → tables ≡ n.tables.now → chains ≡ n.chains.now
+      → normal_slices out text store ends words tables chains ≡ all_slices_of out w n
+  all_same_slices n h j k = λ i. normal_slices out (e i) (f i) (g i) (h i) (j i) (k i)
 
 -- the slices that are not lent for names have no numbers afterwards either
 pub no_numbers : (kind : Kind) (input out name text store ends : Text) {out' name' text' store' ends' words tables chains : Text} {number taken written : ℕ}

@@ -4,17 +4,18 @@
 ghost use Rattle.std.specs.Prelude.{◌≡◌};
 ghost use Rattle.answer.specs.Told.{slices, normal_slices, number_in, bytes_in};
 ghost use Rattle.entries.specs.Outcome.{demangled, normalized};
-ghost use Rattle.listing.specs.Listing.{listed};
+ghost use Rattle.listing.specs.Listing.{listed, number_told, taken_told, written_told};
 ghost use Rattle.listing.specs.declared.listing.Kind.TheVariants.{Names, Symbols};
 ghost use Rattle.patchname.specs.Exports.{Returns, Returns_listing};
 
-use answer::Answer;
+use answer::work::{Numbers, Work};
 use entries::names::demangle;
 use entries::symbols::normalize;
+use grammar::refusal::Refusal;
 use listing::listing::{Kind, Listed, list_lines};
 
 // The number of an answer; its length goes to `bytes`.
-fn tell(answer: Answer, bytes: &mut usize) -> u8
+fn tell(answer: Result<usize, Refusal>, bytes: &mut usize) -> u8
     ensures { (result ≡ number_in answer) × (bytes.new ≡ bytes_in answer) }
 {
     *bytes = answer::bytes(answer);
@@ -34,7 +35,8 @@ pub extern "C" fn patchname_demangle(
     ensures { Returns (demangled s.now (slices out.old text.old store.old ends.old))
         (slices out.new text.new store.new ends.new) result bytes.new }
 {
-    let answer = demangle(s, out, text, store, ends);
+    let mut work = Work { text, store, ends };
+    let answer = demangle(s, out, &mut work);
     tell(answer, bytes)
 }
 
@@ -55,17 +57,32 @@ pub extern "C" fn patchname_normalize(
         (normal_slices out.old text.old store.old ends.old words.old tables.old chains.old))
         (normal_slices out.new text.new store.new ends.new words.new tables.new chains.new) result bytes.new }
 {
-    let answer = normalize(s, out, text, store, ends, words, tables, chains);
+    let mut work = Work { text, store, ends };
+    let mut numbers = Numbers {
+        words,
+        tables,
+        chains,
+    };
+    let answer = normalize(s, out, &mut work, &mut numbers);
     tell(answer, bytes)
 }
 
 // The number of a listing; the bytes taken and those written go to `taken` and `written`.
-fn tell_listing(listed: Listed, taken: &mut usize, written: &mut usize) -> u8
-    ensures { (result ≡ listed.number) × ((taken.new ≡ listed.taken) × (written.new ≡ listed.written)) }
+fn tell_listing(listed: Result<Listed, Refusal>, taken: &mut usize, written: &mut usize) -> u8
+    ensures { (result ≡ number_told listed) × ((taken.new ≡ taken_told listed) × (written.new ≡ written_told listed)) }
 {
-    *taken = listed.taken;
-    *written = listed.written;
-    listed.number
+    match listed {
+        Ok(listed) => {
+            *taken = listed.taken;
+            *written = listed.written;
+            0
+        }
+        Err(refusal) => {
+            *taken = 0;
+            *written = 0;
+            u8::from(refusal)
+        }
+    }
 }
 
 // The listing of the complete lines at the front of `input`: the number is returned, and the bytes taken and those written go to
@@ -84,21 +101,13 @@ pub extern "C" fn patchname_list_names(
     ensures { Returns_listing (listed Names input.now out.old (slices name.old text.old store.old ends.old))
         out.new (slices name.new text.new store.new ends.new) result taken.new written.new }
 {
-    let mut words = [0u16; 0];
-    let mut tables = [0u16; 0];
-    let mut chains = [0u16; 0];
-    let listed = list_lines(
-        Kind::Names,
-        input,
-        out,
-        name,
-        text,
-        store,
-        ends,
-        &mut words,
-        &mut tables,
-        &mut chains,
-    );
+    let mut work = Work { text, store, ends };
+    let mut numbers = Numbers {
+        words: &mut [0u16; 0],
+        tables: &mut [0u16; 0],
+        chains: &mut [0u16; 0],
+    };
+    let listed = list_lines(Kind::Names, input, out, name, &mut work, &mut numbers);
     tell_listing(listed, taken, written)
 }
 
@@ -122,17 +131,12 @@ pub extern "C" fn patchname_list_normal_symbols(
         out.new (normal_slices name.new text.new store.new ends.new words.new tables.new chains.new)
         result taken.new written.new }
 {
-    let listed = list_lines(
-        Kind::Symbols,
-        input,
-        out,
-        name,
-        text,
-        store,
-        ends,
+    let mut work = Work { text, store, ends };
+    let mut numbers = Numbers {
         words,
         tables,
         chains,
-    );
+    };
+    let listed = list_lines(Kind::Symbols, input, out, name, &mut work, &mut numbers);
     tell_listing(listed, taken, written)
 }

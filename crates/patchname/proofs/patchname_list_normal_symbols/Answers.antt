@@ -1,6 +1,9 @@
-use Rattle.patchname.specs.Exports.{told_listing}
+use Rattle.std.proofs.Common.{rules}
+use Rattle.patchname.specs.Exports.{told_listing, all_same_slices}
 use Rattle.patchname.proofs.patchname_list_normal_symbols.Goals as goal
 
 pub returns : goal.returns
 returns c =
-    told_listing c.list_lines-listed.result c.tell_listing.ensures c.list_lines-listed.ensures
+    let a = c.list_lines-listed in
+    told_listing a.result c.tell_listing.ensures
+    (all_same_slices a.new.work (search rules) (search rules) (search rules) a.new.numbers (search rules) (search rules) (search rules)) a.ensures.left
