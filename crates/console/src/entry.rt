@@ -10,6 +10,7 @@ use crate::failed::Failed;
 use crate::output::Lister;
 use crate::turns::list_input;
 use answer::work;
+use answer::work::{Numbers, Work};
 use listing::listing::{Kind, NAME};
 use std::io;
 use std::io::{Read, Write};
@@ -34,12 +35,16 @@ pub fn run<R: Read, W: Write, E: Write>(input: &mut R, output: &mut W, errors: &
         kind,
         out: &mut [0u8; CHUNK],
         name: &mut [0u8; NAME],
-        text: &mut [0u8; work::TEXT],
-        store: &mut [0u8; work::STORE],
-        ends: &mut [0u16; work::NUMBERS],
-        words: &mut [0u16; work::NUMBERS],
-        tables: &mut [0u16; work::NUMBERS],
-        chains: &mut [0u16; work::NUMBERS],
+        work: Work {
+            text: &mut [0u8; work::TEXT],
+            store: &mut [0u8; work::STORE],
+            ends: &mut [0u16; work::NUMBERS],
+        },
+        numbers: Numbers {
+            words: &mut [0u16; work::NUMBERS],
+            tables: &mut [0u16; work::NUMBERS],
+            chains: &mut [0u16; work::NUMBERS],
+        },
     };
     if let Err(failed) = list_input(input, output, &mut chunk, &mut lines, &mut lister) {
         let _ = tell(errors, failed);

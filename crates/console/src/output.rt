@@ -1,6 +1,6 @@
 // Standard output.
 ghost use Rattle.std.specs.Prelude.{◌≡◌, ◌≤◌, ◌<◌, length, take};
-ghost use Rattle.answer.specs.Told.{normal_slices};
+ghost use Rattle.answer.specs.Lent.{all_slices_of};
 ghost use Rattle.listing.specs.Listing.{most_line_bytes};
 ghost use Rattle.listing.specs.Kinds.{LongFor};
 ghost use Rattle.console.specs.Output.{header};
@@ -9,6 +9,7 @@ ghost use Rattle.console.specs.Turns.{Writes};
 use crate::buffer::Buffer;
 use crate::failed::Failed;
 use crate::stream::write_whole;
+use answer::work::{Numbers, Work};
 use listing::listing::{Kind, list_lines};
 use std::io::Write;
 
@@ -30,14 +31,10 @@ pub struct Lister<'a> {
     pub kind: Kind,
     pub out: &'a mut [u8],
     pub name: &'a mut [u8],
-    pub text: &'a mut [u8],
-    pub store: &'a mut [u8],
-    pub ends: &'a mut [u16],
-    pub words: &'a mut [u16],
-    pub tables: &'a mut [u16],
-    pub chains: &'a mut [u16],
+    pub work: Work<'a>,
+    pub numbers: Numbers<'a>,
     ghost room: { most_line_bytes ≤ length out.now },
-    ghost long_for: { LongFor kind (normal_slices name.now text.now store.now ends.now words.now tables.now chains.now) },
+    ghost long_for: { LongFor kind (all_slices_of name.now work numbers) },
 }
 
 impl Lister<'_> {
@@ -66,13 +63,10 @@ impl Lister<'_> {
             buffer.waiting(),
             self.out,
             self.name,
-            self.text,
-            self.store,
-            self.ends,
-            self.words,
-            self.tables,
-            self.chains,
-        );
+            &mut self.work,
+            &mut self.numbers,
+        )
+        .unwrap();
         buffer.skip(listed.taken);
         self.write_front(output, listed.written)
     }

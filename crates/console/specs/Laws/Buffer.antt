@@ -3,13 +3,13 @@ use Rattle.std.proofs.Math.Bool.{Bool, true}
 use Rattle.std.specs.Prelude.{false, ◌≡◌, eqb}
 use mathlib.Core.List.{List, [], ◌∷◌, ◌++◌, append_assoc, append-nil}
 use Rattle.std.proofs.Math.Path.{refl, sym, ap}
-use Rattle.std.proofs.Common.{ap₂, ◌∙◌, eq-eqb, ne_eqb, length-append, length-drop, take-add, take-take, drop-drop, length-take-le}
+use Rattle.std.proofs.Common.{Ok, ap₂, ◌∙◌, eq-eqb, ne_eqb, length-append, length-drop, take-add, take-take, drop-drop, length-take-le}
 use Prim.Native.Nat.{ℕ, suc, ◌+◌, ◌-◌, ◌≤◌, ◌<◌}
 use native.Mathlib.Omega.{arith}
 use Rattle.std.proofs.Math.ListN.{length, take, drop}
 use Rattle.std.proofs.Math.Seq.{take-length, take_at}
 use Rattle.grammar.specs.Text.{Text, if◌then◌otherwise◌}
-use Rattle.answer.specs.Told.{Slices, lent}
+use Rattle.answer.specs.Told.{Slices}
 use Rattle.answer.specs.Laws.Told.{long_fit, long_numbers_fit}
 use Rattle.listing.specs.Listing.{line_feed, lines, bytes_taken, listing, fitting, work_sized, Outcome, lists, listed, Lists, most_line_bytes}
 use Rattle.listing.specs.Cut.{cut_lines, column}
@@ -123,7 +123,7 @@ module _ (kind : Kind) (input out : Text) where
   abbrev if_sized : Bool → List Text
   if_sized q = if q then fitting kind (length out) (lines input) otherwise []
 
-module _ (kind : Kind) (input out : Text) (work : Slices) {out' : Text} {work' : Slices} {r : Listed} (m : Lists kind input out out' work work' r) (s : work_sized kind work ≡ true) where
+module _ (kind : Kind) (input out : Text) (work : Slices) {out' : Text} {work' : Slices} {r : Listed} (m : Lists kind input out out' work work' (Ok r)) (s : work_sized kind work ≡ true) where
   listed_taken : r.taken ≡ bytes_taken (lines_listed kind input out)
   unfolding listed lists if◌then◌otherwise◌
   listed_taken = ap (λ (x : Outcome). x.taken) m ∙ ap (λ (q : Bool). bytes_taken (if_sized kind input out q)) s
@@ -142,15 +142,14 @@ module _ (kind : Kind) (input out : Text) (work : Slices) {out' : Text} {work' :
       let e = fitting_front kind (length out) (lines input) in
       ap (λ (j : ℕ). lines (take j input)) (listed_taken ∙ ap bytes_taken (sym e)) ∙ lines_take input (length (lines_listed kind input out)) ∙ e
 
-pub listed_inside : (kind : Kind) (b : Buffer) (out : Text) (work work' : Slices) {out' : Text} {r : Listed} → Lists kind (waiting b) out out' work work' r
+pub listed_inside : (kind : Kind) (b : Buffer) (out : Text) (work work' : Slices) {out' : Text} {r : Listed} → Lists kind (waiting b) out out' work work' (Ok r)
     → (b.from + r.taken ≤ b.start) × (r.written ≤ length out)
 listed_inside kind b out work work' {out'} {r} m =
-    let (a, c) = lists_inside kind (waiting b) out out' work work' r m in
+    let (a, c) = lists_inside kind (waiting b) out out' work work' (Ok r) m in
     (omega (arith, a, b.first, part_length b.lines.now b.from b.start (omega (arith, b.second, b.inside))), c)
 
 pub long_sized : {kind : Kind} {work : Slices} → LongFor kind work → work_sized kind work ≡ true
-unfolding work_sized
-long_sized {kind} {work} h = sym (long_work kind (lent work) h.name (sym (long_fit h.work)) refl (sym (long_numbers_fit h.numbers)))
+long_sized {kind} {work} h = sym (long_work kind work h.name (long_fit h.work) (sym (long_numbers_fit h.numbers)))
 
 some_line : (ss : List Text) → 1 ≤ bytes_taken ss → 1 ≤ length ss
 unfolding bytes_taken
@@ -231,7 +230,7 @@ module _ {kind : Kind} {q : Bool} {all handed : Text} {b : Buffer} (f : Fed kind
       ∙ take-length (lines t) in
       ap bytes_taken e ∙ n
 
-  module _ (out : Text) (work : Slices) {out' : Text} {work' : Slices} {r : Listed} (m : Lists kind (waiting b) out out' work work' r) (s : work_sized kind work ≡ true) where
+  module _ (out : Text) (work : Slices) {out' : Text} {work' : Slices} {r : Listed} (m : Lists kind (waiting b) out out' work work' (Ok r)) (s : work_sized kind work ≡ true) where
     -- some of its lines more are handed over
     pub fed_listed : {b' : Buffer} → Skips r.taken b b' → Fed kind q all (handed ++ take r.written out') b'
     fed_listed {b'} g =
@@ -240,7 +239,7 @@ module _ {kind : Kind} {q : Bool} {all handed : Text} {b : Buffer} (f : Fed kind
         let front : Text = take k (waiting b) in
         let ss : List Text = fitting kind (length out) (lines (waiting b)) in
         let size = part_length l b.from b.start (omega (arith, b.second, b.inside)) in
-        let within : k ≤ b.start - b.from = omega (arith, (lists_inside kind (waiting b) out out' work work' r m).0, size) in
+        let within : k ≤ b.start - b.from = omega (arith, (lists_inside kind (waiting b) out out' work work' (Ok r) m).0, size) in
         let e : lines (f.done ++ front) ≡ lines f.done ++ ss = lines_append f.done front f.whole ∙ ap (λ (us : List Text). lines f.done ++ us) (listed_lines kind (waiting b) out work m s) in
         let c : part l b.from (b.from + k) ≡ front =
         ap (λ (j : ℕ). take j (drop b.from l)) {x = b.from + k - b.from} {y = k} (omega arith) ∙ sym (take-take k (b.start - b.from) (drop b.from l) within) in
@@ -273,7 +272,7 @@ module _ {kind : Kind} {q : Bool} {all handed : Text} {b : Buffer} (f : Fed kind
     -- one line at least
     pub listed_more : most_line_bytes ≤ length out → b.from < b.start → 1 ≤ r.taken
     listed_more h k =
-        (lists_some_line kind (waiting b) out out' work work' r m s h).1
+        (lists_some_line kind (waiting b) out out' work work' (Ok r) m s h).1
         (some_line (lines (waiting b)) (omega (arith, waiting_whole, part_length b.lines.now b.from b.start (omega (arith, b.second, b.inside)), k)))
 
   -- what was handed over is a front of the output for the input

@@ -1,5 +1,5 @@
 -- What a caller of the entry for listings may rely on: no more is taken than there is, and no more written than fits. Assumes nothing.
-use Rattle.std.specs.Prelude.{Bool, ◌≡◌, ℕ, zero, suc, ◌+◌, ◌-◌, ◌/◌, ◌%◌, ◌≤◌, ◌<◌, eqb, leb, ltb, Result}
+use Rattle.std.specs.Prelude.{Bool, ◌≡◌, ℕ, zero, suc, ◌+◌, ◌-◌, ◌/◌, ◌%◌, ◌≤◌, ◌<◌, eqb, leb, ltb, Result, Ok, Err, IsOk}
 use Rattle.std.proofs.Math.Bool.{true, false}
 use mathlib.Core.List.{List, [], ◌∷◌, ◌++◌}
 use Rattle.std.proofs.Math.Path.{refl, ap, ap₂}
@@ -10,6 +10,8 @@ use Rattle.std.proofs.Math.ListN.{length, length-append}
 use Rattle.grammar.specs.Text.{Text, if◌then◌otherwise◌, decimal}
 use Rattle.grammar.specs.Limits.{most_text_bytes}
 use Rattle.grammar.specs.declared.refusal.Refusal.{Refusal}
+use Rattle.grammar.specs.declared.refusal.Refusal.TheVariants.{LongSymbol, HighByte, NoFront, NoRule, BytesLeft, NotCatalogue, PastTable, TooDeep}
+use Rattle.grammar.specs.declared.refusal.Refusal.TheVariants.{TableFull, ArgumentsFull, LongText, ShortOutput, LongNormalSymbol, ShortWork}
 use Rattle.grammar.specs.Names.{Answer, number_of, length_of}
 use Rattle.answer.specs.Told.{Slices}
 use Rattle.listing.specs.Listing.{Outcome, answer_of, line_for, listing_line, in_front, lines, bytes_taken, listing, fitting, none_fits, number_for, work_sized, lists, listed}
@@ -96,6 +98,24 @@ some_taken kind room s ss h = rw (le-leb (length (listing_line kind s)) room h) 
 
 -- ---------------------------------------------------------------- the number
 
+-- no error has the number 0
+ok_at_0 : (r : Result Listed Refusal) → number_told r ≡ 0 → IsOk r
+ok_at_0 (Ok l) e = refl
+ok_at_0 (Err LongSymbol) e = absurd (omega arith)
+ok_at_0 (Err HighByte) e = absurd (omega arith)
+ok_at_0 (Err NoFront) e = absurd (omega arith)
+ok_at_0 (Err NoRule) e = absurd (omega arith)
+ok_at_0 (Err BytesLeft) e = absurd (omega arith)
+ok_at_0 (Err NotCatalogue) e = absurd (omega arith)
+ok_at_0 (Err PastTable) e = absurd (omega arith)
+ok_at_0 (Err TooDeep) e = absurd (omega arith)
+ok_at_0 (Err TableFull) e = absurd (omega arith)
+ok_at_0 (Err ArgumentsFull) e = absurd (omega arith)
+ok_at_0 (Err LongText) e = absurd (omega arith)
+ok_at_0 (Err ShortOutput) e = absurd (omega arith)
+ok_at_0 (Err LongNormalSymbol) e = absurd (omega arith)
+ok_at_0 (Err ShortWork) e = absurd (omega arith)
+
 module _ (kind : Kind) (input out out' : Text) (work work' : Slices) (r : Result Listed Refusal) (e : Lists kind input out out' work work' r) where
   abbrev fit : List Text
   fit = fitting kind (length out) (lines input)
@@ -146,3 +166,6 @@ module _ (kind : Kind) (input out out' : Text) (work work' : Slices) (r : Result
     go : (ss : List Text) → 1 ≤ length ss → 1 ≤ bytes_taken (fitting kind (length out) ss)
     go [] l = absurd (omega arith)
     go (s ∷ ss) l = some_taken kind (length out) s ss (omega (arith, line_fits kind s))
+
+  pub lists_ok : work_sized kind work ≡ true → most_line_bytes ≤ length out → IsOk r
+  lists_ok f h = ok_at_0 r (lists_some_line f h).0
