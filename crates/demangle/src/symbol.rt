@@ -27,6 +27,17 @@ pub fn behind_front(s: &[u8]) -> Result<usize, Refusal>
     Err(Refusal::NoFront)
 }
 
+// The text into the front of `out`. With copy_from_slice LLVM would no longer see that `out` is only written, and would clear the array of
+// 16,384 bytes that the reading for normal symbols lends for the name.
+fn copy(out: &mut [u8], text: &[u8])
+    requires { length text.now ≤ length out.old }
+    ensures { out.new ≡ text.now ++ drop (length text.now) out.old }
+{
+    for (i, x) in text.iter().enumerate() {
+        out[i] = *x;
+    }
+}
+
 // The text without its slots, into the front of `out`.
 pub fn write_name(out: &mut [u8], text: &[u8])
     requires { length (without_slots text.now) ≤ length out.old }
@@ -43,7 +54,7 @@ pub fn write_counted(out: &mut [u8], text: &[u8], slots: usize)
     ensures { out.new ≡ without_slots text.now ++ drop (length (without_slots text.now)) out.old }
 {
     if slots == 0 {
-        out[..text.len()].copy_from_slice(text);
+        copy(out, text);
     } else {
         write_name(out, text);
     }
