@@ -8,13 +8,13 @@ ghost use Rattle.listing.specs.Lines.{GoesOn, full_at};
 ghost use Rattle.listing.specs.Kinds.{LongFor};
 ghost use Rattle.listing.specs.Entry.{Tried};
 
-use crate::feeds::line_end;
 use answer::work::{Numbers, Work};
 use answer::{bytes, number, work};
 use demangle::reading::demangle_uncleared;
 use grammar::refusal::Refusal;
 use grammar::state::Parser;
 use grammar::{numbers as digits, text};
+use memchr::memchr_iter;
 use normalize::reading::normalize_uncleared;
 
 // The least length of the slice for a name or a normal symbol; those of the others are the entries'.
@@ -145,11 +145,7 @@ impl Lister<'_, '_, '_, '_, '_> {
     {
         let mut taken: usize = 0;
         let mut written: usize = 0;
-        while taken < input.len() {
-            let feed = line_end(input, taken);
-            if input.len() <= feed {
-                return Ok(Listed { taken, written });
-            }
+        for feed in memchr_iter(b'\n', input) {
             let Some(n) = self.write_line(&input[taken..feed], out, written) else {
                 return full(taken, written);
             };

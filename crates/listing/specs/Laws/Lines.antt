@@ -1,12 +1,13 @@
 -- Laws of Lines.antt. Assumes nothing.
 use Rattle.std.specs.Prelude.{Bool, true, false, not, List, [], ◌∷◌, ◌++◌, ◌≡◌, refl, ℕ, zero, suc, ◌+◌, ◌-◌, ◌≤◌, ◌<◌, eqb, length, take, drop, get_or, Option, Some, None, unwrap_or, Result, Ok, Err}
-use Rattle.std.proofs.Common.{append_assoc, append-nil, sym, ap, ap₂, ◌∙◌, subst, arith, ne_eqb, eqb-true, le-leb, length-append, length-drop, drop_of_length-le, take_at, drop-drop}
+use Rattle.std.proofs.Common.{true≢false, eq-eqb, append_assoc, append-nil, sym, ap, ap₂, ◌∙◌, subst, arith, ne_eqb, eqb-true, le-leb, length-append, length-drop, drop_of_length-le, take_at, drop-drop}
 use Rattle.std.proofs.lemmas.Bool.{not-false, lt-leb}
 use Rattle.std.proofs.Math.Seq.{paste, paste-zero, drop-append-add, take-length}
 use Rattle.std.proofs.lemmas.List.Edits.{length-paste}
 use Rattle.grammar.specs.Text.{Text, if◌then◌otherwise◌, run}
 use Rattle.grammar.specs.declared.refusal.Refusal.{Refusal}
-use Rattle.grammar.specs.Laws.Runs.{run_more, run_stops}
+use Rattle.grammar.specs.Laws.Runs.{run_more, run_stop, run_stops}
+use Rattle.memchr.specs.Find.{is_byte, places_from, places_between}
 use Rattle.listing.specs.Listing.{line, line_for, listing_line, in_front, lines, bytes_taken, listing, fitting, none_fits, number_for, number_told, taken_told, written_told}
 use Rattle.listing.specs.Printed.{Printed}
 use Rattle.listing.specs.Laws.Printed.{prints, prints_not}
@@ -22,6 +23,44 @@ module _ (s : Text) where
       feed_behind at n (omega arith) (λ i u. e i (omega arith))
       ∙ omega (arith, ap length (run_more (λ x. not (eqb x 10)) s (at + n) (omega arith) (ap not (ne_eqb _ _ (e n (omega arith))))))
       ∙ ap (feed_from s) {x = at + n + 1} {y = at + suc n} (omega arith)
+
+  -- x is the first line feed from `at` on, and l are those behind it
+  abbrev Feeds : ℕ → ℕ → List ℕ → Type 0
+  Feeds at x l = (x ≡ feed_from s at) × ((x < length s) × (l ≡ places_between (is_byte 10) s (x + 1) (length s)))
+
+  no_feed : (at : ℕ) → at + 1 ≤ length s → eqb (get_or s at 0) 10 ≡ false → feed_from s at ≡ feed_from s (at + 1)
+  no_feed at h f = feed_behind at 1 h (λ i u k. true≢false (sym (eq-eqb _ _ (ap (λ (j : ℕ). get_or s j 0) {x = at} {y = at + i} (omega arith) ∙ k)) ∙ f))
+
+  feeds_some : (at n x : ℕ) (l : List ℕ) → at + n ≡ length s → places_from (is_byte 10) s at n ≡ x ∷ l → Feeds at x l
+  unfolding places_from if◌then◌otherwise◌
+  feeds_some at zero x l h e = absurd cc
+  feeds_some at (suc n) x l h e = go (eqb (get_or s at 0) 10) refl e (feeds_some (at + 1) n x l (omega arith)) where
+    go : (q : Bool) → eqb (get_or s at 0) 10 ≡ q → (if q then at ∷ places_from (is_byte 10) s (at + 1) n otherwise places_from (is_byte 10) s (at + 1) n) ≡ x ∷ l
+        → (places_from (is_byte 10) s (at + 1) n ≡ x ∷ l → Feeds (at + 1) x l) → Feeds at x l
+    go true f g r =
+        let i : at ≡ x = cc in
+        let j : places_from (is_byte 10) s (at + 1) n ≡ l = cc in
+        let k = run_stop (λ y. not (eqb y 10)) s at (omega arith) (ap not f) in (
+          omega (arith, i, ap length k),
+          (omega (arith, i), sym j ∙ ap₂ (places_from (is_byte 10) s) {x = at + 1} {y = x + 1} {u = n} {v = length s - (x + 1)} (omega (arith, i)) (omega (arith, i))),
+        )
+    go false f g r = let (a, c) = r g in (a ∙ sym (no_feed at (omega arith) f), c)
+
+  feeds_none : (at n : ℕ) → at + n ≡ length s → places_from (is_byte 10) s at n ≡ [] → length s ≤ feed_from s at
+  unfolding places_from if◌then◌otherwise◌
+  feeds_none at zero h e = omega arith
+  feeds_none at (suc n) h e = go (eqb (get_or s at 0) 10) refl e (feeds_none (at + 1) n (omega arith)) where
+    go : (q : Bool) → eqb (get_or s at 0) 10 ≡ q → (if q then at ∷ places_from (is_byte 10) s (at + 1) n otherwise places_from (is_byte 10) s (at + 1) n) ≡ []
+        → (places_from (is_byte 10) s (at + 1) n ≡ [] → length s ≤ feed_from s (at + 1)) → length s ≤ feed_from s at
+    go true f g r = absurd cc
+    go false f g r = omega (arith, r g, no_feed at (omega arith) f)
+
+  module _ {at : ℕ} (h : at ≤ length s) where
+    pub next_feed : {x : ℕ} {l : List ℕ} → places_between (is_byte 10) s at (length s) ≡ x ∷ l → Feeds at x l
+    next_feed {x} {l} e = feeds_some at (length s - at) x l (omega arith) e
+
+    pub last_feed : places_between (is_byte 10) s at (length s) ≡ [] → length s ≤ feed_from s at
+    last_feed e = feeds_none at (length s - at) (omega arith) e
 
   pub feed_there : (at : ℕ) → feed_from s at < length s → get_or s (feed_from s at) 0 ≡ 10
   feed_there at h = eqb-true _ _ (not-false _ (run_stops (λ x. not (eqb x 10)) s at h))
