@@ -1,6 +1,5 @@
 -- What the functions that write a line leave, and the laws of it. Assumes nothing.
-use Rattle.std.specs.Prelude.{◌≡◌, ℕ, ◌+◌, ◌-◌, leb, length, drop, Option, Some, None, unwrap_or}
-use Rattle.std.proofs.Math.Seq.{paste}
+use Rattle.std.specs.Prelude.{◌≡◌, ◌++◌, ℕ, ◌+◌, leb, length, take, drop, Option, Some, None, unwrap_or}
 use Rattle.grammar.specs.Text.{Text, if◌then◌otherwise◌}
 use Rattle.listing.specs.Listing.{head}
 
@@ -17,7 +16,7 @@ pub record Heads (number bytes : ℕ) (l : Text) (r : ℕ) : Type 0 where
 unfoldable pub if_fits : ℕ → ℕ → Option ℕ
 if_fits n room = if leb n room then Some n otherwise None
 
--- the text t stands in l' from `at` on, if it fits
-pub record Printed (t : Text) (at : ℕ) (l l' : Text) (r : Option ℕ) : Type 0 where
-  pub size : r ≡ if_fits (length t) (length l - at)
-  pub is : l' ≡ paste l at t (unwrap_or r 0)
+-- the text t stands at the front of l', if it fits
+pub record Printed (t : Text) (l l' : Text) (r : Option ℕ) : Type 0 where
+  pub size : r ≡ if_fits (length t) (length l)
+  pub is : l' ≡ take (unwrap_or r 0) t ++ drop (unwrap_or r 0) l

@@ -11,14 +11,17 @@ ghost use Rattle.listing.specs.Entry.{Tried};
 use answer::work::{Numbers, Work};
 use answer::{bytes, number, work};
 use demangle::reading::demangle_uncleared;
+use grammar::numbers as digits;
 use grammar::refusal::Refusal;
 use grammar::state::Parser;
-use grammar::{numbers as digits, text};
 use memchr::memchr_iter;
 use normalize::reading::normalize_uncleared;
 
 // The least length of the slice for a name or a normal symbol; those of the others are the entries'.
 pub const NAME: usize = Parser::TEXT;
+
+// The most bytes of a line in front of the name: two numbers of five digits, each with its comma.
+const HEAD: usize = 12;
 
 // What is listed of a symbol: its name, or its normal symbol.
 #[derive(Clone, Copy, Debug, PartialEq, Eq)]
@@ -61,33 +64,33 @@ pub struct Listed {
     pub written: usize,
 }
 
-// Number and length, each with its comma, at the end of the 12 bytes. Returned is where they begin.
-fn write_head(out: &mut [u8], number: usize, bytes: usize) -> usize
-    requires { (length out.old ≡ 12) × ((number < 100000) × (bytes < 100000)) }
+// Number and length, each with its comma, at the end of `out`. Returned is where they begin.
+fn write_head(out: &mut [u8; HEAD], number: u8, bytes: usize) -> usize
+    requires { bytes < 100000 }
     ensures { Heads number bytes out.new result }
 {
-    out[11] = b',';
-    let second = digits::write_decimal(out, 11, bytes as u64);
+    out[HEAD - 1] = b',';
+    let second = digits::write_decimal(out, HEAD - 1, bytes as u64);
     let comma = second - 1;
     out[comma] = b',';
-    digits::write_decimal(out, comma, number as u64)
+    digits::write_decimal(out, comma, u64::from(number))
 }
 
-// The line with the number and the name, into `out` from `at` on. Returned is its length, if it fits.
-fn print_line(out: &mut [u8], at: usize, number: usize, name: &[u8]) -> Option<usize>
-    requires { (at ≤ length out.old) × ((number < 100000) × (length name.now < 100000)) }
-    ensures { Printed (line number (length name.now) name.now) at out.old out.new result }
+// The line with the number and the name, into `out`. Returned is its length, if it fits.
+fn print_line(out: &mut [u8], number: u8, name: &[u8]) -> Option<usize>
+    requires { length name.now < 100000 }
+    ensures { Printed (line number (length name.now) name.now) out.old out.new result }
 {
-    let mut head = [0u8; 12];
+    let mut head = [0u8; HEAD];
     let from = write_head(&mut head, number, name.len());
-    let n = 12 - from;
+    let n = HEAD - from;
     let last = n + name.len();
-    if out.len() - at <= last {
+    if out.len() <= last {
         return None;
     }
-    text::copy(out, at, &head[from..]);
-    text::copy(out, at + n, name);
-    out[at + last] = b'\n';
+    out[..n].copy_from_slice(&head[from..]);
+    out[n..last].copy_from_slice(name);
+    out[last] = b'\n';
     Some(last + 1)
 }
 
@@ -127,15 +130,13 @@ impl Lister<'_, '_, '_, '_, '_> {
     }
 
     // The listing line of a symbol, as `print_line` writes a line.
-    fn write_line(&mut self, s: &[u8], out: &mut [u8], at: usize) -> Option<usize>
-        requires { at ≤ length out.old }
+    fn write_line(&mut self, s: &[u8], out: &mut [u8]) -> Option<usize>
         ensures same { SameLister self.old self.new }
-        ensures line { Printed (listing_line self.old.kind s.now) at out.old out.new result }
+        ensures line { Printed (listing_line self.old.kind s.now) out.old out.new result }
     {
         let answer = self.answer(s);
-        let number = usize::from(number(answer));
         let bytes = bytes(answer);
-        print_line(out, at, number, &self.name[..bytes])
+        print_line(out, number(answer), &self.name[..bytes])
     }
 
     // The lines one after another, as long as their listing fits.
@@ -146,7 +147,7 @@ impl Lister<'_, '_, '_, '_, '_> {
         let mut taken: usize = 0;
         let mut written: usize = 0;
         for feed in memchr_iter(b'\n', input) {
-            let Some(n) = self.write_line(&input[taken..feed], out, written) else {
+            let Some(n) = self.write_line(&input[taken..feed], &mut out[written..]) else {
                 return full(taken, written);
             };
             taken = feed + 1;

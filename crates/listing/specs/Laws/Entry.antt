@@ -7,7 +7,7 @@ use Rattle.grammar.specs.Text.{Text, if◌then◌otherwise◌}
 use Rattle.grammar.specs.declared.refusal.Refusal.{Refusal}
 use Rattle.grammar.specs.declared.refusal.Refusal.TheVariants.{ShortWork}
 use Rattle.store.specs.Stack.{zeros}
-use Rattle.answer.specs.Told.{Slices, lent, fit, numbers_fit, Cleared, NumbersCleared}
+use Rattle.answer.specs.Told.{Slices, fit, numbers_fit, Cleared, NumbersCleared}
 use Rattle.answer.specs.Laws.Told.{both_true, fit_long, fit_long_numbers}
 use Rattle.listing.specs.Listing.{least_name, bytes_taken, listing, number_for, least_ends_of, least_numbers_of, sized, work_sized, lists, listed, Lists}
 use Rattle.listing.specs.Kinds.{LongFor}

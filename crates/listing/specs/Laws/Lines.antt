@@ -1,14 +1,15 @@
 -- Laws of Lines.antt. Assumes nothing.
-use Rattle.std.specs.Prelude.{Bool, true, false, not, List, [], ◌∷◌, ◌++◌, ◌≡◌, refl, ℕ, zero, suc, ◌+◌, ◌-◌, ◌≤◌, ◌<◌, eqb, length, take, drop, get_or, Option, Some, None, unwrap_or, Result, Ok, Err}
+use Rattle.std.specs.Prelude.{Bool, true, false, not, List, [], ◌∷◌, ◌++◌, ◌≡◌, refl, ℕ, zero, suc, ◌+◌, ◌-◌, ◌≤◌, ◌<◌, eqb, length, take, drop, get_or, Option, Some, None, Result, Ok}
 use Rattle.std.proofs.Common.{true≢false, eq-eqb, append_assoc, append-nil, sym, ap, ap₂, ◌∙◌, subst, arith, ne_eqb, eqb-true, le-leb, length-append, length-drop, drop_of_length-le, take_at, drop-drop}
 use Rattle.std.proofs.lemmas.Bool.{not-false, lt-leb}
-use Rattle.std.proofs.Math.Seq.{paste, paste-zero, drop-append-add, take-length}
-use Rattle.std.proofs.lemmas.List.Edits.{length-paste}
+use Rattle.std.proofs.Math.Seq.{take-length, take_all}
+use Rattle.std.proofs.lemmas.List.{drop_at}
+use borrow.Rule.Slice.PartMut.{put_mid}
 use Rattle.grammar.specs.Text.{Text, if◌then◌otherwise◌, run}
 use Rattle.grammar.specs.declared.refusal.Refusal.{Refusal}
 use Rattle.grammar.specs.Laws.Runs.{run_more, run_stop, run_stops}
 use Rattle.memchr.specs.Find.{is_byte, places_from, places_between}
-use Rattle.listing.specs.Listing.{line, line_for, listing_line, in_front, lines, bytes_taken, listing, fitting, none_fits, number_for, number_told, taken_told, written_told}
+use Rattle.listing.specs.Listing.{listing_line, in_front, lines, bytes_taken, listing, fitting, none_fits, number_for, number_told, taken_told, written_told}
 use Rattle.listing.specs.Printed.{Printed}
 use Rattle.listing.specs.Laws.Printed.{prints, prints_not}
 use Rattle.listing.specs.declared.listing.Kind.{Kind}
@@ -177,15 +178,18 @@ module _ {kind : Kind} {input out out' : Text} {at end : ℕ} (g : Gone kind inp
       let f = ap (fitting kind (length out - end)) e ∙ fits_no_line kind (length out - end) in
       gone_all f (number_last g.done (lines input) (fitting kind (length out) (lines input)) (all_done f) (λ z. all_left z ∙ e)) refl refl
 
-  pub gone_end : length input ≤ at → GoesOn kind input out out' (Ok (record { taken = at; written = end }))
-  unfolding lines
-  gone_end h = gone_last (ap lines (drop_of_length-le input {i = at} h))
-
   pub gone_feed : length input ≤ at + length (before_feed (drop at input)) → GoesOn kind input out out' (Ok (record { taken = at; written = end }))
   gone_feed h = gone_last (no_line (drop at input) (omega (arith, h, length-drop at input, g.inside)))
 
-  module _ {out'' : Text} {feed : ℕ} {o : Option ℕ} (e : feed ≡ at + length (before_feed (drop at input))) (l : feed < length input)
-      (p : Printed (listing_line kind (take (feed - at) (drop at input))) end out' out'' o) where
+  -- what stands in front of the next line, and behind it
+  front : take end out' ≡ listing kind g.done
+  front = ap (take end) g.is ∙ take_at (listing kind g.done) (drop end out) end (sym g.written)
+
+  behind : drop end out' ≡ drop end out
+  behind = ap (drop end) g.is ∙ drop_at (listing kind g.done) (drop end out) end (sym g.written)
+
+  module _ {m : Text} {feed : ℕ} {o : Option ℕ} (e : feed ≡ at + length (before_feed (drop at input))) (l : feed < length input)
+      (p : Printed (listing_line kind (take (feed - at) (drop at input))) (take (length out' - end) (drop end out')) m o) where
     abbrev s : Text
     s = before_feed (drop at input)
 
@@ -197,46 +201,55 @@ module _ {kind : Kind} {input out out' : Text} {at end : ℕ} (g : Gone kind inp
         first_line (drop at input) (omega (arith, length-drop at input))
         ∙ ap (λ (t : Text). s ∷ lines t) (drop-drop (length s + 1) at input ∙ ap (λ (j : ℕ). drop j input) {x = at + (length s + 1)} {y = feed + 1} (omega arith))
 
-    p_is : Printed (listing_line kind s) end out' out'' o
-    p_is = subst (λ (t : Text). Printed (listing_line kind t) end out' out'' o) s_is p
+    p_is : {r : Option ℕ} → o ≡ r → Printed (listing_line kind s) (drop end out) m r
+    p_is z =
+        subst (Printed (listing_line kind s) (drop end out) m) z
+        (subst (λ (u : Text). Printed (listing_line kind s) u m o) (take_all (length out' - end) (drop end out') (omega (arith, length-drop end out')) ∙ behind)
+        (subst (λ (t : Text). Printed (listing_line kind t) (take (length out' - end) (drop end out')) m o) s_is p))
+
+    abbrev after : Text
+    after = put_mid end (length out' - end) out' m
+
+    after_is : after ≡ listing kind g.done ++ m
+    after_is =
+        ap₂ (λ (u v : Text). u ++ (m ++ v)) front (drop_of_length-le (drop end out') {i = length out' - end} (omega (arith, length-drop end out')))
+        ∙ ap (λ (u : Text). listing kind g.done ++ u) (append-nil m)
 
     -- the next line does not fit
-    pub gone_full : o ≡ None → {r : Result Listed Refusal} → r ≡ full_at at end → GoesOn kind input out out'' r
+    pub gone_full : o ≡ None → {r : Result Listed Refusal} → r ≡ full_at at end → GoesOn kind input out after r
     gone_full z {r} i =
-        let k = prints_not (listing_line kind s) end out' (subst (Printed (listing_line kind s) end out' out'') z p_is) in
-        let f : out' ≡ out'' = paste-zero out' end (listing_line kind s) ∙ ap (λ (o : Option ℕ). paste out' end (listing_line kind s) (unwrap_or o 0)) (sym z) ∙ sym p_is.is in
+        let k = prints_not (listing_line kind s) (drop end out) (p_is z) in
+        let f : out' ≡ after = g.is ∙ ap (λ (u : Text). listing kind g.done ++ u) (sym (p_is z).is) ∙ sym after_is in
         let rest = lines (drop (feed + 1) input) in
-        let h = ap (fitting kind (length out - end)) next ∙ fits_none kind (length out - end) s rest (omega (arith, k, g.size)) in
+        let h = ap (fitting kind (length out - end)) next ∙ fits_none kind (length out - end) s rest (omega (arith, k, length-drop end out)) in
         let told = full_told kind s rest (lines input) (fitting kind (length out) (lines input)) g.done (all_done h) (λ y. all_left y ∙ next) in
         let q = i ∙ ap₂ full_at g.taken g.written in
         subst (λ (t : Text). GoesOn kind input out t r) f
         (gone_all h (ap number_told q ∙ told.0) (ap taken_told q ∙ told.1.0 ∙ sym g.taken) (ap written_told q ∙ told.1.1 ∙ sym g.written))
 
-    pub gone_more : {n : ℕ} → o ≡ Some n → Gone kind input out out'' (feed + 1) (end + n)
+    pub gone_more : {n : ℕ} → o ≡ Some n → Gone kind input out after (feed + 1) (end + n)
     gone_more {n} z =
-        let q = subst (Printed (listing_line kind s) end out' out'') z p_is in
-        let (k, m) = prints (listing_line kind s) end out' q (omega (arith, g.size, g.room)) in
         let t : Text = listing_line kind s in
+        let (k, m) = prints t (drop end out) (p_is z) in
         let a : length (listing kind (g.done ++ (s ∷ []))) ≡ end + n = ap length (listing_one kind g.done s) ∙ length-append (listing kind g.done) t ∙ omega (arith, g.written) in
-        let f : out'' ≡ listing kind g.done ++ t ++ drop (end + n) out =
-        q.is
-        ∙ ap₂ (λ (u v : Text). u ++ take n t ++ v)
-        (ap (take end) g.is ∙ take_at (listing kind g.done) (drop end out) end (sym g.written))
-        (ap (drop (end + n)) g.is ∙ ap (λ (j : ℕ). drop (j + n) (listing kind g.done ++ drop end out)) g.written ∙ drop-append-add (listing kind g.done) (drop end out) n ∙ drop-drop n end out)
-        ∙ ap (λ (u : Text). listing kind g.done ++ u ++ drop (end + n) out) (ap (λ (j : ℕ). take j t) k ∙ take-length t) in
+        let f : after ≡ listing kind (g.done ++ (s ∷ [])) ++ drop (end + n) out =
+        after_is
+        ∙ ap (λ (u : Text). listing kind g.done ++ u) ((p_is z).is ∙ ap₂ (λ (u v : Text). u ++ v) (ap (λ (j : ℕ). take j t) k ∙ take-length t) (drop-drop n end out))
+        ∙ sym (append_assoc (listing kind g.done) t (drop (end + n) out))
+        ∙ ap (λ (u : Text). u ++ drop (end + n) out) (sym (listing_one kind g.done s)) in
         record {
           done = g.done ++ (s ∷ []);
           taken = omega (arith, taken_one g.done s, g.taken, e);
           written = sym a;
           inside = omega arith;
-          room = omega (arith, g.size, k, m);
-          size = ap length (q.is ∙ ap (paste out' end t) k) ∙ length-paste out' end t (length t) m (omega arith) ∙ g.size;
-          is = f ∙ ap (λ (u : Text). u ++ drop (end + n) out) (sym (listing_one kind g.done s));
+          room = omega (arith, k, m, length-drop end out, g.room);
+          size = ap length f ∙ length-append (listing kind (g.done ++ (s ∷ []))) (drop (end + n) out) ∙ omega (arith, a, k, m, length-drop end out, length-drop (end + n) out, g.room);
+          is = f;
           from =
               g.from
               ∙ ap (λ (ss : List Text). g.done ++ ss)
               (ap (fitting kind (length out - end)) next
-              ∙ fits_first kind (length out - end) s (lines (drop (feed + 1) input)) (omega (arith, g.size, m))
+              ∙ fits_first kind (length out - end) s (lines (drop (feed + 1) input)) (omega (arith, m, length-drop end out))
               ∙ ap (λ (j : ℕ). s ∷ fitting kind j (lines (drop (feed + 1) input))) {x = length out - end - length t} {y = length out - (end + n)} (omega (arith, k)))
               ∙ sym (append_assoc g.done (s ∷ []) (fitting kind (length out - (end + n)) (lines (drop (feed + 1) input))));
         }

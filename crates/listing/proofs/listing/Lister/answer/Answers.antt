@@ -1,4 +1,3 @@
-use Rattle.answer.specs.Lent.{all_slices_of}
 use Rattle.listing.specs.Laws.Kinds.{name_told, symbol_told}
 use Rattle.listing.proofs.listing.Lister.answer.Goals as goal
 

@@ -1,5 +1,4 @@
-use Rattle.std.proofs.Common.{rules}
-use mathlib.Core.Path.{sym, subst, ◌∙◌}
+use mathlib.Core.Path.{sym, subst}
 use native.Mathlib.Omega.{arith}
 use lib.Seq.{length-take-le}
 use Rattle.grammar.specs.Text.{Text}
@@ -18,10 +17,10 @@ pub print_line-requires : goal.print_line-requires
 print_line-requires c =
     let e = short_told _ _ c.answer-answer.ensures.told in
     let k = length-take-le c.bytes-bytes.result c.answer-answer.new.self.name.now (omega (arith, e, c.bytes-bytes.ensures, c.answer-answer.new.self.long.name)) in
-    (c.requires, (search rules, omega (arith, k, e, c.bytes-bytes.ensures)))
+    omega (arith, k, e, c.bytes-bytes.ensures)
 
 pub returns-clause-line : goal.returns-clause-line
 unfolding listing_line
 returns-clause-line c =
-    subst (λ (t : Text). Printed t c.args.at c.args.out.now c.print_line.new.out c.print_line.result)
-    (line_is c.from-number.result c.bytes-bytes.result c.answer-answer.ensures.told (c.from-number.ensures ∙ c.number.ensures) c.bytes-bytes.ensures) c.print_line.ensures
+    subst (λ (t : Text). Printed t c.args.out.now c.print_line.new.out c.print_line.result)
+    (line_is c.number.result c.bytes-bytes.result c.answer-answer.ensures.told c.number.ensures c.bytes-bytes.ensures) c.print_line.ensures
