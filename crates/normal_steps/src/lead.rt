@@ -16,52 +16,61 @@ pub enum Lead {
     None,
 }
 
+// An arm for each byte, here and in `wrapper`: bytes in one pattern are compiled to tests of ranges, which take longer.
 #[tactic(auto, using(crate::specs::Laws::Leads::bytes))]
 pub fn letter(c: u8) -> bool
     ensures { result ≡ there (with_code letter_code c all_letters) }
 {
-    matches!(
-        c,
-        b'v' | b'w'
-            | b'b'
-            | b'c'
-            | b'a'
-            | b'h'
-            | b's'
-            | b't'
-            | b'i'
-            | b'j'
-            | b'l'
-            | b'm'
-            | b'x'
-            | b'y'
-            | b'n'
-            | b'o'
-            | b'f'
-            | b'd'
-            | b'e'
-            | b'g'
-            | b'z'
-    )
+    match c {
+        b'v' => true,
+        b'w' => true,
+        b'b' => true,
+        b'c' => true,
+        b'a' => true,
+        b'h' => true,
+        b's' => true,
+        b't' => true,
+        b'i' => true,
+        b'j' => true,
+        b'l' => true,
+        b'm' => true,
+        b'x' => true,
+        b'y' => true,
+        b'n' => true,
+        b'o' => true,
+        b'f' => true,
+        b'd' => true,
+        b'e' => true,
+        b'g' => true,
+        b'z' => true,
+        _ => false,
+    }
 }
 
 #[tactic(auto, using(crate::specs::Laws::Leads::bytes))]
 pub fn wrapper(c: u8) -> bool
     ensures { result ≡ there (with_code wrap_code c all_wraps) }
 {
-    matches!(c, b'P' | b'R' | b'O' | b'K' | b'V')
+    match c {
+        b'P' => true,
+        b'R' => true,
+        b'O' => true,
+        b'K' => true,
+        b'V' => true,
+        _ => false,
+    }
 }
 
 pub fn lead_of(c: u8) -> Lead
     ensures { result ≡ class (lead c) }
 {
     match c {
-        b'0'..=b'9' => Lead::Digit,
         b'S' => Lead::S,
         b'N' => Lead::N,
         b'L' => Lead::L,
         _ if wrapper(c) => Lead::Wrap,
         _ if letter(c) => Lead::Letter,
+        b'0'..=b'9' => Lead::Digit,
         _ => Lead::None,
     }
 }

@@ -71,10 +71,9 @@ fn value_ok(kind: u8, minus: bool, digits: &[u8]) -> bool
     requires { all (digit 10) digits.now ≡ true }
     ensures { result ≡ valid_by kind minus digits.now }
 {
-    let zero = digits == b"0".as_slice();
     match kind {
-        b'b' => !minus && (zero || digits == b"1".as_slice()),
-        b'i' | b'l' => numeral(digits) && !(minus && zero),
+        b'b' => !minus && matches!(digits, [b'0' | b'1']),
+        b'i' | b'l' => numeral(digits) && !(minus && matches!(digits, [b'0'])),
         b'j' | b'm' => !minus && numeral(digits),
         _ => false,
     }

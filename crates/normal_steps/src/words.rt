@@ -9,7 +9,7 @@ ghost use Rattle.normal_steps.specs.Answers.{NameIs};
 use grammar::state::Part;
 use grammar::{numbers, text};
 
-const RESERVED: [&[u8]; 13] = [
+const RESERVED: &[&[u8]] = &[
     b"void",
     b"wchar_t",
     b"bool",

@@ -1,156 +1,99 @@
 // A whole symbol, read, and its normal symbol written.
 ghost use Rattle.std.specs.Prelude.{◌≡◌, ◌≤◌, length};
-ghost use Rattle.grammar.specs.Limits.{most_symbol_bytes};
-ghost use Rattle.store.specs.Table.{Front};
 ghost use Rattle.normal_nodes.specs.Nodes.{note_symbol};
-ghost use Rattle.normal_steps.specs.Limits.{out_length};
-ghost use Rattle.normal_steps.specs.States.{begun_at};
-ghost use Rattle.normal_steps.specs.Carries.{work, Sized, Ready};
-ghost use Rattle.normal_writer.specs.Writes.{Plain, Scoped, Functions, Types, Writes};
+ghost use Rattle.normal_steps.specs.Carries.{Ready};
+ghost use Rattle.normal_writer.specs.Writes.{Lent, Begins, Plain, Scoped, Functions, Types, Writes};
 
 use crate::cycle;
-use grammar::state::Part;
-use grammar::text as bytes;
-use normal_steps::state::{Told, Writer};
-use normal_steps::{memory, steps, words};
-
-// The normal symbol is written; or the symbol is outside the class.
-#[derive(Clone, Copy)]
-pub enum Finished {
-    Symbol(Writer),
-    Bad,
-}
-
-// A function's name is written, and whether it has a K.
-#[derive(Clone, Copy)]
-pub enum Headed {
-    Name(Writer, bool),
-    Bad,
-}
+use grammar::text;
+use normal_steps::state::{State, Writer};
+use normal_steps::{steps, words};
 
 // "_Z", "_ZN" or "_ZNK" is written, and taken.
-fn begin(out: &mut [u8], word: &[u8]) -> Writer
-    requires { (length word.now ≤ 4) × (length out.old ≡ out_length) }
-    ensures { (result ≡ begun_at (length word.now) (length word.now)) × Front out_length word.now out.new }
+fn begin(w: &mut Writer, word: &[u8])
+    requires { (length word.now ≤ 4) × Lent w.old }
+    ensures begins { Begins word.now w.new }
+    ensures same_symbol { w.new.s.now ≡ w.old.s.now }
 {
-    bytes::copy(out, 0, word);
     let n = word.len();
-    Writer::begun(n, n)
+    text::copy(w.out, 0, word);
+    w.state = State::begun(n, n);
 }
 
-// <source-name>
-fn plain(s: &[u8], out: &mut [u8]) -> Headed
-    requires { (length s.now ≤ most_symbol_bytes) × (length out.old ≡ out_length) }
-    ensures { Plain s.now out.new result }
+// <source-name>: never with a K
+fn plain(w: &mut Writer) -> Option<bool>
+    requires { Lent w.old }
+    ensures heads { Plain w.old.s.now w.new result }
+    ensures same_symbol { w.new.s.now ≡ w.old.s.now }
 {
-    let Some(Part { from, to }) = words::source_name(s, 2) else {
-        return Headed::Bad;
-    };
-    let begun = begin(out, b"_Z");
-    Headed::Name(memory::put_name(out, begun.moved(to), s, from, to), false)
+    let word = words::source_name(w.s, 2)?;
+    begin(w, b"_Z");
+    w.state.at = word.to;
+    w.put_name(word);
+    Some(false)
 }
 
 // <parts> E behind N or NK, without arguments at the end
-fn scoped(
-    s: &[u8],
-    out: &mut [u8],
-    ends: &mut [u16],
-    words: &mut [u16],
-    tables: &mut [u16],
-    chains: &mut [u16],
-    word: &[u8],
-    constant: bool,
-) -> Headed
-    requires { ((length s.now ≤ most_symbol_bytes) × ((2 ≤ length word.now) × ((length word.now ≤ 4) × (length word.now ≤ length s.now))))
-        × ((length out.old ≡ out_length) × Sized ends.old words.old tables.old chains.old) }
-    ensures { Scoped word.now constant s.now (work out.new ends.new words.new tables.new chains.new) result }
+fn scoped(w: &mut Writer, word: &[u8], constant: bool) -> Option<bool>
+    requires { ((2 ≤ length word.now) × ((length word.now ≤ 4) × (length word.now ≤ length w.old.s.now))) × Lent w.old }
+    ensures heads { Scoped word.now constant w.old.s.now w.new result }
+    ensures same_symbol { w.new.s.now ≡ w.old.s.now }
 {
-    let begun = begin(out, word);
-    let Told::Number(next, u) = cycle::parts(s, out, ends, words, tables, chains, begun) else {
-        return Headed::Bad;
-    };
-    if !steps::bare(memory::tag_of(ends, next, u)) {
-        return Headed::Bad;
+    begin(w, word);
+    let u = cycle::parts(w)?;
+    if !steps::bare(w.tag_of(u)) {
+        return None;
     }
-    Headed::Name(steps::close(out, next), constant)
+    w.close();
+    Some(constant)
 }
 
-// <name> ::= <source-name> | N [K] <parts> E
-fn function(
-    s: &[u8],
-    out: &mut [u8],
-    ends: &mut [u16],
-    words: &mut [u16],
-    tables: &mut [u16],
-    chains: &mut [u16],
-) -> Headed
-    requires { (length s.now ≤ most_symbol_bytes) × ((length out.old ≡ out_length) × Sized ends.old words.old tables.old chains.old) }
-    ensures { Functions s.now (work out.new ends.new words.new tables.new chains.new) result }
+// <name> ::= <source-name> | N [K] <parts> E: whether it has a K
+fn function(w: &mut Writer) -> Option<bool>
+    requires { Lent w.old }
+    ensures heads { Functions w.old.s.now w.new result }
+    ensures same_symbol { w.new.s.now ≡ w.old.s.now }
 {
-    if !bytes::starts_with(s, 2, b"N") {
-        return plain(s, out);
+    if !text::here(w.s, 2, b'N') {
+        return plain(w);
     }
-    if bytes::starts_with(s, 3, b"K") {
-        return scoped(s, out, ends, words, tables, chains, b"_ZNK", true);
+    if text::here(w.s, 3, b'K') {
+        return scoped(w, b"_ZNK", true);
     }
-    scoped(s, out, ends, words, tables, chains, b"_ZN", false)
+    scoped(w, b"_ZN", false)
 }
 
 // <type>+ to the end
-fn types(
-    s: &[u8],
-    out: &mut [u8],
-    ends: &mut [u16],
-    words: &mut [u16],
-    tables: &mut [u16],
-    chains: &mut [u16],
-    p: Writer,
-) -> Finished
-    requires { Ready s.now (work out.old ends.old words.old tables.old chains.old) p }
-    ensures { Types s.now (work out.old ends.old words.old tables.old chains.old)
-        (work out.new ends.new words.new tables.new chains.new) p result }
+fn types(w: &mut Writer) -> Option<()>
+    requires { Ready w.old }
+    ensures ends { Types w.old w.new result }
+    ensures same_symbol { w.new.s.now ≡ w.old.s.now }
 {
-    let mut next = p;
-    while next.at < s.len() {
-        let Told::Number(q, t) = cycle::ty(s, out, ends, words, tables, chains, next) else {
-            return Finished::Bad;
-        };
-        if memory::tag_of(ends, q, t) == b'L' as usize {
-            return Finished::Bad;
+    while w.state.at < w.s.len() {
+        let t = cycle::ty(w)?;
+        if w.tag_of(t) == b'L' as usize {
+            return None;
         }
-        next = q;
     }
-    Finished::Symbol(next)
+    Some(())
 }
 
-// <encoding> ::= <name> [<type>+]; at most 1,024 arguments
-pub fn write_symbol(
-    s: &[u8],
-    out: &mut [u8],
-    ends: &mut [u16],
-    words: &mut [u16],
-    tables: &mut [u16],
-    chains: &mut [u16],
-) -> Finished
-    requires { (length s.now ≤ most_symbol_bytes) × ((length out.old ≡ out_length) × Sized ends.old words.old tables.old chains.old) }
-    ensures { Writes s.now (work out.new ends.new words.new tables.new chains.new) result (note_symbol s.now) }
+// <encoding> ::= <name> [<type>+]; at most 1,024 arguments. The normal symbol is what is written, or the symbol is outside the class.
+pub fn write_symbol(w: &mut Writer) -> Option<()>
+    requires { Lent w.old }
+    ensures writes { Writes w.new result (note_symbol w.old.s.now) }
+    ensures same_symbol { w.new.s.now ≡ w.old.s.now }
 {
-    if !bytes::starts_with(s, 0, b"_Z") {
-        return Finished::Bad;
+    if !text::starts_with(w.s, 0, b"_Z") {
+        return None;
     }
-    let Headed::Name(p, constant) = function(s, out, ends, words, tables, chains) else {
-        return Finished::Bad;
-    };
-    if constant {
-        if s.len() <= p.at {
-            return Finished::Bad;
-        }
+    let constant = function(w)?;
+    if constant && w.s.len() <= w.state.at {
+        return None;
     }
-    let Finished::Symbol(q) = types(s, out, ends, words, tables, chains, p) else {
-        return Finished::Bad;
-    };
-    if catalogue::ARGUMENTS < q.args {
-        return Finished::Bad;
+    types(w)?;
+    if catalogue::ARGUMENTS < w.state.args {
+        return None;
     }
-    Finished::Symbol(q)
+    Some(())
 }

@@ -15,9 +15,8 @@ use answer::work::{Numbers, Work};
 use demangle::{reading, symbol};
 use grammar::refusal::Refusal;
 use grammar::state::Parser;
-use normal_steps::state::Writer;
+use normal_steps::state::{State, Writer};
 use normal_writer::symbol as writing;
-use normal_writer::symbol::Finished;
 
 // The normal symbol of the symbol, into `out`. Work slices of any lengths and contents; what they hold at the end is left free.
 pub fn normalize_uncleared(
@@ -85,10 +84,18 @@ fn write(
     requires { (length s.now ≤ most_symbol_bytes) × ((length store.old ≡ out_length) × Sized ends.old words.old tables.old chains.old) }
     ensures { Tells (accepted_answer (length out.old) s.now) out.old out.new result }
 {
-    let Finished::Symbol(p) = writing::write_symbol(s, store, ends, words, tables, chains) else {
-        return Err(Refusal::NotCatalogue);
+    let mut w = Writer {
+        s,
+        out: store,
+        ends,
+        words,
+        tables,
+        chains,
+        state: State::begun(0, 0),
     };
-    print(out, &store[..p.out])
+    writing::write_symbol(&mut w).ok_or(Refusal::NotCatalogue)?;
+    let n = w.state.out;
+    print(out, &w.out[..n])
 }
 
 // The text as the normal symbol.

@@ -1,5 +1,5 @@
 -- What the C functions promise: the same equations as the entries and the listing.
-use Rattle.std.specs.Prelude.{◌≡◌, refl, ℕ, Result, Ok, Err}
+use Rattle.std.specs.Prelude.{◌≡◌, ℕ, Result}
 use Rattle.std.proofs.Common.{sym, ap, ◌∙◌}
 use Rattle.grammar.specs.Text.{Text}
 use Rattle.grammar.specs.declared.refusal.Refusal.{Refusal}
@@ -19,32 +19,16 @@ pub record Returned : Type 0 where
   pub bytes : ℕ
   pub slices : Slices
 
-abbrev pub number_of : Result ℕ ℕ → ℕ
-number_of (Ok n) = 0
-number_of (Err k) = k
-
-abbrev pub length_of : Result ℕ ℕ → ℕ
-length_of (Ok n) = n
-length_of (Err k) = 0
-
 abbrev pub in_numbers : Outcome → Returned
-in_numbers o = record { number = number_of o.answer; bytes = length_of o.answer; slices = o.slices }
+in_numbers o = record { number = number_in o.answer; bytes = bytes_in o.answer; slices = o.slices }
 
 abbrev pub Returns : Outcome → Slices → ℕ → ℕ → Type 0
 Returns o l' number bytes = ◌≡◌ {A = Returned} (record { number = number; bytes = bytes; slices = l' }) (in_numbers o)
 
-number_in_numbers : (r : Result ℕ Refusal) → number_in r ≡ number_of (numbered r)
-number_in_numbers (Ok n) = refl
-number_in_numbers (Err e) = refl
-
-bytes_in_numbers : (r : Result ℕ Refusal) → bytes_in r ≡ length_of (numbered r)
-bytes_in_numbers (Ok n) = refl
-bytes_in_numbers (Err e) = refl
-
 -- the entry's answer, taken apart
-pub told : {o : Outcome} {l l' : Slices} {number bytes : ℕ} (r : Result ℕ Refusal) → (number ≡ number_in r) × (bytes ≡ bytes_in r) → l' ≡ l
+pub told : {o : Outcome} {l l' : Slices} {number bytes : ℕ} (r : Result ℕ Refusal) → (number ≡ number_in (numbered r)) × (bytes ≡ bytes_in (numbered r)) → l' ≡ l
     → ◌≡◌ {A = Outcome} (record { answer = numbered r; slices = l }) o → Returns o l' number bytes
-told r (e, f) g h = (λ i. record { number = (e ∙ number_in_numbers r) i; bytes = (f ∙ bytes_in_numbers r) i; slices = g i }) ∙ ap in_numbers h
+told r (e, f) g h = (λ i. record { number = e i; bytes = f i; slices = g i }) ∙ ap in_numbers h
 
 abbrev pub Returns_listing : Listing → Text → Slices → ℕ → ℕ → ℕ → Type 0
 Returns_listing o out work number taken written = ◌≡◌ {A = Listing} (record { number = number; taken = taken; written = written; out = out; work = work }) o

@@ -2,7 +2,7 @@
 #![tactic(auto)]
 
 ghost use Rattle.std.specs.Prelude.{◌≡◌};
-ghost use Rattle.answer.specs.Told.{slices, normal_slices, number_in, bytes_in};
+ghost use Rattle.answer.specs.Told.{slices, normal_slices, numbered, number_in, bytes_in};
 ghost use Rattle.entries.specs.Outcome.{demangled, normalized};
 ghost use Rattle.listing.specs.Listing.{listed, number_told, taken_told, written_told};
 ghost use Rattle.listing.specs.declared.listing.Kind.TheVariants.{Names, Symbols};
@@ -16,7 +16,7 @@ use listing::listing::{Kind, Listed, list_lines};
 
 // The number of an answer; its length goes to `bytes`.
 fn tell(answer: Result<usize, Refusal>, bytes: &mut usize) -> u8
-    ensures { (result ≡ number_in answer) × (bytes.new ≡ bytes_in answer) }
+    ensures { (result ≡ number_in (numbered answer)) × (bytes.new ≡ bytes_in (numbered answer)) }
 {
     *bytes = answer::bytes(answer);
     answer::number(answer)

@@ -3,7 +3,7 @@ use Rattle.std.specs.Prelude.{◌≡◌}
 use Rattle.grammar.specs.Text.{Text}
 use Rattle.answer.specs.declared.work.Work.{Work}
 use Rattle.answer.specs.declared.work.Numbers.{Numbers}
-use Rattle.answer.specs.Told.{Slices, slices, normal_slices}
+use Rattle.answer.specs.Told.{slices, normal_slices}
 use Rattle.answer.specs.Lent.{slices_of, all_slices_of}
 
 module _ (w : Work) {out text store ends : Text} (t : text ≡ w.text.now) (s : store ≡ w.store.now) (e : ends ≡ w.ends.now) where

@@ -4,7 +4,7 @@ use Rattle.std.proofs.Common.{ap, ap₂, ◌∙◌, take_at}
 use Rattle.grammar.specs.Text.{Text}
 use Rattle.grammar.specs.Names.{Answer, named, refusal, number_of, length_of, written}
 use Rattle.grammar.specs.declared.refusal.Refusal.{Refusal}
-use Rattle.answer.specs.Told.{number_in, bytes_in, Tells}
+use Rattle.answer.specs.Told.{numbered, number_in, bytes_in, Tells}
 use Rattle.answer.specs.Laws.Told.{tells_number, tells_bytes}
 use Rattle.listing.specs.Listing.{name_of, line, line_for}
 
@@ -19,7 +19,7 @@ name_front (named t) l = take_at t (drop (length t) l) (length t) refl
 name_front (refusal r) l = refl
 
 -- the line of what was told is the line of the answer
-pub line_is : {a : Answer} {out out' : Text} {r : Result ℕ Refusal} (number bytes : ℕ) → Tells a out out' r → number ≡ number_in r → bytes ≡ bytes_in r
+pub line_is : {a : Answer} {out out' : Text} {r : Result ℕ Refusal} (number bytes : ℕ) → Tells a out out' r → number ≡ number_in (numbered r) → bytes ≡ bytes_in (numbered r)
     → line number (length (take bytes out')) (take bytes out') ≡ line_for a
 unfolding line_for
 line_is {a} {out} {out'} number bytes h e f =

@@ -10,7 +10,7 @@ use Rattle.catalogue.specs.Recogniser.{classify}
 use Rattle.catalogue.specs.Answer.{normal_in, normal_told, normal_after, normal_symbol, normal_work_fits, normal_answer}
 use Rattle.demangle.specs.Laws.Lengths.{short_answer, within_is, answer_is}
 use Rattle.grammar.specs.declared.refusal.Refusal.{Refusal}
-use Rattle.answer.specs.Told.{Slices, slices, lent, bytes_in, Tells}
+use Rattle.answer.specs.Told.{Slices, slices, lent, numbered, bytes_in, Tells}
 use Rattle.answer.specs.Laws.Told.{tells_bytes, tells_as, long_fit, long_numbers_fit}
 use Rattle.normalize.specs.Laws.Fronts.{normal_behind}
 use Rattle.listing.specs.Listing.{answer_of}
@@ -51,7 +51,7 @@ unfolding answer_of normal_symbol
 short_answer_of Names s = short_answer s
 short_answer_of Symbols s = omega (arith, after_short s (demangle most_symbol_bytes s))
 
-pub short_told : (kind : Kind) (s : Text) {out out' : Text} {r : Result ℕ Refusal} → Tells (answer_of kind s) out out' r → bytes_in r ≤ most_text_bytes
+pub short_told : (kind : Kind) (s : Text) {out out' : Text} {r : Result ℕ Refusal} → Tells (answer_of kind s) out out' r → bytes_in (numbered r) ≤ most_text_bytes
 short_told kind s h = omega (arith, tells_bytes h, short_answer_of kind s)
 
 too_long_for_name : (s : Text) → most_symbol_bytes < length s → demangle most_symbol_bytes s ≡ refusal 1

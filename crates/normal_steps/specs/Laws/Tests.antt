@@ -1,10 +1,10 @@
 -- Tests of bytes at a place, and of parts. Assumes nothing.
-use Rattle.std.specs.Prelude.{Bool, true, false, not, ◌&&◌, ◌⊎◌, ◌≡◌, ℕ, ◌+◌, ◌≤◌, ◌<◌, eqb, ltb, length, map, drop}
+use Rattle.std.specs.Prelude.{Bool, true, false, not, ◌&&◌, ◌⊎◌, ◌≡◌, ℕ, ◌+◌, ◌≤◌, ◌<◌, eqb, ltb, length, map, drop, get_or}
 use mathlib.Core.List.{List, [], ◌∷◌}
 use Rattle.std.specs.Cmp.Lexicographic.{pointwise}
 use Rattle.std.specs.List.{list_any, list_all}
 use denote.Ref.{Bor}
-use Rattle.std.proofs.Common.{inl, inr, ap, ◌∙◌, arith, ltb-true, ltb-false, drop-drop}
+use Rattle.std.proofs.Common.{ne_eqb, inl, inr, ap, ◌∙◌, arith, ltb-true, ltb-false, drop-drop}
 use Rattle.std.proofs.Math.Path.{refl, sym}
 use Prim.Native.String.{String}
 use Rattle.grammar.specs.Text.{Text, if◌then◌otherwise◌, b, same, starts, digit}
@@ -69,6 +69,20 @@ same_is [] [] = refl
 same_is [] (y ∷ t) = refl
 same_is (x ∷ s) [] = refl
 same_is (x ∷ s) (y ∷ t) = ap (λ (q : Bool). eqb x y && q) (same_is s t)
+
+pub same_byte : (t : Text) (x : ℕ) → same t (x ∷ []) ≡ (eqb (length t) 1 && eqb (get_or t 0 0) x)
+unfolding same
+same_byte [] x = refl
+same_byte (y ∷ []) x = and_true (eqb y x)
+  where
+    and_true : (q : Bool) → q && true ≡ q
+    and_true true = refl
+    and_true false = refl
+same_byte (y ∷ z ∷ t) x = rw (ne_eqb (length (y ∷ z ∷ t)) 1 (λ e. omega arith)) (and_false (eqb y x))
+  where
+    and_false : (q : Bool) → q && false ≡ false
+    and_false true = refl
+    and_false false = refl
 
 -- `any` over some words
 pub listed_any : (n : Text) (xs : List (Bor Text)) (ws : List String) → map (λ x. x.now) xs ≡ map b ws → list_any (λ x. pointwise eqb n x.now) xs ≡ listed n ws

@@ -1,52 +1,41 @@
 -- A loop of a member as far as it went. Assumes nothing.
-use Rattle.std.specs.Prelude.{◌≡◌, refl, ℕ, ◌≤◌, ◌<◌, length}
+use Rattle.std.specs.Prelude.{◌≡◌, ℕ, ◌+◌, ◌≤◌, ◌<◌, Option}
 use Rattle.std.proofs.Common.{◌∙◌, arith}
-use Rattle.grammar.specs.Text.{Text}
-use Rattle.normal_steps.specs.Carries.{Work, Ready, most_number}
+use Rattle.normal_nodes.specs.Nodes.{Got}
+use Rattle.normal_steps.specs.States.{moved_to}
+use Rattle.normal_steps.specs.Carries.{slices_of, Ready, most_number}
+use Rattle.normal_steps.specs.Laws.Told.{Answered}
+use Rattle.normal_steps.specs.declared.state.State.{State}
 use Rattle.normal_steps.specs.declared.state.Writer.{Writer}
-use Rattle.normal_steps.specs.declared.state.Told.{Told}
 
--- the slices have the lengths that they had
-pub record Same (ws ws₀ : Work) : Type 0 where
-  pub out : length ws.out ≡ length ws₀.out
-  pub ends : length ws.ends ≡ length ws₀.ends
-  pub words : length ws.words ≡ length ws₀.words
-  pub tables : length ws.tables ≡ length ws₀.tables
-  pub chains : length ws.chains ≡ length ws₀.chains
+-- a number was told, and the writer is w
+abbrev pub Told : (State → Type 0) → Writer → ℕ → Got ℕ → Type 0
+Told L w d g = Answered w.s.now L (slices_of w) w.state d g
 
-pub same_now : {ws : Work} → Same ws ws
-same_now = record { out = refl; ends = refl; words = refl; tables = refl; chains = refl }
+-- the writer at another place of the symbol, and one byte on
+abbrev pub gone : Writer → ℕ → Writer
+gone w to = record w { state = moved_to w.state to }
 
-pub same_still : {ws₁ ws ws₀ : Work} → Same ws₁ ws → Same ws ws₀ → Same ws₁ ws₀
-same_still a b = record {
-  out = a.out ∙ b.out;
-  ends = a.ends ∙ b.ends;
-  words = a.words ∙ b.words;
-  tables = a.tables ∙ b.tables;
-  chains = a.chains ∙ b.chains;
-}
+abbrev pub moved : Writer → Writer
+moved w = gone w (w.state.at + 1)
 
 -- G is what the rest may answer, F the whole: what the rest answers, the whole answers
-pub record SoFar (F : Work → Told → Type 0) (s : Text) (ws₀ : Work) (p₀ : Writer) (G : Work → Told → Type 0) (ws : Work) (p : Writer) (t : ℕ) : Type 0 where
-  pub same : Same ws ws₀
-  pub further : p₀.at ≤ p.at
+pub record SoFar (F : Writer → Option ℕ → Type 0) (w₀ : Writer) (G : Writer → Option ℕ → Type 0) (w : Writer) (t : ℕ) : Type 0 where
+  pub source : w.s.now ≡ w₀.s.now
+  pub further : w₀.state.at ≤ w.state.at
   pub small : t < most_number
-  pub ready : Ready s ws p
-  pub whole : (ws' : Work) (r : Told) → G ws' r → F ws' r
+  pub ready : Ready w
+  pub whole : (w' : Writer) (r : Option ℕ) → G w' r → F w' r
 
-module _ {F : Work → Told → Type 0} {s : Text} where
-  pub nothing_yet : {ws : Work} {p : Writer} {t : ℕ} → t < most_number → Ready s ws p → SoFar F s ws p F ws p t
-  nothing_yet l w =
-      record { same = same_now; further = omega arith; small = l; ready = w; whole = λ ws' r x. x }
-
-  pub one_more : {G H : Work → Told → Type 0} {ws₀ ws ws₁ : Work} {p₀ p q : Writer} {t d : ℕ} → SoFar F s ws₀ p₀ G ws p t
-      → Same ws₁ ws → p.at ≤ q.at → d < most_number → Ready s ws₁ q → ((ws' : Work) (r : Told) → H ws' r → G ws' r)
-      → SoFar F s ws₀ p₀ H ws₁ q d
-  one_more w x l k h g =
+module _ {F : Writer → Option ℕ → Type 0} where
+  pub one_more : {G H : Writer → Option ℕ → Type 0} {w₀ w : Writer} (w₁ : Writer) {t d : ℕ} → SoFar F w₀ G w t
+      → w₁.s.now ≡ w.s.now → w.state.at ≤ w₁.state.at → d < most_number → Ready w₁ → ((w' : Writer) (r : Option ℕ) → H w' r → G w' r)
+      → SoFar F w₀ H w₁ d
+  one_more w₁ y z l k h g =
       record {
-        same = same_still x w.same;
-        further = omega (arith, l, w.further);
+        source = z ∙ y.source;
+        further = omega (arith, l, y.further);
         small = k;
         ready = h;
-        whole = λ ws' r z. w.whole ws' r (g ws' r z);
+        whole = λ w' r x. y.whole w' r (g w' r x);
       }

@@ -1,5 +1,5 @@
 -- The members that read nested names: what each may ask of the next, and what each answers. Assumes nothing.
-use Rattle.std.specs.Prelude.{Bool, true, false, not, ◌≡◌, ℕ, zero, suc, ◌+◌, ◌≤◌, ◌<◌, eqb, length, drop, get_or}
+use Rattle.std.specs.Prelude.{Bool, true, false, not, ◌≡◌, ℕ, zero, suc, ◌+◌, ◌≤◌, ◌<◌, eqb, length, drop, get_or, Option, Some, None}
 use mathlib.Core.List.{[], ◌∷◌}
 use Rattle.std.proofs.Math.Path.{refl, ap}
 use Rattle.std.proofs.Common.{sym, subst, ◌∙◌, arith}
@@ -11,12 +11,11 @@ use Rattle.normal_nodes.specs.Nodes.{Notes, Noter, Got, got, next, when, with, p
 use Rattle.normal_nodes.specs.Nodes.{note_at_parts, note_at_more, note_end_or, note_args, note_parts, note_more}
 use Rattle.grammar.specs.Laws.Places.{starts_byte}
 use Rattle.normal_nodes.specs.Laws.Numbered.{TellsNode, with_tells, number_in, parts_tell}
-use Rattle.normal_steps.specs.States.{moved_to}
 use Rattle.normal_steps.specs.Leads.{class}
-use Rattle.normal_steps.specs.Carries.{Work, out_to, ends_to, tables_to, Carries, Ready, Stretch, Spent, Refines, tells}
+use Rattle.normal_steps.specs.Carries.{Held, Ready, Stretch, Spare, Spent, Answers, tells}
 use Rattle.normal_steps.specs.Carries.{refuses, Reads, Fueled, Does, Copies, Closes, Tag, most_number, at_part, closed}
 use Rattle.normal_writer.specs.Cycle.{Leads}
-use Rattle.normal_steps.specs.Laws.Told.{Answered, answered, refused, by, within}
+use Rattle.normal_steps.specs.Laws.Told.{answered, refused, by, within}
 use Rattle.normal_steps.specs.Laws.Steps.{on_got, on_bad}
 use Rattle.normal_steps.specs.Laws.Moves.{first_byte, no_byte, byte_is, byte_not, holds_next}
 use Rattle.normal_steps.specs.Laws.Tests.{byte_next}
@@ -24,69 +23,77 @@ use Rattle.normal_steps.specs.Laws.Limits.{spent_less, spent_spent, spent_stands
 use Rattle.normal_steps.specs.Laws.Slices.{numbered}
 use Rattle.normal_steps.specs.Laws.Limits.{spent_nothing, spent_room}
 use Rattle.normal_writer.specs.Laws.FirstBytes.{parts_none, parts_some, more_some}
-use Rattle.normal_writer.specs.Laws.Types.{by_name, by_reference, Behind, FirstPart, args_from, Enclosed, closed_next, Enters}
-use Rattle.normal_writer.specs.Laws.Loops.{Same, SoFar, nothing_yet, one_more}
+use Rattle.normal_writer.specs.Laws.Types.{Here, here_byte, by_name, by_reference, Behind, FirstPart, args_at, args_from, args_closed, Enclosed, close_next, closed_next, Enters}
+use Rattle.normal_writer.specs.Laws.Loops.{Told, moved, SoFar, one_more}
 use Rattle.normal_steps.specs.declared.lead.Lead.TheVariants.{Digit, S}
 use Rattle.normal_steps.specs.declared.state.Writer.{Writer}
-use Rattle.normal_steps.specs.declared.state.Told.{Told}
-use Rattle.normal_steps.specs.declared.state.Told.TheVariants.{Number, Bad}
 
 -- ---------------------------------------------------------------- nested
 
-module _ {s : Text} {ws ws₂ : Work} {o₁ : Text} {p p₁ : Writer} {r₁ : Told}
-    (k : Copies s ws.out o₁ p p₁) (u : Fueled 1 5 p₁.out 0 (λ m. note_parts m p₁.out) s (out_to ws o₁) ws₂ p₁ r₁) where
-  nested_at : {σ : Notes} → Carries s ws p σ → (m : ℕ) → length s ≤ suc m + p.at → (c : ℕ) (t : Text) → σ.rest ≡ c ∷ t
-      → Refines s (Spent 2 5 p.out p) ws₂ r₁ (note_parts m (suc (length σ.out)) (put (c ∷ []) (go_to t σ)))
-  nested_at {σ} h m l c t e =
-      let x : suc (length σ.out) ≡ p₁.out = omega (arith, h.out_count, k.0) in
+-- N was written and taken
+abbrev behind_byte : Writer → ℕ → Text → ℕ → Notes → Got ℕ
+behind_byte w c t m σ = note_parts m (suc (length σ.out)) (put (c ∷ []) (go_to t σ))
+
+module _ (w w₁ w₂ : Writer) (z : w₁.s.now ≡ w.s.now) (k : Copies w w₁) where
+  nested_at : {r : Option ℕ} → Fueled 1 5 w₁.state.out 0 (λ m. note_parts m w₁.state.out) w₁ w₂ r
+      → {σ : Notes} → Held w σ → (m : ℕ) → length w.s.now ≤ suc m + w.state.at → (c : ℕ) (t : Text) → σ.rest ≡ c ∷ t
+      → Answers (Spent 2 5 w.state.out w.state) w₂ r (behind_byte w c t m σ)
+  nested_at u {σ} h m l c t e =
+      let x : suc (length σ.out) ≡ w₁.state.out = omega (arith, h.out_count, k.0) in
       by (ap (λ (from : ℕ). note_parts m from (put (c ∷ []) (go_to t σ))) x)
-      (within (λ x y. spent_stands (omega (arith, k.0)) (passed_spent k.0 y)) (u _ (k.1 ws σ h c t e) m (omega (arith, k.0))))
+      (within (λ x y. spent_stands (omega (arith, k.0)) (passed_spent k.0 y)) (u _ (k.1 σ h c t e) m (omega (arith, k.0, ap length z))))
 
-  pub nested_refused : r₁ ≡ Bad → (c : ℕ) → Leads lead_N c s ws ws₂ p Bad
-  nested_refused e c σ h m l t i = by (on_bad _ (refused e (nested_at h m l c t i))) refuses
+  pub nested_refused : Fueled 1 5 w₁.state.out 0 (λ m. note_parts m w₁.state.out) w₁ w₂ None → (c : ℕ) → Leads lead_N c w w₂ None
+  nested_refused u c σ h m l t i = by (on_bad _ (refused (nested_at u h m l c t i))) refuses
 
-  module _ {p₂ : Writer} {d : ℕ} (e : r₁ ≡ Number p₂ d) where
-    pub nested_told : p.at < length s → (w : Ready s ws p)
-        → Answered s (Spent 2 5 p.out p) ws₂ p₂ d (note_parts (length s) (suc (length w.0.out)) (put (get_or s p.at 0 ∷ []) (go_to (drop (p.at + 1) s) w.0)))
-    nested_told l (σ, h) = answered e (nested_at h (length s) (omega arith) _ _ (first_byte h l))
+  module _ {d : ℕ} (u : Fueled 1 5 w₁.state.out 0 (λ m. note_parts m w₁.state.out) w₁ w₂ (Some d)) where
+    nested_told : w.state.at < length w.s.now → (y : Ready w)
+        → Told (Spent 2 5 w.state.out w.state) w₂ d (behind_byte w (get_or w.s.now w.state.at 0) (drop (w.state.at + 1) w.s.now) (length w.s.now) y.0)
+    nested_told l (σ, h) = answered (nested_at u h (length w.s.now) (omega arith) _ _ (first_byte h l))
 
-    pub nested_closed : {o₃ : Text} {p₃ : Writer} → p.at < length s → Ready s ws p → Closes ws₂.out o₃ p₂ p₃ → Enclosed s (out_to ws₂ o₃) p.out p p₃ d
-    nested_closed l (σ, h) v =
-        let w = nested_told l (σ, h) in
-        closed_next h w (parts_tell (length s) (suc (length σ.out)) (put (get_or s p.at 0 ∷ []) (go_to (drop (p.at + 1) s) σ))) (omega arith)
-        (omega (arith, h.short, w.limits.at)) v
+    pub nested_next : w.state.at < length w.s.now → Ready w → (Spare 1 w₂.state) × Ready w₂
+    nested_next l y = close_next w w₂ y.1 (nested_told l y)
 
-    pub nested_answer : {o₃ o₄ t₄ : Text} {p₃ p₄ : Writer} → Closes ws₂.out o₃ p₂ p₃
-        → ((s : Text) (ws : Work) → Does 0 1 5 p.out (entered_nested d p.out) s (tables_to (ends_to (out_to ws o₃) ws₂.ends) ws₂.tables)
-        (tables_to (ends_to (out_to ws o₄) ws₂.ends) t₄) p₃ p₄)
-        → (c : ℕ) → Leads lead_N c s ws (tables_to (out_to ws₂ o₄) t₄) p (Number p₄ d)
-    nested_answer v w c σ h m l t i =
-        let a = answered e (nested_at h m l c t i) in
-        let b = v s ws₂ a.state a.holds in
-        let z = w s ws₂ (closed a.state) b.holds in
+    pub nested_closed : (w₃ : Writer) → w.state.at < length w.s.now → Ready w → Closes w₂ w₃ → Enclosed w.state.out w w₃ d
+    nested_closed w₃ l (σ, h) v =
+        let a = nested_told l (σ, h) in
+        closed_next w w₂ h a w₃
+        (parts_tell (length w.s.now) (suc (length σ.out)) (put (get_or w.s.now w.state.at 0 ∷ []) (go_to (drop (w.state.at + 1) w.s.now) σ)))
+        (omega arith) (omega (arith, h.short, a.limits.at)) v
+
+    pub nested_answer : (w₃ w₄ : Writer) → Closes w₂ w₃ → Does 0 1 5 w.state.out (entered_nested d w.state.out) w₃ w₄
+        → (c : ℕ) → Leads lead_N c w w₄ (Some d)
+    nested_answer w₃ w₄ v x c σ h m l t i =
+        let a = answered (nested_at u h m l c t i) in
+        let b = v a.state a.holds in
+        let y = x (closed a.state) b.holds in
         by (on_got _ a.is ∙ ap (λ (from : ℕ). got d (entered_nested d from (closed a.state))) (sym h.out_count))
-        (tells z.holds (spent_closed a.limits b.limits z.limits (omega (arith, h.short, a.limits.at))) a.small)
+        (tells y.holds (spent_closed a.limits b.limits y.limits (omega (arith, h.short, a.limits.at))) a.small)
 
 -- ---------------------------------------------------------------- parts
 
-abbrev pub PartsBy : Lead → Text → Work → Work → Writer → Told → Type 0
-PartsBy l s ws ws' p r =
-    (σ : Notes) → Carries s ws p σ → (m : ℕ) → length s ≤ suc m + p.at → (c : ℕ) (t : Text) → σ.rest ≡ c ∷ t
-    → Refines s (Spent 1 5 p.out p) ws' r (note_at_parts l p.out t σ (λ u lone τ. note_more m u lone p.out τ))
+abbrev pub PartsBy : Lead → Writer → Writer → Option ℕ → Type 0
+PartsBy l w w' r =
+    (σ : Notes) → Held w σ → (m : ℕ) → length w.s.now ≤ suc m + w.state.at → (c : ℕ) (t : Text) → σ.rest ≡ c ∷ t
+    → Answers (Spent 1 5 w.state.out w.state) w' r (note_at_parts l w.state.out t σ (λ u lone τ. note_more m u lone w.state.out τ))
 
-module _ {s : Text} {ws : Work} {p : Writer} where
-  pub parts_end : length s ≤ p.at → Fueled 1 5 p.out 0 (λ m. note_parts m p.out) s ws ws p Bad
-  parts_end l σ h m f = by (parts_none σ m p.out (no_byte h l)) refuses
+abbrev pub PartsFrom : Writer → Writer → Option ℕ → Type 0
+PartsFrom w = Fueled 1 5 w.state.out 0 (λ m. note_parts m w.state.out) w
 
-  pub parts_by : {ws' : Work} {r : Told} {l : Lead} → p.at < length s → lead (get_or s p.at 0) ≡ l → PartsBy l s ws ws' p r
-      → Fueled 1 5 p.out 0 (λ m. note_parts m p.out) s ws ws' p r
-  parts_by i e u σ h zero f = absurd (omega arith)
-  parts_by {l = l} i e u σ h (suc m) f =
-      by (parts_some σ m (first_byte h i) p.out ∙ ap (λ (x : Lead). note_at_parts x p.out (drop (p.at + 1) s) σ (λ v lone τ. note_more m v lone p.out τ)) e)
-      (u σ h m (omega arith) _ (drop (p.at + 1) s) (first_byte h i))
+module _ (w : Writer) where
+  pub parts_end : length w.s.now ≤ w.state.at → PartsFrom w w None
+  parts_end l σ h m f = by (parts_none σ m w.state.out (no_byte h l)) refuses
+
+  pub parts_by : (w' : Writer) {c : ℕ} {r : Option ℕ} {l : Lead} → Here w c → lead c ≡ l → PartsBy l w w' r → PartsFrom w w' r
+  parts_by w' b e u σ h zero f = absurd (omega (arith, b.0))
+  parts_by w' b e u σ h (suc m) f =
+      let i = here_byte w h b in
+      by (parts_some σ m i w.state.out
+      ∙ ap (λ (x : Lead). note_at_parts x w.state.out (drop (w.state.at + 1) w.s.now) σ (λ v lone τ. note_more m v lone w.state.out τ)) e)
+      (u σ h m (omega arith) _ (drop (w.state.at + 1) w.s.now) i)
 
   -- another byte begins no parts
-  pub parts_other : (l : Lead) → (class l ≡ Digit → ⊥) → (class l ≡ S → ⊥) → PartsBy l s ws ws p Bad
+  pub parts_other : (l : Lead) → (class l ≡ Digit → ⊥) → (class l ≡ S → ⊥) → PartsBy l w w None
   parts_other (lead_letter l) i j σ h m f c t e = refuses
   parts_other (lead_wrap q) i j σ h m f c t e = refuses
   parts_other lead_digit i j σ h m f c t e = absurd (i refl)
@@ -95,42 +102,41 @@ module _ {s : Text} {ws : Work} {p : Writer} where
   parts_other lead_L i j σ h m f c t e = refuses
   parts_other lead_none i j σ h m f c t e = refuses
 
-  module _ {ws₁ : Work} {r₁ : Told} (u : FirstPart by_name s ws ws₁ p r₁) where
-    pub parts_unnamed : r₁ ≡ Bad → PartsBy lead_digit s ws ws₁ p Bad
-    parts_unnamed e σ h m l c t i = by (on_bad _ (refused e (u σ h c t i))) refuses
+module _ (w w₁ : Writer) where
+  pub parts_unnamed : FirstPart by_name w w₁ None → PartsBy lead_digit w w₁ None
+  parts_unnamed u σ h m l c t i = by (on_bad _ (refused (u σ h c t i))) refuses
 
-    pub parts_named : {ws₂ : Work} {q : Writer} {d : ℕ} {r : Told} → r₁ ≡ Number q d
-        → Fueled 1 5 p.out 1 (λ m. note_more m d true p.out) s ws₁ ws₂ q r → PartsBy lead_digit s ws ws₂ p r
-    parts_named e v σ h m l c t i =
-        let w = answered e (u σ h c t i) in
-        by (on_got (λ d τ. note_more m d true p.out τ) w.is)
-        (within (λ x y. spent_less (omega arith) (spent_spent w.limits.1 y)) (v w.state w.holds m (omega (arith, w.limits.0))))
+  pub parts_unreferred : FirstPart by_reference w w₁ None → PartsBy lead_S w w₁ None
+  parts_unreferred u σ h m l c t i = by (on_bad _ (refused (u σ h c t i))) refuses
 
-  module _ {ws₁ : Work} {r₁ : Told} (u : FirstPart by_reference s ws ws₁ p r₁) where
-    pub parts_unreferred : r₁ ≡ Bad → PartsBy lead_S s ws ws₁ p Bad
-    parts_unreferred e σ h m l c t i = by (on_bad _ (refused e (u σ h c t i))) refuses
+  module _ (w₂ : Writer) (z : w₁.s.now ≡ w.s.now) {d : ℕ} {r : Option ℕ} where
+    pub parts_named : FirstPart by_name w w₁ (Some d) → Fueled 1 5 w.state.out 1 (λ m. note_more m d true w.state.out) w₁ w₂ r → PartsBy lead_digit w w₂ r
+    parts_named u v σ h m l c t i =
+        let a = answered (u σ h c t i) in
+        by (on_got (λ d τ. note_more m d true w.state.out τ) a.is)
+        (within (λ x y. spent_less (omega arith) (spent_spent a.limits.1 y)) (v a.state a.holds m (omega (arith, a.limits.0, ap length z))))
 
-    module _ {q : Writer} {d : ℕ} (e : r₁ ≡ Number q d) {tag : ℕ} (g : Tag ws₁.ends q d tag) where
-      referred_at : {σ : Notes} → Carries s ws p σ → (m c : ℕ) (t : Text) → σ.rest ≡ c ∷ t
-          → (w : Answered s (Behind p) ws₁ q d (at_reference p.out (go_to t σ)))
-          × (note_at_parts lead_S p.out t σ (λ u lone τ. note_more m u lone p.out τ) ≡ when (a_class tag) (note_more m d (eqb tag 48) p.out w.state))
-      referred_at {σ} h m c t i =
-          let w = answered e (u σ h c t i) in (
-            w,
-            on_got (λ t τ. when (a_class (tag_of τ.nodes t)) (note_more m t (eqb (tag_of τ.nodes t) 48) p.out τ)) w.is
-                ∙ ap (λ (x : ℕ). when (a_class x) (note_more m d (eqb x 48) p.out w.state)) (sym (g s ws₁ w.state w.holds)),
-          )
+  module _ {d : ℕ} (u : FirstPart by_reference w w₁ (Some d)) {tag : ℕ} (g : Tag w₁ d tag) where
+    referred_at : {σ : Notes} → Held w σ → (m c : ℕ) (t : Text) → σ.rest ≡ c ∷ t
+        → (a : Told (Behind w.state) w₁ d (at_reference w.state.out (go_to t σ)))
+        × (note_at_parts lead_S w.state.out t σ (λ u lone τ. note_more m u lone w.state.out τ) ≡ when (a_class tag) (note_more m d (eqb tag 48) w.state.out a.state))
+    referred_at {σ} h m c t i =
+        let a = answered (u σ h c t i) in (
+          a,
+          on_got (λ t τ. when (a_class (tag_of τ.nodes t)) (note_more m t (eqb (tag_of τ.nodes t) 48) w.state.out τ)) a.is
+              ∙ ap (λ (x : ℕ). when (a_class x) (note_more m d (eqb x 48) w.state.out a.state)) (sym (g a.state a.holds)),
+        )
 
-      pub parts_barred : a_class tag ≡ false → PartsBy lead_S s ws ws₁ p Bad
-      parts_barred z σ h m l c t i =
-          let (w, f) = referred_at h m c t i in by (f ∙ ap (λ (b : Bool). when b (note_more m d (eqb tag 48) p.out w.state)) z) refuses
+    pub parts_barred : a_class tag ≡ false → PartsBy lead_S w w₁ None
+    parts_barred e σ h m l c t i =
+        let (a, f) = referred_at h m c t i in by (f ∙ ap (λ (b : Bool). when b (note_more m d (eqb tag 48) w.state.out a.state)) e) refuses
 
-      pub parts_referred : {ws₂ : Work} {r : Told} → a_class tag ≡ true
-          → Fueled 1 5 p.out 1 (λ m. note_more m d (eqb tag 48) p.out) s ws₁ ws₂ q r → PartsBy lead_S s ws ws₂ p r
-      parts_referred z v σ h m l c t i =
-          let (w, f) = referred_at h m c t i in
-          by (f ∙ ap (λ (b : Bool). when b (note_more m d (eqb tag 48) p.out w.state)) z)
-          (within (λ x y. spent_less (omega arith) (spent_spent w.limits.1 y)) (v w.state w.holds m (omega (arith, w.limits.0))))
+    pub parts_referred : (w₂ : Writer) {r : Option ℕ} → w₁.s.now ≡ w.s.now → a_class tag ≡ true
+        → Fueled 1 5 w.state.out 1 (λ m. note_more m d (eqb tag 48) w.state.out) w₁ w₂ r → PartsBy lead_S w w₂ r
+    parts_referred w₂ z e v σ h m l c t i =
+        let (a, f) = referred_at h m c t i in
+        by (f ∙ ap (λ (b : Bool). when b (note_more m d (eqb tag 48) w.state.out a.state)) e)
+        (within (λ x y. spent_less (omega arith) (spent_spent a.limits.1 y)) (v a.state a.holds m (omega (arith, a.limits.0, ap length z))))
 
 -- ---------------------------------------------------------------- more
 
@@ -143,11 +149,26 @@ unfolding name read_name cut run past number name_ok if◌then◌otherwise◌
 name_none = refl
 
 -- the end of a nested name, or more of its parts
-abbrev pub Ends : ℕ → Bool → ℕ → Text → Work → Work → Writer → Told → Type 0
+abbrev pub Ends : ℕ → Bool → ℕ → Writer → Writer → Option ℕ → Type 0
 Ends u lone from = Fueled 0 5 from 1 (λ m. note_end_or from (λ t l τ. note_more m t l from τ) u lone)
+
+abbrev pub MoreFrom : ℕ → Bool → ℕ → Writer → Writer → Option ℕ → Type 0
+MoreFrom t lone from = Fueled 1 5 from 1 (λ m. note_more m t lone from)
 
 abbrev ending : ℕ → ℕ → Bool → ℕ → Noter ℕ
 ending m from lone u τ = note_end_or from (λ v l ρ. note_more m v l from ρ) u lone τ
+
+-- a part or arguments were read, and the end or more of the parts is next
+pub record Onward (from t : ℕ) (lone : Bool) (w w' : Writer) (d : ℕ) (lone' : Bool) : Type 0 where
+  pub source : w'.s.now ≡ w.s.now
+  pub enclosed : Enclosed from w w' d
+  pub rest : (w'' : Writer) (r : Option ℕ) → Ends d lone' from w' w'' r → MoreFrom t lone from w w'' r
+
+-- by other names
+pub onward_as : {from t d d' : ℕ} {lone l l' : Bool} {w w₁ w' : Writer} → Onward from t lone w w₁ d l → w' ≡ w₁ → d' ≡ d → l' ≡ l → Onward from t lone w w' d' l'
+onward_as {from} {t} {d} {d'} {lone} {l} {l'} {w} {w₁} {w'} a e f g =
+    subst (λ (x : Writer). Onward from t lone w x d' l') (sym e)
+    (subst (λ (x : ℕ). Onward from t lone w w₁ x l') (sym f) (subst (λ (x : Bool). Onward from t lone w w₁ d x) (sym g) a))
 
 module _ (m t : ℕ) (lone : Bool) (from : ℕ) (σ : Notes) where
   part_by : (r : Text) → σ.rest ≡ r → starts r (73 ∷ []) ≡ false → note_more (suc m) t lone from σ ≡ next (at_part t σ) (ending m from false)
@@ -158,109 +179,104 @@ module _ (m t : ℕ) (lone : Bool) (from : ℕ) (σ : Notes) where
       ∙ ap (λ (b : Bool). note_at_more b t lone from r σ (λ v τ. note_args m v τ) (λ v l τ. note_more m v l from τ)) (sym (starts_byte c 73 r) ∙ i)
       ∙ with_next (name σ.rest) _ (ending m from false)
 
-module _ {s : Text} {ws : Work} {p : Writer} (t : ℕ) (lone : Bool) (from : ℕ) where
-  module _ {ws₁ : Work} {r₁ : Told} (i : starts (drop p.at s) (73 ∷ []) ≡ false) (u : Reads 1 p.out (at_part t) s ws ws₁ p r₁) where
-    pub part_refused : r₁ ≡ Bad → Fueled 1 5 from 1 (λ m. note_more m t lone from) s ws ws₁ p Bad
-    part_refused e σ h zero l = absurd (omega (arith, h.place))
-    part_refused e σ h (suc m) l = by (part_by m t lone from σ _ h.rest i ∙ on_bad (ending m from false) (refused e (u σ h))) refuses
+module _ (w : Writer) (t : ℕ) (lone : Bool) (from : ℕ) where
+  module _ (w₁ : Writer) (i : starts (drop w.state.at w.s.now) (73 ∷ []) ≡ false) where
+    pub part_refused : Reads 1 w.state.out (at_part t) w w₁ None → MoreFrom t lone from w w₁ None
+    part_refused u σ h zero l = absurd (omega (arith, h.place))
+    part_refused u σ h (suc m) l = by (part_by m t lone from σ _ h.rest i ∙ on_bad (ending m from false) (refused (u σ h))) refuses
 
-    pub part_next : {q : Writer} {d : ℕ} → r₁ ≡ Number q d → Stretch from p → Ready s ws p → Enclosed s ws₁ from p q d
-    part_next e b (σ, h) =
-        let w = answered e (u σ h) in
-        record {
-          at = w.limits.0;
-          small = w.small;
-          numbered = numbered w.holds (subst TellsNode w.is (with_tells (name σ.rest) _ (λ n r. number_in (sub_node t n) σ.nodes)));
-          stretch = record {
-            stands = omega (arith, b.stands, w.limits.1.stands);
-            fits = omega (arith, b.fits, w.limits.0);
-            spare = w.limits.1.out;
-          };
-          room = spent_room h w.limits.1 (omega arith) (omega arith);
-          ready = (w.state, w.holds);
-        }
+    module _ (z : w₁.s.now ≡ w.s.now) {d : ℕ} (u : Reads 1 w.state.out (at_part t) w w₁ (Some d)) where
+      part_rest : (w₂ : Writer) (r : Option ℕ) → Ends d false from w₁ w₂ r → MoreFrom t lone from w w₂ r
+      part_rest w₂ r v σ h zero l = absurd (omega (arith, h.place))
+      part_rest w₂ r v σ h (suc m) l =
+          let a = answered (u σ h) in
+          by (part_by m t lone from σ _ h.rest i ∙ on_got (ending m from false) a.is)
+          (within (λ x y. spent_spent a.limits.1 y) (v a.state a.holds m (omega (arith, a.limits.0, ap length z))))
 
-    pub part_answer : {ws₂ : Work} {q : Writer} {d : ℕ} {r : Told} → r₁ ≡ Number q d → Ends d false from s ws₁ ws₂ q r
-        → Fueled 1 5 from 1 (λ m. note_more m t lone from) s ws ws₂ p r
-    part_answer e v σ h zero l = absurd (omega (arith, h.place))
-    part_answer e v σ h (suc m) l =
-        let w = answered e (u σ h) in
-        by (part_by m t lone from σ _ h.rest i ∙ on_got (ending m from false) w.is)
-        (within (λ x y. spent_spent w.limits.1 y) (v w.state w.holds m (omega (arith, w.limits.0))))
+      pub part_next : Stretch from w.state → Ready w → Onward from t lone w w₁ d false
+      part_next b (σ, h) =
+          let a = answered (u σ h) in
+          record {
+            source = z;
+            enclosed = record {
+              at = a.limits.0;
+              small = a.small;
+              numbered = numbered a.holds (subst TellsNode a.is (with_tells (name σ.rest) _ (λ n r. number_in (sub_node t n) σ.nodes)));
+              stretch = record {
+                stands = omega (arith, b.stands, a.limits.1.stands);
+                fits = omega (arith, b.fits, a.limits.0);
+                spare = a.limits.1.out;
+              };
+              room = spent_room h a.limits.1 (omega arith) (omega arith);
+              ready = (a.state, a.holds);
+            };
+            rest = part_rest;
+          }
 
-  module _ (i : starts (drop p.at s) (73 ∷ []) ≡ true) {tag : ℕ} (g : Tag ws.ends p t tag) where
-    angled_by : {σ : Notes} (m : ℕ) → Carries s ws p σ → {b : Bool} → a_bare tag ≡ b
-        → note_more (suc m) t lone from σ ≡ when b (next (note_args m t (put (73 ∷ []) (go_to (drop (p.at + 1) s) σ))) (λ u τ. ending m from lone u (closed τ)))
+  module _ (i : starts (drop w.state.at w.s.now) (73 ∷ []) ≡ true) {tag : ℕ} (g : Tag w t tag) where
+    angled_by : {σ : Notes} (m : ℕ) → Held w σ → {b : Bool} → a_bare tag ≡ b
+        → note_more (suc m) t lone from σ ≡ when b (next (args_at t w m σ) (λ u τ. ending m from lone u (closed τ)))
     angled_by {σ} m h e =
-        let found = next (note_args m t (put (73 ∷ []) (go_to (drop (p.at + 1) s) σ))) (λ u τ. ending m from lone u (closed τ)) in
-        more_some σ m (byte_is h 73 i) t lone from ∙ ap (λ (x : ℕ). when (a_bare x) found) (sym (g s ws σ h)) ∙ ap (λ (b : Bool). when b found) e
+        let found = next (args_at t w m σ) (λ u τ. ending m from lone u (closed τ)) in
+        more_some σ m (byte_is h 73 i) t lone from ∙ ap (λ (x : ℕ). when (a_bare x) found) (sym (g σ h)) ∙ ap (λ (b : Bool). when b found) e
 
-    pub angled_barred : a_bare tag ≡ false → Fueled 1 5 from 1 (λ m. note_more m t lone from) s ws ws p Bad
-    angled_barred z σ h zero l = absurd (omega (arith, h.place))
-    angled_barred z σ h (suc m) l = by (angled_by m h z) refuses
+    pub angled_barred : a_bare tag ≡ false → MoreFrom t lone from w w None
+    angled_barred e σ h zero l = absurd (omega (arith, h.place))
+    angled_barred e σ h (suc m) l = by (angled_by m h e) refuses
 
-    module _ (z : a_bare tag ≡ true) {o₁ : Text} {ws₂ : Work} {p₁ : Writer} {r₁ : Told}
-        (k : Copies s ws.out o₁ p p₁) (u : Fueled 0 5 p₁.out 1 (λ m. note_args m t) s (out_to ws o₁) ws₂ p₁ r₁) where
-      pub angled_refused : r₁ ≡ Bad → Fueled 1 5 from 1 (λ m. note_more m t lone from) s ws ws₂ p Bad
-      angled_refused e σ h zero l = absurd (omega (arith, h.place))
-      angled_refused e σ h (suc m) l = by (angled_by m h z ∙ on_bad _ (refused e (args_from t i k u h m (omega arith)))) refuses
+    module _ (e : a_bare tag ≡ true) (w₁ w₂ : Writer) (z : w₁.s.now ≡ w.s.now) (k : Copies w w₁) where
+      pub angled_refused : Fueled 0 5 w₁.state.out 1 (λ m. note_args m t) w₁ w₂ None → MoreFrom t lone from w w₂ None
+      angled_refused u σ h zero l = absurd (omega (arith, h.place))
+      angled_refused u σ h (suc m) l = by (angled_by m h e ∙ on_bad _ (refused (args_from w w₁ w₂ t i z k u h m (omega arith)))) refuses
 
-      pub angled_answer : {p₂ p₃ : Writer} {d : ℕ} {o₃ : Text} {ws₄ : Work} {r : Told} → r₁ ≡ Number p₂ d
-          → Closes ws₂.out o₃ p₂ p₃ → Ends d lone from s (out_to ws₂ o₃) ws₄ p₃ r
-          → Fueled 1 5 from 1 (λ m. note_more m t lone from) s ws ws₄ p r
-      angled_answer e v w σ h zero l = absurd (omega (arith, h.place))
-      angled_answer e v w σ h (suc m) l =
-          let a = answered e (args_from t i k u h m (omega arith)) in
-          let b = v s ws₂ a.state a.holds in
-          by (angled_by m h z ∙ on_got (λ u τ. ending m from lone u (closed τ)) a.is)
-          (within (λ x y. closed_spent k.0 a.limits b.limits y) (w (closed a.state) b.holds m (omega (arith, k.0, a.limits, b.limits))))
+      module _ {d : ℕ} (u : Fueled 0 5 w₁.state.out 1 (λ m. note_args m t) w₁ w₂ (Some d)) (w₃ : Writer) (v : Closes w₂ w₃) (y : w₃.s.now ≡ w.s.now) where
+        angled_rest : (w₄ : Writer) (r : Option ℕ) → Ends d lone from w₃ w₄ r → MoreFrom t lone from w w₄ r
+        angled_rest w₄ r x σ h zero l = absurd (omega (arith, h.place))
+        angled_rest w₄ r x σ h (suc m) l =
+            let a = answered (args_from w w₁ w₂ t i z k u h m (omega arith)) in
+            let b = v a.state a.holds in
+            by (angled_by m h e ∙ on_got (λ u τ. ending m from lone u (closed τ)) a.is)
+            (within (λ x y. closed_spent k.0 a.limits b.limits y) (x (closed a.state) b.holds m (omega (arith, k.0, a.limits, b.limits, ap length y))))
+
+        pub angled_next : Stretch from w.state → Ready w → Onward from t lone w w₃ d lone
+        angled_next b h = record { source = y; enclosed = args_closed w w₁ w₂ t i z k u w₃ h b v; rest = angled_rest }
 
 -- ---------------------------------------------------------------- the end of a nested name, or more of its parts
 
-module _ {s : Text} {ws : Work} {p : Writer} (d : ℕ) (lone : Bool) (from : ℕ) where
-  module _ (i : starts (drop p.at s) (69 ∷ []) ≡ true) where
-    end_by : {σ : Notes} (m : ℕ) → Carries s ws p σ → {b : Bool} → lone ≡ b → ending m from lone d σ ≡ when (not b) (got d (go_to (drop (p.at + 1) s) σ))
-    end_by {σ} m h e = byte_next _ _ (byte_is h 69 i) ∙ ap (λ (b : Bool). when (not b) (got d (go_to (drop (p.at + 1) s) σ))) e
+module _ (w : Writer) (d : ℕ) (lone : Bool) (from : ℕ) where
+  module _ (i : starts (drop w.state.at w.s.now) (69 ∷ []) ≡ true) where
+    end_by : {σ : Notes} (m : ℕ) → Held w σ → {b : Bool} → lone ≡ b → ending m from lone d σ ≡ when (not b) (got d (go_to (drop (w.state.at + 1) w.s.now) σ))
+    end_by {σ} m h e = byte_next _ _ (byte_is h 69 i) ∙ ap (λ (b : Bool). when (not b) (got d (go_to (drop (w.state.at + 1) w.s.now) σ))) e
 
-    pub end_lone : lone ≡ true → Ends d lone from s ws ws p Bad
+    pub end_lone : lone ≡ true → Ends d lone from w w None
     end_lone e σ h m l = by (end_by m h e) refuses
 
-    pub end_answer : {q : Writer} → lone ≡ false → q ≡ moved_to p (p.at + 1) → d < most_number → Stretch from p → Ends d lone from s ws ws p (Number q d)
-    end_answer e g y b σ h m l = by (end_by m h e) (tells (holds_next h (byte_is h 69 i) g) (spent_moved g (spent_nothing b)) y)
+    pub end_answer : lone ≡ false → d < most_number → Stretch from w.state → Ends d lone from w (moved w) (Some d)
+    end_answer e y b σ h m l = by (end_by m h e) (tells (holds_next h (byte_is h 69 i)) (spent_moved refl (spent_nothing b)) y)
 
-  pub end_more : {o₁ t₁ : Text} {ws₂ : Work} {q : Writer} {r : Told} → starts (drop p.at s) (69 ∷ []) ≡ false
-      → Enters d from ws.out ws.tables o₁ t₁ p q → Fueled 1 5 from 1 (λ m. note_more m d lone from) s (tables_to (out_to ws o₁) t₁) ws₂ q r
-      → Ends d lone from s ws ws₂ p r
-  end_more i v u σ h m l =
-      let w = v s ws σ h in
-      by (byte_not h 69 _ _ i) (within (λ x y. took_spent w.limits y (omega arith) (omega arith)) (u (entered d from σ) w.holds m (omega (arith, w.limits))))
+  pub end_more : (w₁ w₂ : Writer) {r : Option ℕ} → starts (drop w.state.at w.s.now) (69 ∷ []) ≡ false → w₁.s.now ≡ w.s.now
+      → Enters d from w w₁ → MoreFrom d lone from w₁ w₂ r → Ends d lone from w w₂ r
+  end_more w₁ w₂ i z v u σ h m l =
+      let a = v σ h in
+      by (byte_not h 69 _ _ i)
+      (within (λ x y. took_spent a.limits y (omega arith) (omega arith)) (u (entered d from σ) a.holds m (omega (arith, a.limits, ap length z))))
 
 -- ---------------------------------------------------------------- the loop of `more`
 
-abbrev pub MoreFrom : ℕ → Bool → ℕ → Text → Work → Writer → Work → Told → Type 0
-MoreFrom t lone from s ws p ws' r = Fueled 1 5 from 1 (λ m. note_more m t lone from) s ws ws' p r
+abbrev pub MoreSoFar : ℕ → Writer → ℕ → Bool → Writer → ℕ → Bool → Type 0
+MoreSoFar from w₀ t₀ lone₀ w t lone = (Stretch from w.state) × SoFar (MoreFrom t₀ lone₀ from w₀) w₀ (MoreFrom t lone from w) w t
 
-abbrev pub MoreSoFar : Text → ℕ → Work → Writer → ℕ → Bool → Work → Writer → ℕ → Bool → Type 0
-MoreSoFar s from ws₀ p₀ t₀ lone₀ ws p t lone =
-    (Stretch from p) × SoFar (MoreFrom t₀ lone₀ from s ws₀ p₀) s ws₀ p₀ (MoreFrom t lone from s ws p) ws p t
-
-pub more_start : {s : Text} {ws : Work} {p : Writer} {t from : ℕ} (lone : Bool) → t < most_number → Stretch from p → Ready s ws p → MoreSoFar s from ws p t lone ws p t lone
-more_start lone l b w = (b, nothing_yet l w)
-
--- a part or arguments, no E behind them, and what was read enters the table
-module _ {s : Text} {ws₁ : Work} {o₂ t₂ : Text} {from d : ℕ} {p q z : Writer} (a : Enclosed s ws₁ from p q d) (v : Enters d from ws₁.out ws₁.tables o₂ t₂ q z) where
-  abbrev ws₂ : Work
-  ws₂ = tables_to (out_to ws₁ o₂) t₂
-
-  pub more_behind : (p.at + 1 ≤ z.at) × (z.at ≤ length s)
+-- no E is behind what was read, and it enters the table
+module _ {from t d : ℕ} {lone lone' : Bool} {w w₁ : Writer} (a : Onward from t lone w w₁ d lone') (w₂ : Writer) (v : Enters d from w₁ w₂) (z : w₂.s.now ≡ w₁.s.now) where
+  pub more_behind : (w.state.at + 1 ≤ w₂.state.at) × (w₂.state.at ≤ length w₂.s.now)
   more_behind =
-      let b = v s ws₁ a.ready.0 a.ready.1 in (omega (arith, a.at, b.limits.at), b.holds.place)
+      let b = v a.enclosed.ready.0 a.enclosed.ready.1 in (omega (arith, a.enclosed.at, b.limits.at), b.holds.place)
 
-  pub more_again : {F : Work → Told → Type 0} {ws₀ ws : Work} {p₀ : Writer} {t : ℕ} (lone lone' : Bool) → starts (drop q.at s) (69 ∷ []) ≡ false
-      → Same ws₂ ws
-      → ((ws' : Work) (r : Told) → Ends d lone' from s ws₁ ws' q r → MoreFrom t lone from s ws p ws' r)
-      → SoFar F s ws₀ p₀ (MoreFrom t lone from s ws p) ws p t
-      → (Stretch from z) × SoFar F s ws₀ p₀ (MoreFrom d lone' from s ws₂ z) ws₂ z d
-  more_again lone lone' j x g w =
-      let b = v s ws₁ a.ready.0 a.ready.1 in
-      (stretch_after a.stretch b.limits (omega arith), one_more w x (omega (arith, more_behind)) a.small (_, b.holds) (λ ws' r k. g ws' r (end_more d lone' from j v k)))
+  pub more_again : starts (drop w₁.state.at w₁.s.now) (69 ∷ []) ≡ false → {F : Writer → Option ℕ → Type 0} {w₀ : Writer}
+      → SoFar F w₀ (MoreFrom t lone from w) w t → (Stretch from w₂.state) × SoFar F w₀ (MoreFrom d lone' from w₂) w₂ d
+  more_again j y =
+      let b = v a.enclosed.ready.0 a.enclosed.ready.1 in (
+        stretch_after a.enclosed.stretch b.limits (omega arith),
+        one_more w₂ y (z ∙ a.source) (omega (arith, more_behind)) a.enclosed.small (_, b.holds)
+            (λ w' r k. a.rest w' r (end_more w₁ d lone' from w₂ w' j z v k)),
+      )

@@ -1,465 +1,380 @@
-use mathlib.Core.Path.{sym, ◌∙◌, refl}
+use mathlib.Core.Path.{sym, ap, ◌∙◌, refl}
 use native.Mathlib.Omega.{arith}
-use Rattle.normal_writer.specs.Laws.Loops.{nothing_yet}
-use Rattle.normal_writer.specs.Laws.Types.{arg_refused, arg_next, count_refused, counted_next, args_end, args_again, args_told, args_closed, close_next, by_name, first_named, first_stretch, first_next, class_refused, class_answer, by_reference, first_referred, referred_ready, type_end, type_by, letter_answer, literal_answer, none_answer, without_args, args_barred, args_refused, args_answer, wrap_refused, wrap_next, wrap_answer}
-use mathlib.Core.Bool.{false}
+use Rattle.std.specs.Prelude.{ℕ, length}
 use borrow.Author.Tests.{eq-eqb, ne_eqb}
 use Rattle.grammar.specs.Laws.Places.{starts_inside}
-use Rattle.normal_steps.specs.Laws.Moves.{copied_ready, ready_out, ready_ends, ready_both, ready_three, moved_ready}
-use Rattle.normal_writer.specs.Laws.Parts.{part_refused, part_next, part_answer, angled_barred, angled_refused, angled_answer, end_lone, end_answer, more_start, more_behind, more_again, nested_refused, nested_told, nested_closed, nested_answer, parts_end, parts_by, parts_other, parts_unnamed, parts_named, parts_unreferred, parts_barred, parts_referred}
-use lib.ListN.{get_or}
 use Rattle.catalogue.specs.Recogniser.{lead}
+use Rattle.normal_nodes.specs.Laws.Nodes.{letter_below}
+use Rattle.normal_steps.specs.Laws.Moves.{copied_ready}
 use Rattle.normal_steps.specs.Laws.Leads.{lead_is}
 use Rattle.normal_steps.specs.declared.lead.Lead.TheVariants.{Digit, S, Letter, Wrap, N, L, None}
-use Rattle.normal_nodes.specs.Laws.Nodes.{letter_below}
+use Rattle.normal_writer.specs.Laws.Loops.{moved}
+use Rattle.normal_writer.specs.Laws.Types.{Counted, arg_refused, arg_next, counted_next, args_end, args_again, args_next, args_closed, enter_next}
+use Rattle.normal_writer.specs.Laws.Types.{by_name, first_named, first_next, class_refused, class_answer, by_reference, first_referred, moved_ready, referred_ready}
+use Rattle.normal_writer.specs.Laws.Types.{type_end, type_by, letter_answer, literal_answer, none_answer, without_args, args_barred, args_refused, args_answer, wrap_refused, wrap_next, wrap_answer}
+use Rattle.normal_writer.specs.Laws.Parts.{Onward, onward_as, part_refused, part_next, angled_barred, angled_refused, angled_next, end_lone, end_answer, more_behind, more_again}
+use Rattle.normal_writer.specs.Laws.Parts.{nested_refused, nested_next, nested_closed, nested_answer}
+use Rattle.normal_writer.specs.Laws.Parts.{parts_end, parts_by, parts_other, parts_unnamed, parts_named, parts_unreferred, parts_barred, parts_referred}
+use Rattle.normal_writer.proofs.cycle.+types.Goals.{args-After-here, more-After-here-in-loop-w, more-then-here+else-not-bare+in_ok-of, more-else-here+in_ok-of-2}
 use Rattle.normal_writer.proofs.cycle.+types.Goals as goal
 
 -- ---------------------------------------------------------------- args
 
-pub args-loop-behind-init : goal.args-loop-behind-init
-args-loop-behind-init t c =
-    nothing_yet c.requires.0 c.requires.1
+pub args-returns-in_err-x-clause-reads : goal.args-returns-in_err-x-clause-reads
+args-returns-in_err-x-clause-reads t c =
+    rw c.from_residual.ensures (c.loop-x.invariant.whole c.ty.new.w _ (arg_refused c.loop-x.w c.ty.new.w c.loop-x.of c.in_err-x.ensures.reads))
 
-pub args-ty-requires : goal.args-ty-requires
-args-ty-requires t c =
-    (omega (arith, c.decreases, c.loop-behind.invariant.further, c.loop-behind.invariant.ready.1.place), c.loop-behind.invariant.ready)
+pub args-arg-of-requires : goal.args-arg-of-requires
+args-arg-of-requires t c =
+    arg_next c.loop-x.w c.ty.new.w c.loop-x.of c.in_ok-x.ensures.reads c.loop-x.invariant.small c.loop-x.invariant.ready
 
-pub args-returns-in_default : goal.args-returns-in_default
-args-returns-in_default t c =
-    c.loop-behind.invariant.whole _ _ (arg_refused _ c.ty.ensures c.in_default.is)
+-- an argument was read
+counted : (t : ℕ) (c : args-After-here t) → Counted c.loop-x.w c.arg-of.new.self c.arg-of.result
+counted t c =
+    counted_next c.loop-x.w c.ty.new.w c.loop-x.of c.in_ok-x.ensures.reads c.arg-of.new.self c.arg-of.ensures.steps c.loop-x.invariant.ready
 
-pub args-arg-requires : goal.args-arg-requires
-args-arg-requires t c =
-    arg_next _ c.ty.ensures c.in-Number.is c.loop-behind.invariant.small c.loop-behind.invariant.ready
+pub args-overflow_add-w : goal.args-overflow_add-w
+args-overflow_add-w t c =
+    let a = counted t (goal.at.args-overflow_add-w t c).After-here in
+    record { fits = omega (arith, a.holds.place, a.holds.source) }
 
-pub args-returns-in_default-arg : goal.args-returns-in_default-arg
-args-returns-in_default-arg t c =
-    c.loop-behind.invariant.whole _ _ (count_refused _ c.ty.ensures c.in-Number.is c.arg.ensures c.in_default-arg.is)
+pub args-returns-then-here-clause-reads : goal.args-returns-then-here-clause-reads
+args-returns-then-here-clause-reads t c =
+    c.loop-x.invariant.whole (moved c.arg-of.new.self) _
+    (args_end c.loop-x.w c.ty.new.w c.loop-x.of c.in_ok-x.ensures.reads c.arg-of.new.self c.arg-of.ensures.steps (sym c.here.ensures ∙ c.if-here.true))
 
-pub args-overflow_add-at : goal.args-overflow_add-at
-args-overflow_add-at t c =
-    let (τ, (h, k)) = counted_next _ c.ty.ensures c.in-Number.is c.arg.ensures c.in-Number-arg.is c.loop-behind.invariant.ready in
-    omega (arith, h.place, h.source)
+pub args-loop-x-smaller : goal.args-loop-x-smaller
+args-loop-x-smaller t c =
+    let a = counted t (goal.at.args-loop-x-smaller t c).After-here in
+    omega (arith, a.at, a.holds.place, ap length (c.arg-of.ensures.same_symbol ∙ c.in_ok-x.ensures.same_symbol))
 
-pub args-returns-then-starts_with : goal.args-returns-then-starts_with
-args-returns-then-starts_with t c =
-    c.loop-behind.invariant.whole _ _
-    (args_end _ c.ty.ensures c.in-Number.is c.arg.ensures c.in-Number-arg.is
-    (sym c.starts_with.ensures ∙ c.if-starts_with.true) c.moved.ensures)
-
-pub args-loop-behind-smaller : goal.args-loop-behind-smaller
-args-loop-behind-smaller t c =
-    let (τ, (h, (v, (l, m)))) = counted_next _ c.ty.ensures c.in-Number.is c.arg.ensures c.in-Number-arg.is c.loop-behind.invariant.ready in
-    omega (arith, l, h.place)
-
-pub args-loop-behind-preserved : goal.args-loop-behind-preserved
-args-loop-behind-preserved t c =
-    args_again _ c.ty.ensures c.in-Number.is c.arg.ensures c.in-Number-arg.is
-    (sym c.starts_with.ensures ∙ c.if-starts_with.false) (record { out = omega (arith, c.arg.auto.ends, c.ty.auto.out); ends = omega (arith, c.arg.auto.ends, c.ty.auto.out); words = omega (arith, c.arg.auto.ends, c.ty.auto.out); tables = omega (arith, c.arg.auto.ends, c.ty.auto.out); chains = omega (arith, c.arg.auto.ends, c.ty.auto.out) })
-    c.loop-behind.invariant
+pub args-loop-x-preserved : goal.args-loop-x-preserved
+args-loop-x-preserved t c =
+    args_again c.loop-x.w c.ty.new.w c.loop-x.of c.in_ok-x.ensures.reads c.arg-of.new.self c.arg-of.ensures.steps
+    (c.arg-of.ensures.same_symbol ∙ c.in_ok-x.ensures.same_symbol)
+    (sym c.here.ensures ∙ c.if-here.false) c.loop-x.invariant
 
 -- ---------------------------------------------------------------- more
 
-pub more-loop-out-init : goal.more-loop-out-init
-more-loop-out-init t c =
-    more_start _ c.requires.0.0 c.requires.0.1 c.requires.1
+pub more-returns-then-not-bare-clause-reads : goal.more-returns-then-not-bare-clause-reads
+more-returns-then-not-bare-clause-reads t c =
+    c.loop-w.invariant.1.whole c.loop-w.w _ (angled_barred c.loop-w.w c.loop-w.of c.loop-w.alone c.args.from (sym c.here.ensures ∙ c.if-here.true) c.tag_of.ensures
+    (sym c.bare.ensures ∙ c.if-not-bare.true))
 
-pub more-part-requires : goal.more-part-requires
-more-part-requires t c =
-    (c.loop-out.invariant.1.small, c.loop-out.invariant.1.ready)
-
-pub more-returns-in_default : goal.more-returns-in_default
-more-returns-in_default t c =
-    c.loop-out.invariant.1.whole _ _ (part_refused _ _ _ (sym c.starts_with.ensures ∙ c.if-not-starts_with.true) c.part.ensures c.in_default.is)
-
-pub more-overflow_add-at : goal.more-overflow_add-at
-more-overflow_add-at t c =
-    let a = part_next c.loop-out.of c.loop-out.alone _
-    (sym c.starts_with.ensures ∙ c.if-not-starts_with.true) c.part.ensures
-    c.in-Number.is c.loop-out.invariant.0 c.loop-out.invariant.1.ready in
-    omega (arith, a.ready.1.place, a.ready.1.source)
-
-pub more-returns-then-starts_with : goal.more-returns-then-starts_with
-more-returns-then-starts_with t c =
-    let a = part_next c.loop-out.of c.loop-out.alone _
-    (sym c.starts_with.ensures ∙ c.if-not-starts_with.true) c.part.ensures c.in-Number.is
-    c.loop-out.invariant.0 c.loop-out.invariant.1.ready in
-    c.loop-out.invariant.1.whole _ _
-    (part_answer _ _ _ (sym c.starts_with.ensures ∙ c.if-not-starts_with.true) c.part.ensures
-    c.in-Number.is (end_answer _ _ _ (sym c.starts_with-then-not-starts_with.ensures ∙ c.if-starts_with.true) refl c.moved.ensures a.small a.stretch))
-
-pub more-enter-next-requires : goal.more-enter-next-requires
-more-enter-next-requires t c =
-    let a = part_next c.loop-out.of c.loop-out.alone _
-    (sym c.starts_with.ensures ∙ c.if-not-starts_with.true) c.part.ensures c.in-Number.is
-    c.loop-out.invariant.0 c.loop-out.invariant.1.ready in
-    (a.numbered, (a.stretch, (a.room, (_, ready_both a.ready))))
-
-pub more-loop-out-smaller-then-not-starts_with : goal.more-loop-out-smaller-then-not-starts_with
-more-loop-out-smaller-then-not-starts_with t c =
-    let a = part_next c.loop-out.of c.loop-out.alone _
-    (sym c.starts_with.ensures ∙ c.if-not-starts_with.true) c.part.ensures c.in-Number.is
-    c.loop-out.invariant.0 c.loop-out.invariant.1.ready in
-    let b = more_behind a c.enter-next.ensures in
-    omega (arith, b.0, b.1)
-
-pub more-loop-out-preserved-then-not-starts_with : goal.more-loop-out-preserved-then-not-starts_with
-more-loop-out-preserved-then-not-starts_with t c =
-    let a = part_next c.loop-out.of c.loop-out.alone _
-    (sym c.starts_with.ensures ∙ c.if-not-starts_with.true) c.part.ensures c.in-Number.is
-    c.loop-out.invariant.0 c.loop-out.invariant.1.ready in
-    more_again a c.enter-next.ensures c.loop-out.alone false
-    (sym c.starts_with-then-not-starts_with.ensures ∙ c.if-starts_with.false)
-    (record { out = omega (arith, c.enter-next.auto.out, c.part.auto.out); ends = omega (arith, c.enter-next.auto.out, c.part.auto.out); words = omega (arith, c.enter-next.auto.out, c.part.auto.out); tables = omega (arith, c.enter-next.auto.out, c.part.auto.out); chains = omega (arith, c.enter-next.auto.out, c.part.auto.out) })
-    (λ ws r x. part_answer _ _ _ (sym c.starts_with.ensures ∙ c.if-not-starts_with.true) c.part.ensures
-    c.in-Number.is x) c.loop-out.invariant.1
-
-pub more-tag_of-requires : goal.more-tag_of-requires
-more-tag_of-requires t c =
-    (_, ready_ends c.loop-out.invariant.1.ready)
-
-pub more-returns-then-not-bare : goal.more-returns-then-not-bare
-more-returns-then-not-bare t c =
-    c.loop-out.invariant.1.whole _ _ (angled_barred _ _ _ (sym c.starts_with.ensures ∙ c.if-not-starts_with.false) c.tag_of.ensures (sym c.bare.ensures ∙ c.if-not-bare.true))
-
-pub more-copy_byte-within-requires : goal.more-copy_byte-within-requires
-more-copy_byte-within-requires t c =
-    (starts_inside c.args.s.now c.loop-out.next.at 73 (sym c.starts_with.ensures ∙ c.if-not-starts_with.false), ready_out c.loop-out.invariant.1.ready)
+pub more-copy_byte-requires : goal.more-copy_byte-requires
+more-copy_byte-requires t c =
+    (starts_inside _ _ 73 (sym c.here.ensures ∙ c.if-here.true), c.loop-w.invariant.1.ready)
 
 pub more-args-requires : goal.more-args-requires
 more-args-requires t c =
-    let l = starts_inside c.args.s.now c.loop-out.next.at 73 (sym c.starts_with.ensures ∙ c.if-not-starts_with.false) in (
-      omega (arith, c.decreases, c.loop-out.invariant.1.further, l, c.copy_byte-within.ensures.0),
-      (
-        c.loop-out.invariant.1.small,
-        copied_ready c.copy_byte-within.ensures l
-            c.loop-out.invariant.1.ready,
-      ),
+    let b = c.loop-w.invariant.1 in
+    let l = starts_inside c.loop-w.w.s.now c.loop-w.w.state.at 73 (sym c.here.ensures ∙ c.if-here.true) in (
+      omega (arith, c.decreases, b.further, ap length b.source, l, c.copy_byte.ensures.copies.0, ap length c.copy_byte.ensures.same_symbol),
+      (b.small, copied_ready c.loop-w.w c.copy_byte.new.self c.copy_byte.ensures.copies l b.ready),
     )
 
-pub more-returns-in_default-args : goal.more-returns-in_default-args
-more-returns-in_default-args t c =
-    c.loop-out.invariant.1.whole _ _
-    (angled_refused _ _ _ (sym c.starts_with.ensures ∙ c.if-not-starts_with.false)
-    c.tag_of.ensures
-    (sym c.bare.ensures ∙ c.if-not-bare.false) c.copy_byte-within.ensures
-    c.args-in-loop-out.ensures c.in_default-args.is)
+pub more-returns-in_err-of-clause-reads : goal.more-returns-in_err-of-clause-reads
+more-returns-in_err-of-clause-reads t c =
+    rw c.from_residual.ensures (c.loop-w.invariant.1.whole c.args-then-here.new.w _
+    (angled_refused c.loop-w.w c.loop-w.of c.loop-w.alone c.args.from (sym c.here.ensures ∙ c.if-here.true) c.tag_of.ensures (sym c.bare.ensures ∙ c.if-not-bare.false)
+    c.copy_byte.new.self c.args-then-here.new.w c.copy_byte.ensures.same_symbol c.copy_byte.ensures.copies c.in_err-of.ensures.reads))
 
-pub more-close-closed-requires : goal.more-close-closed-requires
-more-close-closed-requires t c =
-    close_next c.loop-out.invariant.1.ready.1
-    (args_told _ (sym c.starts_with.ensures ∙ c.if-not-starts_with.false)
-    c.copy_byte-within.ensures c.args-in-loop-out.ensures c.in-Number-args.is c.loop-out.invariant.1.ready)
+pub more-close-requires : goal.more-close-requires
+more-close-requires t c =
+    args_next c.loop-w.w c.copy_byte.new.self c.args-then-here.new.w c.loop-w.of (sym c.here.ensures ∙ c.if-here.true) c.copy_byte.ensures.same_symbol
+    c.copy_byte.ensures.copies c.in_ok-of.ensures.reads c.loop-w.invariant.1.ready
 
-pub more-returns-then-alone : goal.more-returns-then-alone
-more-returns-then-alone t c =
-    c.loop-out.invariant.1.whole _ _
-    (angled_answer _ _ _ (sym c.starts_with.ensures ∙ c.if-not-starts_with.false)
-    c.tag_of.ensures
-    (sym c.bare.ensures ∙ c.if-not-bare.false) c.copy_byte-within.ensures
-    c.args-in-loop-out.ensures c.in-Number-args.is c.close-closed.ensures
-    (end_lone _ _ _ (sym c.starts_with-in-loop-out.ensures ∙ c.if-starts_with-2.true) c.if-alone.true))
+pub more-returns-in_err-of-2-clause-reads : goal.more-returns-in_err-of-2-clause-reads
+more-returns-in_err-of-2-clause-reads t c =
+    rw c.from_residual-in_err-of-2.ensures (c.loop-w.invariant.1.whole c.part.new.self _
+    (part_refused c.loop-w.w c.loop-w.of c.loop-w.alone c.args.from c.part.new.self (sym c.here.ensures ∙ c.if-here.false) c.in_err-of-2.ensures.reads))
 
-pub more-overflow_add-end : goal.more-overflow_add-end
-more-overflow_add-end t c =
-    let a = args_closed _ (sym c.starts_with.ensures ∙ c.if-not-starts_with.false)
-    c.copy_byte-within.ensures c.args-in-loop-out.ensures c.in-Number-args.is c.loop-out.invariant.1.ready
-    c.loop-out.invariant.0 c.close-closed.ensures in
-    omega (arith, a.ready.1.place, a.ready.1.source)
+-- what was read on either branch
+onward : (t : ℕ) (c : more-After-here-in-loop-w t) → Onward c.args.from c.loop-w.of c.loop-w.alone c.loop-w.w c.if-here.w c.if-here.of c.if-here.alone
+onward t c =
+    elim c.if-here.branch [
+      | more-then-here+else-not-bare+in_ok-of x ↦ onward_as (angled_next c.loop-w.w c.loop-w.of c.loop-w.alone c.args.from (sym c.here.ensures ∙ x.if-here.true)
+          x.tag_of.ensures (sym x.bare.ensures ∙ x.if-not-bare.false)
+          x.copy_byte.new.self x.args-then-here.new.w x.copy_byte.ensures.same_symbol x.copy_byte.ensures.copies x.in_ok-of.ensures.reads x.close.new.self
+          x.close.ensures.closes
+          (x.close.ensures.same_symbol ∙ x.in_ok-of.ensures.same_symbol ∙ x.copy_byte.ensures.same_symbol) c.loop-w.invariant.0 c.loop-w.invariant.1.ready) x.w-is
+          x.of-is x.alone-is
+      | more-else-here+in_ok-of-2 x ↦ onward_as (part_next c.loop-w.w c.loop-w.of c.loop-w.alone c.args.from x.part.new.self (sym c.here.ensures ∙ x.if-here.false)
+          x.in_ok-of-2.ensures.same_symbol x.in_ok-of-2.ensures.reads c.loop-w.invariant.0 c.loop-w.invariant.1.ready) x.w-is x.of-is x.alone-is
+    ]
 
-pub more-returns-then-starts_with-2 : goal.more-returns-then-starts_with-2
-more-returns-then-starts_with-2 t c =
-    let a = args_closed _ (sym c.starts_with.ensures ∙ c.if-not-starts_with.false)
-    c.copy_byte-within.ensures c.args-in-loop-out.ensures c.in-Number-args.is c.loop-out.invariant.1.ready
-    c.loop-out.invariant.0 c.close-closed.ensures in
-    c.loop-out.invariant.1.whole _ _
-    (angled_answer _ _ _ (sym c.starts_with.ensures ∙ c.if-not-starts_with.false)
-    c.tag_of.ensures
-    (sym c.bare.ensures ∙ c.if-not-bare.false) c.copy_byte-within.ensures
-    c.args-in-loop-out.ensures c.in-Number-args.is c.close-closed.ensures
-    (end_answer _ _ _ (sym c.starts_with-in-loop-out.ensures ∙ c.if-starts_with-2.true) c.if-alone.false c.moved-then-starts_with-2.ensures a.small a.stretch))
+pub more-returns-then-alone-clause-reads : goal.more-returns-then-alone-clause-reads
+more-returns-then-alone-clause-reads t c =
+    let a = onward t (goal.at.more-returns-then-alone-clause-reads t c).After-here-in-loop-w in
+    c.loop-w.invariant.1.whole c.if-here.w _ (a.rest c.if-here.w _
+    (end_lone c.if-here.w c.if-here.of c.if-here.alone c.args.from (sym c.here-in-loop-w.ensures ∙ c.if-here-2.true) c.if-alone.true))
 
-pub more-enter-next-requires-in-loop-out : goal.more-enter-next-requires-in-loop-out
-more-enter-next-requires-in-loop-out t c =
-    let a = args_closed _ (sym c.starts_with.ensures ∙ c.if-not-starts_with.false)
-    c.copy_byte-within.ensures c.args-in-loop-out.ensures c.in-Number-args.is c.loop-out.invariant.1.ready
-    c.loop-out.invariant.0 c.close-closed.ensures in
-    (a.numbered, (a.stretch, (a.room, (_, ready_both a.ready))))
+pub more-overflow_add-w : goal.more-overflow_add-w
+more-overflow_add-w t c =
+    let a = onward t (goal.at.more-overflow_add-w t c).After-here-in-loop-w in
+    record { fits = omega (arith, a.enclosed.ready.1.place, a.enclosed.ready.1.source) }
 
-pub more-loop-out-smaller : goal.more-loop-out-smaller
-more-loop-out-smaller t c =
-    let a = args_closed _ (sym c.starts_with.ensures ∙ c.if-not-starts_with.false)
-    c.copy_byte-within.ensures c.args-in-loop-out.ensures c.in-Number-args.is c.loop-out.invariant.1.ready
-    c.loop-out.invariant.0 c.close-closed.ensures in
-    let b = more_behind a c.enter-next-in-loop-out.ensures in
-    omega (arith, b.0, b.1)
+pub more-returns-then-here-2-clause-reads : goal.more-returns-then-here-2-clause-reads
+more-returns-then-here-2-clause-reads t c =
+    let a = onward t (goal.at.more-returns-then-here-2-clause-reads t c).After-here-in-loop-w in
+    c.loop-w.invariant.1.whole (moved c.if-here.w) _ (a.rest (moved c.if-here.w) _
+    (end_answer c.if-here.w c.if-here.of c.if-here.alone c.args.from (sym c.here-in-loop-w.ensures ∙ c.if-here-2.true) c.if-alone.false
+    a.enclosed.small a.enclosed.stretch))
 
-pub more-loop-out-preserved : goal.more-loop-out-preserved
-more-loop-out-preserved t c =
-    let a = args_closed _ (sym c.starts_with.ensures ∙ c.if-not-starts_with.false)
-    c.copy_byte-within.ensures c.args-in-loop-out.ensures c.in-Number-args.is c.loop-out.invariant.1.ready
-    c.loop-out.invariant.0 c.close-closed.ensures in
-    more_again a c.enter-next-in-loop-out.ensures c.loop-out.alone c.loop-out.alone
-    (sym c.starts_with-in-loop-out.ensures ∙ c.if-starts_with-2.false)
-    (record { out = omega (arith, c.enter-next-in-loop-out.auto.out, c.close-closed.auto.out, c.args-in-loop-out.auto.out, c.copy_byte-within.auto.out); ends = omega (arith, c.enter-next-in-loop-out.auto.out, c.close-closed.auto.out, c.args-in-loop-out.auto.out, c.copy_byte-within.auto.out); words = omega (arith, c.enter-next-in-loop-out.auto.out, c.close-closed.auto.out, c.args-in-loop-out.auto.out, c.copy_byte-within.auto.out); tables = omega (arith, c.enter-next-in-loop-out.auto.out, c.close-closed.auto.out, c.args-in-loop-out.auto.out, c.copy_byte-within.auto.out); chains = omega (arith, c.enter-next-in-loop-out.auto.out, c.close-closed.auto.out, c.args-in-loop-out.auto.out, c.copy_byte-within.auto.out) })
-    (λ ws r x. angled_answer _ _ _ (sym c.starts_with.ensures ∙ c.if-not-starts_with.false)
-    c.tag_of.ensures
-    (sym c.bare.ensures ∙ c.if-not-bare.false) c.copy_byte-within.ensures
-    c.args-in-loop-out.ensures c.in-Number-args.is c.close-closed.ensures x) c.loop-out.invariant.1
+pub more-enter-requires : goal.more-enter-requires
+more-enter-requires t c =
+    let a = onward t (goal.at.more-enter-requires t c).After-here-in-loop-w in
+    enter_next a.enclosed
+
+pub more-loop-w-smaller : goal.more-loop-w-smaller
+more-loop-w-smaller t c =
+    let a = onward t (goal.at.more-loop-w-smaller t c).After-here-in-loop-w in
+    let b = more_behind a c.enter.new.self c.enter.ensures.does c.enter.ensures.same_symbol in
+    omega (arith, b.0, b.1, ap length (c.enter.ensures.same_symbol ∙ a.source))
+
+pub more-loop-w-preserved : goal.more-loop-w-preserved
+more-loop-w-preserved t c =
+    let a = onward t (goal.at.more-loop-w-preserved t c).After-here-in-loop-w in
+    more_again a c.enter.new.self c.enter.ensures.does c.enter.ensures.same_symbol (sym c.here-in-loop-w.ensures ∙ c.if-here-2.false) c.loop-w.invariant.1
 
 -- ---------------------------------------------------------------- named
 
-pub named-returns-in_default : goal.named-returns-in_default
-named-returns-in_default t c =
-    class_refused by_name (first_named c.first_name.ensures) c.in_default.is
+pub named-returns-in_err-t-clause-reads : goal.named-returns-in_err-t-clause-reads
+named-returns-in_err-t-clause-reads t c =
+    rw c.from_residual.ensures (class_refused c.args.w.now c.first_name.new.self by_name (first_named c.args.w.now c.first_name.new.self c.in_err-t.ensures.reads))
 
 pub named-with_args-requires : goal.named-with_args-requires
 named-with_args-requires t c =
-    let w = first_next by_name (first_named c.first_name.ensures) c.in-Number.is c.requires.0 c.requires.1 in
-    (omega (arith, w.limits.0, w.holds.place, c.decreases), ((w.small, first_stretch c.requires.1 w.limits), (w.state, w.holds)))
+    let a = first_next c.args.w.now c.first_name.new.self by_name (first_named c.args.w.now c.first_name.new.self c.in_ok-t.ensures.reads) c.requires.0 c.requires.1 in
+    (omega (arith, a.0.0, a.0.1, c.decreases, ap length c.in_ok-t.ensures.same_symbol), a.1)
 
-pub named-returns : goal.named-returns
-named-returns t c =
-    class_answer by_name (first_named c.first_name.ensures) c.in-Number.is c.with_args.ensures
+pub named-returns-clause-reads : goal.named-returns-clause-reads
+named-returns-clause-reads t c =
+    class_answer c.args.w.now c.first_name.new.self by_name (first_named c.args.w.now c.first_name.new.self c.in_ok-t.ensures.reads) c.with_args.new.w
+    c.in_ok-t.ensures.same_symbol c.with_args.ensures.reads
 
 -- ---------------------------------------------------------------- nested
 
-pub nested-copy_byte-behind-requires : goal.nested-copy_byte-behind-requires
-nested-copy_byte-behind-requires t c =
-    (c.requires.0, ready_out c.requires.1)
-
 pub nested-parts-requires : goal.nested-parts-requires
-nested-parts-requires t c =
-    (omega (arith, c.decreases, c.requires.0, c.copy_byte-behind.ensures.0), copied_ready c.copy_byte-behind.ensures c.requires.0 c.requires.1)
+nested-parts-requires t c = (
+  omega (arith, c.decreases, c.requires.0, c.copy_byte.ensures.copies.0, ap length c.copy_byte.ensures.same_symbol),
+  copied_ready c.args.w.now c.copy_byte.new.self c.copy_byte.ensures.copies c.requires.0 c.requires.1,
+)
 
-pub nested-returns-in_default : goal.nested-returns-in_default
-nested-returns-in_default t c =
-    nested_refused c.copy_byte-behind.ensures c.parts.ensures c.in_default.is
+pub nested-returns-in_err-u-clause-reads : goal.nested-returns-in_err-u-clause-reads
+nested-returns-in_err-u-clause-reads t c =
+    rw c.from_residual.ensures (nested_refused c.args.w.now c.copy_byte.new.self c.parts.new.w c.copy_byte.ensures.same_symbol c.copy_byte.ensures.copies
+    c.in_err-u.ensures.reads)
 
-pub nested-close-closed-requires : goal.nested-close-closed-requires
-nested-close-closed-requires t c =
-    close_next c.requires.1.1 (nested_told c.copy_byte-behind.ensures c.parts.ensures c.in-Number.is c.requires.0 c.requires.1)
+pub nested-close-requires : goal.nested-close-requires
+nested-close-requires t c =
+    nested_next c.args.w.now c.copy_byte.new.self c.parts.new.w c.copy_byte.ensures.same_symbol c.copy_byte.ensures.copies c.in_ok-u.ensures.reads c.requires.0
+    c.requires.1
 
 pub nested-enter_nested-requires : goal.nested-enter_nested-requires
 nested-enter_nested-requires t c =
-    let w = nested_closed c.copy_byte-behind.ensures c.parts.ensures c.in-Number.is c.requires.0 c.requires.1
-    c.close-closed.ensures in
-    (w.numbered, (w.stretch, (w.room, (_, ready_three w.ready))))
+    enter_next (nested_closed c.args.w.now c.copy_byte.new.self c.parts.new.w c.copy_byte.ensures.same_symbol c.copy_byte.ensures.copies c.in_ok-u.ensures.reads
+    c.close.new.self c.requires.0 c.requires.1 c.close.ensures.closes)
 
-pub nested-returns : goal.nested-returns
-nested-returns t c =
-    nested_answer c.copy_byte-behind.ensures c.parts.ensures
-    c.in-Number.is
-    c.close-closed.ensures c.enter_nested.ensures
+pub nested-returns-clause-reads : goal.nested-returns-clause-reads
+nested-returns-clause-reads t c =
+    nested_answer c.args.w.now c.copy_byte.new.self c.parts.new.w c.copy_byte.ensures.same_symbol c.copy_byte.ensures.copies c.in_ok-u.ensures.reads
+    c.close.new.self c.enter_nested.new.self c.close.ensures.closes c.enter_nested.ensures.does
 
 -- ---------------------------------------------------------------- parts
 
-pub parts-returns-then-s-at : goal.parts-returns-then-s-at
-parts-returns-then-s-at t c =
-    parts_end c.if-s-at.true
+pub parts-returns-in_err-get-clause-reads : goal.parts-returns-in_err-get-clause-reads
+parts-returns-in_err-get-clause-reads t c =
+    rw c.from_residual.ensures (parts_end c.args.w.now (omega (arith, c.in_err-get.ensures.lookup)))
 
-pub parts-returns-in_default-first_name : goal.parts-returns-in_default-first_name
-parts-returns-in_default-first_name t c =
-    parts_by c.if-s-at.false (lead_is _ Digit (sym c.in-Digit.is ∙ c.lead_of.ensures)) (parts_unnamed (first_named c.first_name.ensures) c.in_default-first_name.is)
+pub parts-returns-in_err-t-in-Digit-clause-reads : goal.parts-returns-in_err-t-in-Digit-clause-reads
+parts-returns-in_err-t-in-Digit-clause-reads t c =
+    rw c.from_residual-in_err-t-in-Digit.ensures (parts_by c.args.w.now c.first_name.new.self c.in_ok-get.ensures.lookup.3
+    (lead_is _ Digit (sym c.in-Digit.is ∙ c.lead_of.ensures)) (parts_unnamed c.args.w.now c.first_name.new.self
+    (first_named c.args.w.now c.first_name.new.self c.in_err-t-in-Digit.ensures.reads)))
 
 pub parts-more-requires : goal.parts-more-requires
 parts-more-requires t c =
-    let w = first_next by_name (first_named c.first_name.ensures) c.in-Number.is c.if-s-at.false c.requires in
-    (omega (arith, w.limits.0, w.holds.place, c.decreases), ((w.small, first_stretch c.requires w.limits), (w.state, w.holds)))
+    let a = first_next c.args.w.now c.first_name.new.self by_name (first_named c.args.w.now c.first_name.new.self c.in_ok-t-in-Digit.ensures.reads)
+    c.in_ok-get.ensures.lookup.3.0 c.requires in
+    (omega (arith, a.0.0, a.0.1, c.decreases, ap length c.in_ok-t-in-Digit.ensures.same_symbol), a.1)
 
 pub parts-first_reference-requires : goal.parts-first_reference-requires
 parts-first_reference-requires t c =
-    referred_ready c.moved.ensures c.if-s-at.false c.requires
+    referred_ready c.args.w.now c.in_ok-get.ensures.lookup.3.0 c.requires
 
-pub parts-returns-in_default-first_reference : goal.parts-returns-in_default-first_reference
-parts-returns-in_default-first_reference t c =
-    parts_by c.if-s-at.false (lead_is _ S (sym c.in-S.is ∙ c.lead_of.ensures))
-    (parts_unreferred (first_referred c.moved.ensures c.first_reference.ensures) c.in_default-first_reference.is)
+pub parts-returns-in_err-t-in-S-clause-reads : goal.parts-returns-in_err-t-in-S-clause-reads
+parts-returns-in_err-t-in-S-clause-reads t c =
+    rw c.from_residual-in_err-t-in-S.ensures (parts_by c.args.w.now c.first_reference.new.self c.in_ok-get.ensures.lookup.3
+    (lead_is _ S (sym c.in-S.is ∙ c.lead_of.ensures)) (parts_unreferred c.args.w.now c.first_reference.new.self
+    (first_referred c.args.w.now c.first_reference.new.self c.in_err-t-in-S.ensures.reads)))
 
 pub parts-tag_of-tag-requires : goal.parts-tag_of-tag-requires
 parts-tag_of-tag-requires t c =
-    let w = first_next by_reference (first_referred c.moved.ensures c.first_reference.ensures) c.in-Number-first_reference.is c.if-s-at.false c.requires in
-    (_, ready_ends (w.state, w.holds))
+    (first_next c.args.w.now c.first_reference.new.self by_reference (first_referred c.args.w.now c.first_reference.new.self c.in_ok-t-in-S.ensures.reads)
+    c.in_ok-get.ensures.lookup.3.0 c.requires).1.1
 
-pub parts-returns-then-not-class : goal.parts-returns-then-not-class
-parts-returns-then-not-class t c =
-    parts_by c.if-s-at.false (lead_is _ S (sym c.in-S.is ∙ c.lead_of.ensures))
-    (parts_barred (first_referred c.moved.ensures c.first_reference.ensures) c.in-Number-first_reference.is
-    c.tag_of-tag.ensures (sym c.class.ensures ∙ c.if-not-class.true))
+pub parts-returns-then-not-class-clause-reads : goal.parts-returns-then-not-class-clause-reads
+parts-returns-then-not-class-clause-reads t c =
+    parts_by c.args.w.now c.first_reference.new.self c.in_ok-get.ensures.lookup.3 (lead_is _ S (sym c.in-S.is ∙ c.lead_of.ensures))
+    (parts_barred c.args.w.now c.first_reference.new.self (first_referred c.args.w.now c.first_reference.new.self c.in_ok-t-in-S.ensures.reads) c.tag_of-tag.ensures
+    (sym c.class.ensures ∙ c.if-not-class.true))
 
 pub parts-more-requires-in-S : goal.parts-more-requires-in-S
 parts-more-requires-in-S t c =
-    let w = first_next by_reference (first_referred c.moved.ensures c.first_reference.ensures) c.in-Number-first_reference.is c.if-s-at.false c.requires in
-    (omega (arith, w.limits.0, w.holds.place, c.decreases), ((w.small, first_stretch c.requires w.limits), (w.state, w.holds)))
+    let a = first_next c.args.w.now c.first_reference.new.self by_reference (first_referred c.args.w.now c.first_reference.new.self c.in_ok-t-in-S.ensures.reads)
+    c.in_ok-get.ensures.lookup.3.0 c.requires in
+    (omega (arith, a.0.0, a.0.1, c.decreases, ap length c.in_ok-t-in-S.ensures.same_symbol), a.1)
 
-pub parts-returns-in-Number : goal.parts-returns-in-Number
-parts-returns-in-Number t c =
-    parts_by c.if-s-at.false (lead_is _ Digit (sym c.in-Digit.is ∙ c.lead_of.ensures))
-    (parts_named (first_named c.first_name.ensures) c.in-Number.is
-    c.more.ensures)
+pub parts-returns-in_ok-t-in-Digit-clause-reads : goal.parts-returns-in_ok-t-in-Digit-clause-reads
+parts-returns-in_ok-t-in-Digit-clause-reads t c =
+    parts_by c.args.w.now c.more.new.w c.in_ok-get.ensures.lookup.3 (lead_is _ Digit (sym c.in-Digit.is ∙ c.lead_of.ensures))
+    (parts_named c.args.w.now c.first_name.new.self c.more.new.w c.in_ok-t-in-Digit.ensures.same_symbol
+    (first_named c.args.w.now c.first_name.new.self c.in_ok-t-in-Digit.ensures.reads) c.more.ensures.reads)
 
-pub parts-returns-else-not-class : goal.parts-returns-else-not-class
-parts-returns-else-not-class t c =
-    parts_by c.if-s-at.false (lead_is _ S (sym c.in-S.is ∙ c.lead_of.ensures))
-    (parts_referred (first_referred c.moved.ensures c.first_reference.ensures) c.in-Number-first_reference.is
-    c.tag_of-tag.ensures
-    (sym c.class.ensures ∙ c.if-not-class.false)
-    c.more-in-S.ensures)
+pub parts-returns-else-not-class-clause-reads : goal.parts-returns-else-not-class-clause-reads
+parts-returns-else-not-class-clause-reads t c =
+    parts_by c.args.w.now c.more-in-S.new.w c.in_ok-get.ensures.lookup.3 (lead_is _ S (sym c.in-S.is ∙ c.lead_of.ensures))
+    (parts_referred c.args.w.now c.first_reference.new.self (first_referred c.args.w.now c.first_reference.new.self c.in_ok-t-in-S.ensures.reads)
+    c.tag_of-tag.ensures c.more-in-S.new.w c.in_ok-t-in-S.ensures.same_symbol
+    (sym c.class.ensures ∙ c.if-not-class.false) c.more-in-S.ensures.reads)
 
 pub parts-returns-in_default : goal.parts-returns-in_default
 parts-returns-in_default t c =
-    parts_by c.if-s-at.false refl (parts_other (lead (get_or c.args.s.now c.args.p.at 0)) (λ e. c.in_default.not-Digit (c.lead_of.ensures ∙ e)) (λ e. c.in_default.not-S (c.lead_of.ensures ∙ e)))
+    record {
+      reads = parts_by c.args.w.now c.args.w.now c.in_ok-get.ensures.lookup.3 refl
+          (parts_other c.args.w.now (lead c.in_ok-get.field-0.now) (λ e. c.in_default.not-Digit (c.lead_of.ensures ∙ e))
+          (λ e. c.in_default.not-S (c.lead_of.ensures ∙ e)));
+      same_symbol = refl;
+    }
 
 -- ---------------------------------------------------------------- referred
 
 pub referred-first_reference-requires : goal.referred-first_reference-requires
 referred-first_reference-requires t c =
-    referred_ready c.moved.ensures c.requires.0 c.requires.1
+    referred_ready c.args.w.now c.requires.0 c.requires.1
 
-pub referred-returns-in_default : goal.referred-returns-in_default
-referred-returns-in_default t c =
-    class_refused by_reference (first_referred c.moved.ensures c.first_reference.ensures) c.in_default.is
+pub referred-returns-in_err-t-clause-reads : goal.referred-returns-in_err-t-clause-reads
+referred-returns-in_err-t-clause-reads t c =
+    rw c.from_residual.ensures (class_refused c.args.w.now c.first_reference.new.self by_reference
+    (first_referred c.args.w.now c.first_reference.new.self c.in_err-t.ensures.reads))
 
 pub referred-with_args-requires : goal.referred-with_args-requires
 referred-with_args-requires t c =
-    let w = first_next by_reference (first_referred c.moved.ensures c.first_reference.ensures) c.in-Number.is c.requires.0 c.requires.1 in
-    (omega (arith, w.limits.0, w.holds.place, c.decreases), ((w.small, first_stretch c.requires.1 w.limits), (w.state, w.holds)))
+    let a = first_next c.args.w.now c.first_reference.new.self by_reference (first_referred c.args.w.now c.first_reference.new.self c.in_ok-t.ensures.reads)
+    c.requires.0 c.requires.1 in
+    (omega (arith, a.0.0, a.0.1, c.decreases, ap length c.in_ok-t.ensures.same_symbol), a.1)
 
-pub referred-returns : goal.referred-returns
-referred-returns t c =
-    class_answer by_reference (first_referred c.moved.ensures c.first_reference.ensures) c.in-Number.is c.with_args.ensures
+pub referred-returns-clause-reads : goal.referred-returns-clause-reads
+referred-returns-clause-reads t c =
+    class_answer c.args.w.now c.first_reference.new.self by_reference (first_referred c.args.w.now c.first_reference.new.self c.in_ok-t.ensures.reads)
+    c.with_args.new.w c.in_ok-t.ensures.same_symbol c.with_args.ensures.reads
 
 -- ---------------------------------------------------------------- ty
 
-pub ty-returns-then-s-at : goal.ty-returns-then-s-at
-ty-returns-then-s-at t c =
-    type_end c.if-s-at.true
-
-pub ty-copy_byte-requires : goal.ty-copy_byte-requires
-ty-copy_byte-requires t c =
-    (c.if-s-at.false, ready_out c.requires)
-
-pub ty-overflow_cast-result : goal.ty-overflow_cast-result
-ty-overflow_cast-result t c =
-    let w = lead_is _ Letter (sym c.in-Letter.is ∙ c.lead_of.ensures) in
-    record { fits = omega (arith, letter_below w.0, w.1.1) }
-
-pub ty-wrap-requires : goal.ty-wrap-requires
-ty-wrap-requires t c =
-    (omega (arith, c.decreases), (c.if-s-at.false, c.requires))
-
-pub ty-named-requires : goal.ty-named-requires
-ty-named-requires t c =
-    (omega (arith, c.decreases), (c.if-s-at.false, c.requires))
-
-pub ty-referred-requires : goal.ty-referred-requires
-ty-referred-requires t c =
-    (omega (arith, c.decreases), (c.if-s-at.false, c.requires))
-
-pub ty-nested-requires : goal.ty-nested-requires
-ty-nested-requires t c =
-    (omega (arith, c.decreases), (c.if-s-at.false, c.requires))
+pub ty-returns-in_err-c-clause-reads : goal.ty-returns-in_err-c-clause-reads
+ty-returns-in_err-c-clause-reads t c =
+    rw c.from_residual.ensures (type_end c.args.w.now (omega (arith, c.in_err-c.ensures.lookup)))
 
 pub ty-literal-requires : goal.ty-literal-requires
 ty-literal-requires t c =
-    moved_ready c.moved.ensures c.if-s-at.false c.requires
+    moved_ready c.args.w.now c.in_ok-c.ensures.lookup.3.0 c.requires
 
-pub ty-returns-in-Letter : goal.ty-returns-in-Letter
-ty-returns-in-Letter t c =
-    let w = lead_is _ Letter (sym c.in-Letter.is ∙ c.lead_of.ensures) in
-    type_by c.if-s-at.false w.1.0 (letter_answer w.0 _ (omega (arith, letter_below w.0, w.1.1)) c.copy_byte.ensures)
+pub ty-returns-in-Letter-clause-reads : goal.ty-returns-in-Letter-clause-reads
+ty-returns-in-Letter-clause-reads t c =
+    let a = lead_is _ Letter (sym c.in-Letter.is ∙ c.lead_of.ensures) in
+    type_by c.args.w.now c.copy_byte.new.self c.in_ok-c.ensures.lookup.3 a.1.0 (letter_answer c.args.w.now c.copy_byte.new.self a.0 _
+    (omega (arith, letter_below a.0, a.1.1)) c.copy_byte.ensures.copies)
 
-pub ty-returns-in-Wrap : goal.ty-returns-in-Wrap
-ty-returns-in-Wrap t c =
-    let w = lead_is _ Wrap (sym c.in-Wrap.is ∙ c.lead_of.ensures) in
-    type_by c.if-s-at.false w.1.0 (c.wrap.ensures w.0)
+pub ty-returns-in-Wrap-clause-reads : goal.ty-returns-in-Wrap-clause-reads
+ty-returns-in-Wrap-clause-reads t c =
+    let a = lead_is _ Wrap (sym c.in-Wrap.is ∙ c.lead_of.ensures) in
+    type_by c.args.w.now c.wrap.new.w c.in_ok-c.ensures.lookup.3 a.1.0 (c.wrap.ensures.reads a.0)
 
-pub ty-returns-in-Digit : goal.ty-returns-in-Digit
-ty-returns-in-Digit t c =
-    type_by c.if-s-at.false (lead_is _ Digit (sym c.in-Digit.is ∙ c.lead_of.ensures)) (c.named.ensures _)
+pub ty-returns-in-Digit-clause-reads : goal.ty-returns-in-Digit-clause-reads
+ty-returns-in-Digit-clause-reads t c =
+    type_by c.args.w.now c.named.new.w c.in_ok-c.ensures.lookup.3 (lead_is _ Digit (sym c.in-Digit.is ∙ c.lead_of.ensures)) (c.named.ensures.reads _)
 
-pub ty-returns-in-S : goal.ty-returns-in-S
-ty-returns-in-S t c =
-    type_by c.if-s-at.false (lead_is _ S (sym c.in-S.is ∙ c.lead_of.ensures)) (c.referred.ensures _)
+pub ty-returns-in-S-clause-reads : goal.ty-returns-in-S-clause-reads
+ty-returns-in-S-clause-reads t c =
+    type_by c.args.w.now c.referred.new.w c.in_ok-c.ensures.lookup.3 (lead_is _ S (sym c.in-S.is ∙ c.lead_of.ensures)) (c.referred.ensures.reads _)
 
-pub ty-returns-in-N : goal.ty-returns-in-N
-ty-returns-in-N t c =
-    type_by c.if-s-at.false (lead_is _ N (sym c.in-N.is ∙ c.lead_of.ensures)) (c.nested.ensures _)
+pub ty-returns-in-N-clause-reads : goal.ty-returns-in-N-clause-reads
+ty-returns-in-N-clause-reads t c =
+    type_by c.args.w.now c.nested.new.w c.in_ok-c.ensures.lookup.3 (lead_is _ N (sym c.in-N.is ∙ c.lead_of.ensures)) (c.nested.ensures.reads _)
 
-pub ty-returns-in-L : goal.ty-returns-in-L
-ty-returns-in-L t c =
-    type_by c.if-s-at.false
-    (lead_is _ L (sym c.in-L.is ∙ c.lead_of.ensures))
-    (literal_answer _ c.moved.ensures c.literal.ensures)
+pub ty-returns-in-L-clause-reads : goal.ty-returns-in-L-clause-reads
+ty-returns-in-L-clause-reads t c =
+    type_by c.args.w.now c.literal.new.self c.in_ok-c.ensures.lookup.3 (lead_is _ L (sym c.in-L.is ∙ c.lead_of.ensures))
+    (literal_answer c.args.w.now c.literal.new.self _ c.literal.ensures.reads)
 
-pub ty-returns-in-None : goal.ty-returns-in-None
-ty-returns-in-None t c =
-    type_by c.if-s-at.false (lead_is _ None (sym c.in-None.is ∙ c.lead_of.ensures)) (none_answer _)
+pub ty-returns-in-None-clause-reads : goal.ty-returns-in-None-clause-reads
+ty-returns-in-None-clause-reads t c =
+    type_by c.args.w.now c.args.w.now c.in_ok-c.ensures.lookup.3 (lead_is _ None (sym c.in-None.is ∙ c.lead_of.ensures)) (none_answer c.args.w.now _)
 
 -- ---------------------------------------------------------------- with_args
 
-pub with_args-returns-then-not-starts_with : goal.with_args-returns-then-not-starts_with
-with_args-returns-then-not-starts_with t c =
-    without_args _ _ (sym c.starts_with.ensures ∙ c.if-not-starts_with.true) c.requires.0.0 c.requires.0.1
+pub with_args-returns-then-not-here-clause-reads : goal.with_args-returns-then-not-here-clause-reads
+with_args-returns-then-not-here-clause-reads t c =
+    without_args c.args.w.now c.args.t c.args.from (sym c.here.ensures ∙ c.if-not-here.true) c.requires.0.0 c.requires.0.1
 
-pub with_args-tag_of-requires : goal.with_args-tag_of-requires
-with_args-tag_of-requires t c =
-    (_, ready_ends c.requires.1)
+pub with_args-returns-then-tag_of-clause-reads : goal.with_args-returns-then-tag_of-clause-reads
+with_args-returns-then-tag_of-clause-reads t c =
+    args_barred c.args.w.now c.args.t c.args.from (sym c.here.ensures ∙ c.if-not-here.false) c.tag_of.ensures (ne_eqb _ _ c.if-tag_of.true)
 
-pub with_args-returns-then-tag_of : goal.with_args-returns-then-tag_of
-with_args-returns-then-tag_of t c =
-    args_barred _ _ (sym c.starts_with.ensures ∙ c.if-not-starts_with.false) c.tag_of.ensures (ne_eqb _ _ c.if-tag_of.true)
-
-pub with_args-copy_byte-behind-requires : goal.with_args-copy_byte-behind-requires
-with_args-copy_byte-behind-requires t c =
-    (starts_inside _ _ 73 (sym c.starts_with.ensures ∙ c.if-not-starts_with.false), ready_out c.requires.1)
+pub with_args-copy_byte-requires : goal.with_args-copy_byte-requires
+with_args-copy_byte-requires t c =
+    (starts_inside _ _ 73 (sym c.here.ensures ∙ c.if-not-here.false), c.requires.1)
 
 pub with_args-args-requires : goal.with_args-args-requires
 with_args-args-requires t c =
-    let l = starts_inside c.args.s.now c.args.p.at 73 (sym c.starts_with.ensures ∙ c.if-not-starts_with.false) in
-    (omega (arith, c.decreases, l, c.copy_byte-behind.ensures.0), (c.requires.0.0, copied_ready c.copy_byte-behind.ensures l c.requires.1))
+    let l = starts_inside c.args.w.now.s.now c.args.w.now.state.at 73 (sym c.here.ensures ∙ c.if-not-here.false) in (
+      omega (arith, c.decreases, l, c.copy_byte.ensures.copies.0, ap length c.copy_byte.ensures.same_symbol),
+      (c.requires.0.0, copied_ready c.args.w.now c.copy_byte.new.self c.copy_byte.ensures.copies l c.requires.1),
+    )
 
-pub with_args-returns-in_default : goal.with_args-returns-in_default
-with_args-returns-in_default t c =
-    args_refused _ _ (sym c.starts_with.ensures ∙ c.if-not-starts_with.false) c.tag_of.ensures
-    (eq-eqb _ _ c.if-tag_of.false) c.copy_byte-behind.ensures c.args-2.ensures c.in_default.is
+pub with_args-returns-in_err-u-clause-reads : goal.with_args-returns-in_err-u-clause-reads
+with_args-returns-in_err-u-clause-reads t c =
+    rw c.from_residual.ensures (args_refused c.args.w.now c.args.t c.args.from (sym c.here.ensures ∙ c.if-not-here.false) c.tag_of.ensures
+    (eq-eqb _ _ c.if-tag_of.false) c.copy_byte.new.self c.args-2.new.w
+    c.copy_byte.ensures.same_symbol c.copy_byte.ensures.copies c.in_err-u.ensures.reads)
 
-pub with_args-close-closed-requires : goal.with_args-close-closed-requires
-with_args-close-closed-requires t c =
-    close_next c.requires.1.1 (args_told _ (sym c.starts_with.ensures ∙ c.if-not-starts_with.false) c.copy_byte-behind.ensures c.args-2.ensures c.in-Number.is c.requires.1)
+pub with_args-close-requires : goal.with_args-close-requires
+with_args-close-requires t c =
+    args_next c.args.w.now c.copy_byte.new.self c.args-2.new.w c.args.t (sym c.here.ensures ∙ c.if-not-here.false) c.copy_byte.ensures.same_symbol
+    c.copy_byte.ensures.copies c.in_ok-u.ensures.reads c.requires.1
 
 pub with_args-enter-requires : goal.with_args-enter-requires
 with_args-enter-requires t c =
-    let w = args_closed _ (sym c.starts_with.ensures ∙ c.if-not-starts_with.false) c.copy_byte-behind.ensures c.args-2.ensures
-    c.in-Number.is c.requires.1 c.requires.0.1
-    c.close-closed.ensures in
-    (w.numbered, (w.stretch, (w.room, (_, ready_both w.ready))))
+    enter_next (args_closed c.args.w.now c.copy_byte.new.self c.args-2.new.w c.args.t (sym c.here.ensures ∙ c.if-not-here.false) c.copy_byte.ensures.same_symbol
+    c.copy_byte.ensures.copies c.in_ok-u.ensures.reads
+    c.close.new.self c.requires.1 c.requires.0.1 c.close.ensures.closes)
 
-pub with_args-returns : goal.with_args-returns
-with_args-returns t c =
-    args_answer _ _ (sym c.starts_with.ensures ∙ c.if-not-starts_with.false) c.tag_of.ensures
-    (eq-eqb _ _ c.if-tag_of.false) c.copy_byte-behind.ensures c.args-2.ensures c.requires.0.1
-    c.in-Number.is
-    c.close-closed.ensures c.enter.ensures
+pub with_args-returns-clause-reads : goal.with_args-returns-clause-reads
+with_args-returns-clause-reads t c =
+    args_answer c.args.w.now c.args.t c.args.from (sym c.here.ensures ∙ c.if-not-here.false) c.tag_of.ensures (eq-eqb _ _ c.if-tag_of.false) c.copy_byte.new.self
+    c.args-2.new.w
+    c.copy_byte.ensures.same_symbol c.copy_byte.ensures.copies c.close.new.self c.enter.new.self c.requires.0.1 c.in_ok-u.ensures.reads
+    c.close.ensures.closes c.enter.ensures.does
 
 -- ---------------------------------------------------------------- wrap
 
-pub wrap-copy_byte-behind-requires : goal.wrap-copy_byte-behind-requires
-wrap-copy_byte-behind-requires t c =
-    (c.requires.0, ready_out c.requires.1)
-
 pub wrap-ty-requires : goal.wrap-ty-requires
-wrap-ty-requires t c =
-    (omega (arith, c.decreases, c.requires.0, c.copy_byte-behind.ensures.0), copied_ready c.copy_byte-behind.ensures c.requires.0 c.requires.1)
+wrap-ty-requires t c = (
+  omega (arith, c.decreases, c.requires.0, c.copy_byte.ensures.copies.0, ap length c.copy_byte.ensures.same_symbol),
+  copied_ready c.args.w.now c.copy_byte.new.self c.copy_byte.ensures.copies c.requires.0 c.requires.1,
+)
 
-pub wrap-returns-in_default : goal.wrap-returns-in_default
-wrap-returns-in_default t c =
-    λ q. wrap_refused c.copy_byte-behind.ensures c.ty.ensures q _ c.in_default.is
+pub wrap-returns-in_err-t-clause-reads : goal.wrap-returns-in_err-t-clause-reads
+wrap-returns-in_err-t-clause-reads t c =
+    rw c.from_residual.ensures (λ q. wrap_refused c.args.w.now c.copy_byte.new.self c.ty.new.w c.copy_byte.ensures.same_symbol c.copy_byte.ensures.copies
+    c.in_err-t.ensures.reads q _)
 
 pub wrap-wrap-requires : goal.wrap-wrap-requires
 wrap-wrap-requires t c =
-    wrap_next c.copy_byte-behind.ensures c.ty.ensures c.in-Number.is c.requires.0 c.requires.1
+    wrap_next c.args.w.now c.copy_byte.new.self c.ty.new.w c.copy_byte.ensures.same_symbol c.copy_byte.ensures.copies c.in_ok-t.ensures.reads c.requires.0 c.requires.1
 
-pub wrap-returns : goal.wrap-returns
-wrap-returns t c =
-    λ q. wrap_answer c.copy_byte-behind.ensures c.ty.ensures c.in-Number.is q _ c.wrap.ensures
+pub wrap-returns-clause-reads : goal.wrap-returns-clause-reads
+wrap-returns-clause-reads t c =
+    λ q. wrap_answer c.args.w.now c.copy_byte.new.self c.ty.new.w c.copy_byte.ensures.same_symbol c.copy_byte.ensures.copies c.in_ok-t.ensures.reads c.wrap.new.self
+    q _ c.wrap.ensures.steps

@@ -1,45 +1,44 @@
 use Prim.Native.Nat.{◌+◌, ◌*◌, ◌-◌}
-use lib.ListN.{length}
-use Rattle.normal_steps.specs.Carries.{work}
+use Rattle.std.specs.Prelude.{length}
 use Rattle.normal_writer.specs.Laws.Types.{ArgsSoFar}
 use Rattle.normal_writer.specs.Laws.Parts.{MoreSoFar}
 use Rattle.normal_writer.proofs.cycle.+types.Given as goal
 
 abbrev pub decreases-args : goal.decreases-args
-decreases-args l = 3 * (length l.s.now - l.p.at) + 2
+decreases-args l = 3 * (length l.w.now.s.now - l.w.now.state.at) + 2
 
 abbrev pub decreases-more : goal.decreases-more
-decreases-more l = 3 * (length l.s.now - l.p.at)
+decreases-more l = 3 * (length l.w.now.s.now - l.w.now.state.at)
 
 abbrev pub decreases-named : goal.decreases-named
-decreases-named l = 3 * (length l.s.now - l.p.at)
+decreases-named l = 3 * (length l.w.now.s.now - l.w.now.state.at)
 
 abbrev pub decreases-nested : goal.decreases-nested
-decreases-nested l = 3 * (length l.s.now - l.p.at)
+decreases-nested l = 3 * (length l.w.now.s.now - l.w.now.state.at)
 
 abbrev pub decreases-parts : goal.decreases-parts
-decreases-parts l = 3 * (length l.s.now - l.p.at)
+decreases-parts l = 3 * (length l.w.now.s.now - l.w.now.state.at)
 
 abbrev pub decreases-referred : goal.decreases-referred
-decreases-referred l = 3 * (length l.s.now - l.p.at)
+decreases-referred l = 3 * (length l.w.now.s.now - l.w.now.state.at)
 
 abbrev pub decreases-ty : goal.decreases-ty
-decreases-ty l = 3 * (length l.s.now - l.p.at) + 1
+decreases-ty l = 3 * (length l.w.now.s.now - l.w.now.state.at) + 1
 
 abbrev pub decreases-with_args : goal.decreases-with_args
-decreases-with_args l = 3 * (length l.s.now - l.p.at)
+decreases-with_args l = 3 * (length l.w.now.s.now - l.w.now.state.at)
 
 abbrev pub decreases-wrap : goal.decreases-wrap
-decreases-wrap l = 3 * (length l.s.now - l.p.at)
+decreases-wrap l = 3 * (length l.w.now.s.now - l.w.now.state.at)
 
-abbrev pub invariant-args-loop-behind : goal.invariant-args-loop-behind
-invariant-args-loop-behind l = ArgsSoFar l.s (work l.initial.out l.initial.ends l.initial.words l.initial.tables l.initial.chains) l.initial.next l.initial.of (work l.out l.ends l.words l.tables l.chains) l.next l.of
+abbrev pub invariant-args-loop-x : goal.invariant-args-loop-x
+invariant-args-loop-x l = ArgsSoFar l.initial.w l.initial.of l.w l.of
 
-abbrev pub decreases-args-loop-behind : goal.decreases-args-loop-behind
-decreases-args-loop-behind l = length l.s - l.next.at
+abbrev pub decreases-args-loop-x : goal.decreases-args-loop-x
+decreases-args-loop-x l = length l.w.s.now - l.w.state.at
 
-abbrev pub invariant-more-loop-out : goal.invariant-more-loop-out
-invariant-more-loop-out l = MoreSoFar l.s l.from (work l.initial.out l.initial.ends l.initial.words l.initial.tables l.initial.chains) l.initial.next l.initial.of l.initial.alone (work l.out l.ends l.words l.tables l.chains) l.next l.of l.alone
+abbrev pub invariant-more-loop-w : goal.invariant-more-loop-w
+invariant-more-loop-w l = MoreSoFar l.from l.initial.w l.initial.of l.initial.alone l.w l.of l.alone
 
-abbrev pub decreases-more-loop-out : goal.decreases-more-loop-out
-decreases-more-loop-out l = length l.s - l.next.at
+abbrev pub decreases-more-loop-w : goal.decreases-more-loop-w
+decreases-more-loop-w l = length l.w.s.now - l.w.state.at

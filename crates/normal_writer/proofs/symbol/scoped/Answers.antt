@@ -1,37 +1,33 @@
-use Rattle.normal_steps.specs.Carries.{work}
-use Rattle.normal_steps.specs.Laws.Moves.{ready_out, ready_ends}
-use Rattle.normal_writer.specs.Laws.Symbols.{begun_by, scoped_holds, scoped_none, scoped_ready, scoped_room, scoped_full, scoped_heads}
+use Rattle.normal_writer.specs.Laws.Symbols.{scoped_holds, scoped_none, scoped_next, scoped_full, scoped_heads}
 use Rattle.normal_writer.proofs.symbol.scoped.Goals as goal
 
 pub parts-requires : goal.parts-requires
 parts-requires c =
-    let b = begun_by c.args.s.now c.args.word.now (work c.args.out.now c.args.ends.now c.args.words.now c.args.tables.now c.args.chains.now) c.requires.0 c.requires.1.1 c.begin-begun.ensures in
-    (_, scoped_holds b)
+    scoped_holds c.args.w.now.s.now c.args.word.now c.begin.new.w c.begin.ensures.same_symbol c.begin.ensures.begins c.requires.1.short c.requires.0.0 c.requires.0.1.1
 
-pub returns-in_default : goal.returns-in_default
-returns-in_default c =
-    let b = begun_by c.args.s.now c.args.word.now (work c.args.out.now c.args.ends.now c.args.words.now c.args.tables.now c.args.chains.now) c.requires.0 c.requires.1.1 c.begin-begun.ensures in
-    scoped_none b c.parts.ensures c.args.constant c.in_default.is
+pub returns-in_err-u-clause-heads : goal.returns-in_err-u-clause-heads
+returns-in_err-u-clause-heads c =
+    rw c.from_residual.ensures (scoped_none c.args.w.now.s.now c.args.word.now c.begin.new.w c.begin.ensures.same_symbol c.begin.ensures.begins c.requires.1.short
+    c.requires.0.0 c.requires.0.1.1 c.parts.new.w c.args.constant c.in_err-u.ensures.reads)
 
 pub tag_of-requires : goal.tag_of-requires
 tag_of-requires c =
-    let b = begun_by c.args.s.now c.args.word.now (work c.args.out.now c.args.ends.now c.args.words.now c.args.tables.now c.args.chains.now) c.requires.0 c.requires.1.1 c.begin-begun.ensures in
-    let t = scoped_ready b c.parts.ensures c.in-Number.is in
-    (_, ready_ends (t.state, t.holds))
+    (scoped_next c.args.w.now.s.now c.args.word.now c.begin.new.w c.begin.ensures.same_symbol c.begin.ensures.begins c.requires.1.short c.requires.0.0
+    c.requires.0.1.1 c.parts.new.w c.in_ok-u.ensures.reads).1
 
-pub returns-then-not-bare : goal.returns-then-not-bare
-returns-then-not-bare c =
-    let b = begun_by c.args.s.now c.args.word.now (work c.args.out.now c.args.ends.now c.args.words.now c.args.tables.now c.args.chains.now) c.requires.0 c.requires.1.1 c.begin-begun.ensures in
-    scoped_full b c.parts.ensures c.in-Number.is c.args.constant c.tag_of.ensures c.bare.ensures c.if-not-bare.true
+pub returns-then-not-bare-clause-heads : goal.returns-then-not-bare-clause-heads
+returns-then-not-bare-clause-heads c =
+    scoped_full c.args.w.now.s.now c.args.word.now c.begin.new.w c.begin.ensures.same_symbol c.begin.ensures.begins c.requires.1.short c.requires.0.0
+    c.requires.0.1.1 c.parts.new.w
+    c.in_ok-u.ensures.reads c.args.constant c.tag_of.ensures c.bare.ensures c.if-not-bare.true
 
 pub close-requires : goal.close-requires
 close-requires c =
-    let b = begun_by c.args.s.now c.args.word.now (work c.args.out.now c.args.ends.now c.args.words.now c.args.tables.now c.args.chains.now) c.requires.0 c.requires.1.1 c.begin-begun.ensures in
-    let t = scoped_ready b c.parts.ensures c.in-Number.is in
-    (scoped_room b c.parts.ensures c.in-Number.is, (_, ready_out (t.state, t.holds)))
+    scoped_next c.args.w.now.s.now c.args.word.now c.begin.new.w c.begin.ensures.same_symbol c.begin.ensures.begins c.requires.1.short c.requires.0.0
+    c.requires.0.1.1 c.parts.new.w c.in_ok-u.ensures.reads
 
-pub returns : goal.returns
-returns c =
-    let b = begun_by c.args.s.now c.args.word.now (work c.args.out.now c.args.ends.now c.args.words.now c.args.tables.now c.args.chains.now) c.requires.0 c.requires.1.1 c.begin-begun.ensures in
-    scoped_heads b c.parts.ensures c.in-Number.is c.args.constant c.tag_of.ensures
-    c.bare.ensures c.if-not-bare.false c.close.ensures
+pub returns-clause-heads : goal.returns-clause-heads
+returns-clause-heads c =
+    scoped_heads c.args.w.now.s.now c.args.word.now c.begin.new.w c.begin.ensures.same_symbol c.begin.ensures.begins c.requires.1.short c.requires.0.0
+    c.requires.0.1.1 c.parts.new.w
+    c.in_ok-u.ensures.reads c.args.constant c.tag_of.ensures c.bare.ensures c.close.new.self c.if-not-bare.false c.close.ensures.closes

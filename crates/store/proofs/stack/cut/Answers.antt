@@ -1,4 +1,4 @@
-use Rattle.std.proofs.Common.{◌≡◌, ◌-◌, drop, ap, ◌∙◌, arith}
+use Rattle.std.proofs.Common.{◌-◌, drop, ap, ◌∙◌, arith}
 use lib.Seq.{paste}
 use Rattle.store.proofs.Stacks.{cut_is}
 use Rattle.store.proofs.stack.cut.Goals as goal
