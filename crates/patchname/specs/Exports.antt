@@ -4,9 +4,6 @@ use Rattle.std.proofs.Common.{sym, ap, ◌∙◌}
 use Rattle.grammar.specs.Text.{Text}
 use Rattle.grammar.specs.declared.refusal.Refusal.{Refusal}
 use Rattle.answer.specs.Told.{Slices, slices, normal_slices, numbered, number_in, bytes_in}
-use Rattle.answer.specs.Lent.{slices_of, all_slices_of}
-use Rattle.answer.specs.declared.work.Work.{Work}
-use Rattle.answer.specs.declared.work.Numbers.{Numbers}
 use Rattle.entries.specs.Outcome.{Outcome}
 use Rattle.entries.specs.Laws.Outcome.{no_zeros}
 use Rattle.listing.specs.Listing.{Outcome as Listing, lists, listed, number_told, taken_told, written_told}
@@ -38,15 +35,6 @@ pub told_listing : {o : Listing} {out : Text} {l l' : Slices} {number taken writ
     → (number ≡ number_told r) × ((taken ≡ taken_told r) × (written ≡ written_told r)) → l' ≡ l → Returns_listing o out l (number_told r) (taken_told r) (written_told r)
     → Returns_listing o out l' number taken written
 told_listing {out = out} r (e, (f, g)) k h = (λ i. record { number = e i; taken = f i; written = g i; out = out; work = k i }) ∙ h
-
--- the caller's slices are those that the structs had
-module _ {out text store ends : Text} (w : Work) (e : text ≡ w.text.now) (f : store ≡ w.store.now) (g : ends ≡ w.ends.now) where
-  pub same_slices : slices out text store ends ≡ slices_of out w
-  same_slices = λ i. slices out (e i) (f i) (g i)
-
-  pub all_same_slices : {words tables chains : Text} (n : Numbers) → words ≡ n.words.now → tables ≡ n.tables.now → chains ≡ n.chains.now
-      → normal_slices out text store ends words tables chains ≡ all_slices_of out w n
-  all_same_slices n h j k = λ i. normal_slices out (e i) (f i) (g i) (h i) (j i) (k i)
 
 -- the slices that are not lent for names have no numbers afterwards either
 pub no_numbers : (kind : Kind) (input out name text store ends : Text) {out' name' text' store' ends' words tables chains : Text} {number taken written : ℕ}
