@@ -2,8 +2,7 @@
 ghost use Rattle.std.specs.Prelude.{◌≤◌, length, drop};
 ghost use Rattle.grammar.specs.Limits.{most_symbol_bytes, most_text_bytes, least_ends};
 ghost use Rattle.grammar.specs.Names.{answer, mangled_name, within};
-ghost use Rattle.parser.specs.Holds.{mem};
-ghost use Rattle.encoding.specs.Encodings.{Least};
+ghost use Rattle.parser.specs.Demanglers.{Least};
 ghost use Rattle.answer.specs.Told.{lent, Tells, Long};
 ghost use Rattle.answer.specs.Lent.{SameWork, slices_of};
 ghost use Rattle.demangle.specs.Printed.{PrintsName};
@@ -11,10 +10,10 @@ ghost use Rattle.demangle.specs.Printed.{PrintsName};
 use crate::symbol;
 use answer::work;
 use answer::work::Work;
-use encoding::{functions, mangled};
+use encoding::functions::ended;
+use encoding::mangled::mangled_name;
 use grammar::refusal::Refusal;
-use grammar::state::{Parser, Read};
-use store::stack;
+use parser::demangler::Demangler;
 
 // The name of the symbol, into `out`. Work slices of any lengths and contents; what they hold at the end is left free.
 pub fn demangle_uncleared(s: &[u8], out: &mut [u8], work: &mut Work) -> Result<usize, Refusal>
@@ -51,30 +50,27 @@ fn read(
     store: &mut [u8],
     ends: &mut [u16],
 ) -> Result<usize, Refusal>
-    requires { (length s.now ≤ most_text_bytes) × Least (mem text.old store.old ends.old) }
+    requires { (length s.now ≤ most_text_bytes) × Least text.old store.old ends.old }
     ensures { Tells (within (length out.old) (mangled_name s.now)) out.old out.new result }
 {
-    match mangled::mangled_name(s, text, store, ends) {
-        Read::Text(p, n) => print(s, out, text, p, n),
-        Read::Refused(refusal) => Err(refusal),
-    }
+    let mut d = Demangler::new(s, text, store, ends);
+    let n = mangled_name(&mut d)?;
+    print(&d, n, out)
 }
 
 // The newest n bytes as a name.
-fn print(s: &[u8], out: &mut [u8], text: &[u8], p: Parser, n: usize) -> Result<usize, Refusal>
-    requires { (n ≤ p.top) × ((p.top ≤ length text.now) × (p.at ≤ length s.now)) }
-    ensures { PrintsName s.now out.old out.new text.now p n result }
+fn print(d: &Demangler, n: usize, out: &mut [u8]) -> Result<usize, Refusal>
+    requires { n ≤ d.now.stack.top }
+    ensures { PrintsName d.now n out.old out.new result }
 {
-    if !functions::ended(s, p) {
+    if !ended(d) {
         return Err(Refusal::BytesLeft);
     }
-    let top = p.top;
-    let from = top - n;
-    let slots = stack::slots(text, from, top);
+    let slots = d.stack.slots(n);
     let size = n - slots;
     if out.len() < size {
         return Err(Refusal::ShortOutput);
     }
-    symbol::write_counted(out, &text[from..top], slots);
+    symbol::write_counted(out, d.stack.newest(n), slots);
     Ok(size)
 }

@@ -1,144 +1,93 @@
 // <encoding>: a function or data, with parameters, return type and qualifiers.
 ghost use Rattle.std.specs.Prelude.{◌≡◌, ◌+◌, ◌≤◌, min, length, drop};
-ghost use Rattle.grammar.specs.Text.{Text, b};
 ghost use Rattle.grammar.specs.Limits.{most_text_bytes, most_entry_bytes, most_length};
 ghost use Rattle.grammar.specs.Grammar.{reading, ended, function_or_data};
-ghost use Rattle.store.specs.Stack.{Stack};
-ghost use Rattle.parser.specs.Holds.{mem, Ready, Reads, keep};
-ghost use Rattle.encoding.specs.Encodings.{Qualifies, LoneVoid, GoesOn, with_parameters, with_returned};
+ghost use Rattle.grammar.specs.States.{Within};
+ghost use Rattle.parser.specs.Holds.{keep};
+ghost use Rattle.parser.specs.Demanglers.{Prepared, Parses};
+ghost use Rattle.encoding.specs.Encodings.{Qualified, LoneVoid, Going, with_parameters, with_returned};
 
 use grammar::codes;
+use grammar::part::Part;
 use grammar::refusal::Refusal;
-use grammar::state::{Parser, Peeked, Read};
-use parser::memory;
-use reader::lists::{Kind, Texts};
-use reader::{cycle, lists};
-use store::stack;
+use parser::demangler::Demangler;
+use parser::memory::{given, sum};
+use reader::cycle::{items, name, ty};
+use reader::lists::{Joined, Kind};
 
 // <function name> <bare-function-type> | <data name>
-pub fn function_or_data(
-    s: &[u8],
-    text: &mut [u8],
-    store: &mut [u8],
-    ends: &mut [u16],
-    p: Parser,
-) -> Read
-    requires { Ready s.now (mem text.old store.old ends.old) p }
-    ensures { Reads (function_or_data reading) (keep p.depth) (p.at + 1) s.now
-        (mem text.old store.old ends.old) (mem text.new store.new ends.new) p result }
+pub fn function_or_data(d: &mut Demangler) -> Result<usize, Refusal>
+    requires { Prepared d.old }
+    ensures { Parses (function_or_data reading) (keep d.old.state.depth) (d.old.state.at + 1) d.old d.new result }
 {
-    let got = cycle::name(s, text, store, ends, p);
-    let Read::Text(named, n) = got else {
-        return got;
-    };
-    let cv = named.cv;
-    let from = cv.from;
-    let to = cv.to;
-    let next = named.with_cv(0, 0);
-    if ended(s, next) {
-        return qualified(s, text, next, n, from, to);
+    let n = name(d)?;
+    let cv = d.state.cv;
+    d.state.cv = Part { from: 0, to: 0 };
+    if ended(d) {
+        return qualified(d, n, cv);
     }
-    if next.templated {
-        return template_function(s, text, store, ends, next, n, from, to);
+    if d.state.templated {
+        return template_function(d, n, cv);
     }
-    function(s, text, store, ends, next, n, from, to)
+    function(d, n, cv)
 }
 
 // Whether the name and its parameters end here.
-pub fn ended(s: &[u8], p: Parser) -> bool
-    ensures { result ≡ ended (drop p.at s.now) }
+pub fn ended(d: &Demangler) -> bool
+    ensures { result ≡ ended (drop d.now.state.at d.now.s.now) }
 {
-    let Peeked::Byte(c) = p.peek(s) else {
-        return true;
-    };
-    c == b'.'
+    d.peek().is_none_or(|c| c == b'.')
 }
 
 // The type returned goes before a name of n bytes, and the parameters behind it.
-fn template_function(
-    s: &[u8],
-    text: &mut [u8],
-    store: &mut [u8],
-    ends: &mut [u16],
-    p: Parser,
-    n: usize,
-    from: usize,
-    to: usize,
-) -> Read
-    requires { (Ready s.now (mem text.old store.old ends.old) p) × ((n ≤ most_text_bytes) × ((n ≤ p.top) × ((from ≤ to) × (to ≤ length s.now)))) }
-    ensures { GoesOn with_returned s.now
-        (mem text.old store.old ends.old) (mem text.new store.new ends.new) p n from to result }
+fn template_function(d: &mut Demangler, n: usize, cv: Part) -> Result<usize, Refusal>
+    requires { (Prepared d.old) × ((n ≤ most_text_bytes) × ((n ≤ d.old.stack.top) × Within d.old.s.now cv)) }
+    ensures { Going with_returned d.old d.new n cv result }
 {
-    let got = cycle::ty(s, text, store, ends, p);
-    let Read::Text(last, r) = got else {
-        return got;
-    };
-    let next = memory::turned(text, last, n, r);
-    function(s, text, store, ends, next, r + 1 + n, from, to)
+    let r = ty(d)?;
+    d.turned(n, r);
+    function(d, r + 1 + n, cv)
 }
 
 // The parameters behind a name of n bytes.
-fn function(
-    s: &[u8],
-    text: &mut [u8],
-    store: &mut [u8],
-    ends: &mut [u16],
-    p: Parser,
-    n: usize,
-    from: usize,
-    to: usize,
-) -> Read
-    requires { (Ready s.now (mem text.old store.old ends.old) p) × ((n ≤ most_text_bytes + 1 + most_text_bytes) × ((from ≤ to) × (to ≤ length s.now))) }
-    ensures { GoesOn with_parameters s.now
-        (mem text.old store.old ends.old) (mem text.new store.new ends.new) p n from to result }
+fn function(d: &mut Demangler, n: usize, cv: Part) -> Result<usize, Refusal>
+    requires { (Prepared d.old) × ((n ≤ most_text_bytes + 1 + most_text_bytes) × Within d.old.s.now cv) }
+    ensures { Going with_parameters d.old d.new n cv result }
 {
-    let open = memory::put(text, p, b"(");
-    let list = cycle::items(s, text, store, ends, open, Kind::Parameters);
-    let Texts::Listed(last, m, count) = list else {
-        return lists::refused(list);
-    };
-    if lone_void(s, text, last, m, count) {
-        let bare = memory::cut(text, last, 4, 0);
-        let close = memory::put(text, bare, b")");
-        return qualified(s, text, close, n + 2, from, to);
+    d.stack.put(b"(");
+    let list = items(d, Kind::Parameters)?;
+    if lone_void(d, list) {
+        d.stack.cut(4, 0);
+        d.stack.put(b")");
+        return qualified(d, n + 2, cv);
     }
-    if Parser::TEXT < m {
-        return Read::Refused(Refusal::LongText);
-    }
-    let close = memory::put(text, last, b")");
-    qualified(s, text, close, n + m + 2, from, to)
+    let m = given(list.n)?;
+    d.stack.put(b")");
+    qualified(d, n + m + 2, cv)
 }
 
-// Whether the parameters, of n bytes, are a void alone at the end of the symbol.
-fn lone_void(s: &[u8], text: &[u8], p: Parser, n: usize, count: usize) -> bool
-    requires { (Stack text.now p.top) × ((p.at ≤ length s.now) × (min n most_entry_bytes ≤ p.top)) }
-    ensures { LoneVoid s.now text.now p n count result }
+// Whether the parameters are a void alone at the end of the symbol.
+fn lone_void(d: &Demangler, list: Joined) -> bool
+    requires { (d.now.state.at ≤ length d.now.s.now) × (min list.n most_entry_bytes ≤ d.now.stack.top) }
+    ensures { LoneVoid d.now list result }
 {
-    if count != 1 {
-        return false;
-    }
-    if n != 4 {
-        return false;
-    }
-    if p.at < s.len() {
-        return false;
-    }
-    let top = p.top;
-    stack::same(text, top, 4, b"void")
+    list.count == 1
+        && list.n == 4
+        && d.state.at == d.s.len()
+        && d.stack.newest(4) == b"void".as_slice()
 }
 
 // A text of n bytes is returned with what the qualifiers print.
-fn qualified(s: &[u8], text: &mut [u8], p: Parser, n: usize, from: usize, to: usize) -> Read
-    requires { (Stack text.old p.top) × ((n ≤ most_length) × ((from ≤ to) × (to ≤ length s.now))) }
-    ensures { Qualifies s.now text.old text.new p n from to result }
+fn qualified(d: &mut Demangler, n: usize, cv: Part) -> Result<usize, Refusal>
+    requires { (n ≤ most_length) × Within d.old.s.now cv }
+    ensures { Qualified d.old d.new n cv result }
 {
-    let mut next = p;
     let mut size = n;
-    for c in &s[from..to] {
+    for c in &d.s[cv.from..cv.to] {
         if let Some(word) = codes::qualifier(*c) {
-            next = memory::put(text, next, word);
-            size = memory::sum(size, word.len());
+            d.stack.put(word);
+            size = sum(size, word.len());
         }
     }
-    memory::given(next, size)
+    given(size)
 }

@@ -1,95 +1,49 @@
 // <special-name> ::= T <call-offset> <base encoding>: thunks.
 ghost use Rattle.std.specs.Prelude.{◌≤◌, length};
 ghost use Rattle.grammar.specs.Limits.{most_text_bytes};
-ghost use Rattle.grammar.specs.Words.{longest_word};
-ghost use Rattle.grammar.specs.Reader.{Result, onto, start, cases};
-ghost use Rattle.grammar.specs.Grammar.{reading, unsigned, offset, labelled, thunks, function_or_data};
-ghost use Rattle.parser.specs.Holds.{mem, window, keep};
-ghost use Rattle.encoding.specs.Encodings.{Fresh, Encodes, StepsOver, SteppedFrom, two_offsets};
+ghost use Rattle.grammar.specs.Reader.{start, cases};
+ghost use Rattle.grammar.specs.Grammar.{reading, offset, thunks, function_or_data};
+ghost use Rattle.encoding.specs.Encodings.{Begun, Encoded, StepsOver};
 
-use crate::functions;
+use crate::functions::function_or_data;
+use grammar::numbers::digits;
 use grammar::refusal::Refusal;
-use grammar::state::{Eaten, Parser, Read};
-use grammar::{numbers, text as bytes};
-use parser::memory;
+use parser::demangler::Demangler;
+use parser::memory::given;
 
 // a thunk, or a function or data
-pub fn thunk_or_function(
-    s: &[u8],
-    text: &mut [u8],
-    store: &mut [u8],
-    ends: &mut [u16],
-    p: Parser,
-) -> Read
-    requires { (length s.now ≤ most_text_bytes) × Fresh (mem text.old store.old ends.old) p }
-    ensures { Encodes (keep 0) s.now (window (mem text.old store.old ends.old) p)
-        (mem text.new store.new ends.new) result (cases (thunks reading) (function_or_data reading) (start s.now)) }
+pub fn thunk_or_function(d: &mut Demangler) -> Result<usize, Refusal>
+    requires { (length d.old.s.now ≤ most_text_bytes) × Begun d.old }
+    ensures { Encoded d.old d.new result (cases (thunks reading) (function_or_data reading) (start d.old.s.now)) }
 {
-    if bytes::starts_with(s, 0, b"Th") {
-        let stepped = offset(s, p.moved(2));
-        return thunk(s, text, store, ends, stepped, b"non-virtual thunk to ");
-    }
-    if bytes::starts_with(s, 0, b"Tv") {
-        let stepped = two_offsets(s, p.moved(2));
-        return thunk(s, text, store, ends, stepped, b"virtual thunk to ");
-    }
-    functions::function_or_data(s, text, store, ends, p)
-}
-
-// the offsets of Tv, one behind the other
-fn two_offsets(s: &[u8], p: Parser) -> Eaten
-    ensures { StepsOver two_offsets s.now p result }
-{
-    let first = offset(s, p);
-    let Eaten::Next(second) = first else {
-        return first;
+    let label: &[u8] = match d.s {
+        [b'T', b'h', ..] => {
+            d.state.at = 2;
+            offset(d)?;
+            b"non-virtual thunk to "
+        }
+        [b'T', b'v', ..] => {
+            d.state.at = 2;
+            offset(d)?;
+            offset(d)?;
+            b"virtual thunk to "
+        }
+        _ => return function_or_data(d),
     };
-    offset(s, second)
+    d.stack.put(label);
+    let n = function_or_data(d)?;
+    given(n + label.len())
 }
 
 // an offset, with n in front for minus, and its _
-fn offset(s: &[u8], p: Parser) -> Eaten
-    ensures { StepsOver offset s.now p result }
+fn offset(d: &mut Demangler) -> Result<(), Refusal>
+    ensures { StepsOver offset d.old d.new result }
 {
-    let Eaten::Next(number) = p.eat(s, b'n') else {
-        return unsigned(s, p);
-    };
-    unsigned(s, number)
-}
-
-// one or more digits, and _
-fn unsigned(s: &[u8], p: Parser) -> Eaten
-    ensures { StepsOver unsigned s.now p result }
-{
-    let at = p.at;
-    let end = numbers::digits::<10>(s, at).next;
-    if end == at {
-        return Eaten::Nothing;
+    let _ = d.eat(b'n');
+    let digits = digits::<10>(d.s, d.state.at);
+    if digits.next == d.state.at {
+        return Err(Refusal::NoRule);
     }
-    p.moved(end).eat(s, b'_')
-}
-
-// A function or data behind offsets that were stepped over, with a label before it.
-fn thunk(
-    s: &[u8],
-    text: &mut [u8],
-    store: &mut [u8],
-    ends: &mut [u16],
-    stepped: Eaten,
-    label: &[u8],
-) -> Read
-    requires { (length label.now ≤ longest_word) × ((p : Parser) × ((x : Result (Unit {0})) × SteppedFrom s.now (mem text.old store.old ends.old) p stepped x)) }
-    ensures { (p : Parser) (x : Result (Unit {0})) → SteppedFrom s.now (mem text.old store.old ends.old) p stepped x →
-        Encodes (keep 0) s.now (window (mem text.old store.old ends.old) p)
-        (mem text.new store.new ends.new) result (onto (λ _. labelled label.now (function_or_data reading)) x) }
-{
-    let Eaten::Next(p) = stepped else {
-        return Read::Refused(Refusal::NoRule);
-    };
-    let labelled = memory::put(text, p, label);
-    let got = functions::function_or_data(s, text, store, ends, labelled);
-    let Read::Text(next, n) = got else {
-        return got;
-    };
-    memory::given(next, n + label.len())
+    d.state.at = digits.next;
+    d.need(b'_')
 }

@@ -11,8 +11,7 @@ use Rattle.std.proofs.Math.ListN.{get_elem?}
 use Rattle.grammar.specs.Text.{Text, b, if◌then◌otherwise◌, choose, same, starts, holds, ends, run, join, each, after_last, digit, number, decimal}
 use Rattle.grammar.specs.Tables.{Row, ◌⇒◌, letters, d_letters, operators, labels, abbreviations, qualifiers, wrappers, suffixes}
 use Rattle.grammar.specs.Reader.{refused, Reader, onto, ◌>>=◌, ◌>>◌, return, refuse, unfit, start, the, ahead, go_to, set_args, set_cv, set_templated}
-use Rattle.grammar.specs.Reader.{push_sub, push_arg, give, recorded, entered, word_for, by_code, cases, at_code, eat, need, see, any, every, while}
-use Rattle.grammar.specs.Reader.{up_to_E, one_more}
+use Rattle.grammar.specs.Reader.{push_sub, push_arg, give, recorded, entered, word_for, by_code, cases, at_code, eat, need, see, any, every, while, up_to_E, one_more}
 
 pub data Production : Type 0 where
   ⟨encoding⟩ ⟨name⟩ ⟨nested-name⟩ ⟨unqualified-name⟩ ⟨source-name⟩ ⟨operator-name⟩ : Production

@@ -14,3 +14,4 @@ pub mod Alike
 pub mod Thunks
 pub mod Longer
 pub mod States
+pub mod Parsers

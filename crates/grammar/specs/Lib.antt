@@ -9,4 +9,5 @@ pub mod Loops
 pub mod Numbers
 pub mod Words
 pub mod States
+pub mod Parsers
 pub mod Laws

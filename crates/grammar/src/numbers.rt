@@ -19,9 +19,9 @@ pub fn digit_value(c: u8) -> u64
     ensures { result ≡ digit_value c }
 {
     match c {
-        b'0'..=b'9' => (c - b'0') as u64,
-        b'A'..=b'Z' => (c - b'A' + 10) as u64,
-        b'a'..=b'z' => (c - b'a' + 10) as u64,
+        b'0'..=b'9' => u64::from(c - b'0'),
+        b'A'..=b'Z' => u64::from(c - b'A' + 10),
+        b'a'..=b'z' => u64::from(c - b'a' + 10),
         _ => 36,
     }
 }

@@ -2,7 +2,7 @@
 use Rattle.std.specs.Prelude.{Bool, false, ◌≡◌, ℕ, ◌-◌, ◌≤◌, ◌<◌, min, length, drop, Option, Some, None}
 use Rattle.grammar.specs.Text.{Text, choose}
 use Rattle.grammar.specs.Numbers.{most}
-use Rattle.grammar.specs.declared.state.Part.{Part}
+use Rattle.grammar.specs.declared.part.Part.{Part}
 use Rattle.catalogue.specs.Tree.{Kind, Ty, lit, kind_code}
 use Rattle.catalogue.specs.Class.{lit_ok}
 use Rattle.catalogue.specs.Recogniser.{Rd, rd, stop, with_code, all_kinds}

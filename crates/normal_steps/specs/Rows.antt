@@ -2,7 +2,7 @@
 use Rattle.std.specs.Prelude.{List, [], ◌∷◌, ◌++◌, ℕ, zero, suc, ◌+◌, ◌*◌, ◌≤◌, ◌<◌, length, get_or}
 use Rattle.grammar.specs.Text.{Text}
 use Rattle.normal_nodes.specs.Nodes.{Node, node}
-use Rattle.grammar.specs.declared.state.Part.{Part}
+use Rattle.grammar.specs.declared.part.Part.{Part}
 use Rattle.normal_steps.specs.Parts.{part}
 use Rattle.normal_steps.specs.declared.state.Row.{Row}
 

@@ -61,6 +61,7 @@ pub fn wrapper(c: u8) -> bool
     }
 }
 
+#[tactic(auto, using(std::proofs::lemmas::Bool::Decides::nat_tests), unfolding(crate::specs::Laws::Leads::classes))]
 pub fn lead_of(c: u8) -> Lead
     ensures { result ≡ class (lead c) }
 {

@@ -39,6 +39,7 @@ fn canonical(digits: &[u8]) -> bool
 }
 
 // [<seq-id>] _, behind S
+#[tactic(auto, using(grammar::specs::Laws::Places::starts_inside))]
 pub fn reference(s: &[u8], at: usize) -> Option<Referred>
     ensures { RefIs s.now at result }
 {
@@ -67,6 +68,7 @@ fn numeral(digits: &[u8]) -> bool
 }
 
 // Whether the digits are a value of the kind.
+#[tactic(auto, using(crate::specs::Laws::Leaves::values))]
 fn value_ok(kind: u8, minus: bool, digits: &[u8]) -> bool
     requires { all (digit 10) digits.now ≡ true }
     ensures { result ≡ valid_by kind minus digits.now }
@@ -80,6 +82,7 @@ fn value_ok(kind: u8, minus: bool, digits: &[u8]) -> bool
 }
 
 // <digits> E
+#[tactic(auto, using(grammar::specs::Laws::Places::starts_inside))]
 fn value(s: &[u8], kind: u8, minus: bool, from: usize) -> Option<Valued>
     ensures { ValueIs s.now kind minus from result }
 {

@@ -13,8 +13,9 @@ ghost use Rattle.normal_steps.specs.Chains.{bucket_of, Findable};
 ghost use Rattle.normal_steps.specs.Carries.{Held, Ready, Tag, Numbered, Stretch, Room, Steps, Does, Puts, notes_node};
 
 use crate::state::{Row, Writer};
-use crate::{words, write};
-use grammar::state::{Parser, Part};
+use crate::write;
+use grammar::part::Part;
+use grammar::state::Parser;
 use grammar::text;
 
 // Two numbers of node n.
@@ -69,7 +70,7 @@ impl Writer<'_> {
         ensures same_symbol { self.new.s.now ≡ self.old.s.now }
     {
         let end = self.state.out;
-        self.state.out = write::write_name(self.out, end, self.s, p.from, p.to);
+        self.state.out = write::write_name(self.out, end, &self.s[p.from..p.to]);
     }
 
     // The tag of the tree with the number d.
@@ -78,7 +79,7 @@ impl Writer<'_> {
         ensures { Tag self.now d result }
     {
         match d.checked_sub(Writer::LEAST) {
-            Some(i) if i < self.state.nodes => self.ends[2 * i] as usize,
+            Some(i) if i < self.state.nodes => usize::from(self.ends[2 * i]),
             _ => 0,
         }
     }
@@ -88,7 +89,7 @@ impl Writer<'_> {
         requires { (i < self.now.state.table) × Ready self.now }
         ensures { (σ : Notes) → Held self.now σ → (get_elem? σ.table i ≡ some result) × Numbered self.now.state result }
     {
-        self.tables[i] as usize
+        usize::from(self.tables[i])
     }
 
     // Whether the newest entry of the table is d.
@@ -97,7 +98,7 @@ impl Writer<'_> {
         ensures { (σ : Notes) → Held self.now σ → result ≡ note_last_is d σ.table }
     {
         let n = self.state.table;
-        n != 0 && d == self.tables[n - 1] as usize
+        n != 0 && d == usize::from(self.tables[n - 1])
     }
 
     // Where what has the number d is in the table, its reference takes the place of what was written from `from` on.
@@ -106,7 +107,7 @@ impl Writer<'_> {
         ensures does { Does 0 0 5 from (settled d from) self.old self.new }
         ensures same_symbol { self.new.s.now ≡ self.old.s.now }
     {
-        let kept = self.tables[Writer::MIDDLE + (d - Writer::LEAST)] as usize;
+        let kept = usize::from(self.tables[Writer::MIDDLE + (d - Writer::LEAST)]);
         if let Some(i) = kept.checked_sub(1) {
             self.state.out = write::write_reference(self.out, from, i);
         }
@@ -137,14 +138,14 @@ impl Writer<'_> {
     {
         let mut sum = x.of % Parser::SYMBOL;
         for c in &self.s[x.word.from..x.word.to] {
-            sum = (9 * sum + *c as usize) % Parser::SYMBOL;
+            sum = (9 * sum + usize::from(*c)) % Parser::SYMBOL;
         }
         // the tag last, so that a class and a literal never meet
         (8 * sum + x.tag) % Parser::SYMBOL
     }
 
     // Whether node i is that one.
-    #[tactic(auto, unfolding(normal_nodes::specs::Nodes::same_node))]
+    #[tactic(auto, using(crate::specs::Laws::Tests::same_is), unfolding(normal_nodes::specs::Nodes::same_node))]
     fn same_row(&self, i: usize, x: Row) -> bool
         requires { ((2 * i + 2 ≤ length self.now.ends.now) × (2 * i + 2 ≤ length self.now.words.now))
             × (((get_or self.now.words.now (2 * i) 0 ≤ get_or self.now.words.now (2 * i + 1) 0)
@@ -152,10 +153,10 @@ impl Writer<'_> {
         ensures { result ≡ same_node (node_of self.now.s.now x) (node_at self.now.s.now self.now.ends.now self.now.words.now i) }
     {
         let at = 2 * i;
-        let (from, to) = (self.words[at] as usize, self.words[at + 1] as usize);
-        x.tag == self.ends[at] as usize
-            && x.of == self.ends[at + 1] as usize
-            && words::same_word(self.s, x.word.from, x.word.to, from, to)
+        let (from, to) = (usize::from(self.words[at]), usize::from(self.words[at + 1]));
+        x.tag == usize::from(self.ends[at])
+            && x.of == usize::from(self.ends[at + 1])
+            && self.s[x.word.from..x.word.to] == self.s[from..to]
     }
 
     // The place of a node: along the chain of its bucket, which falls. What `chains` had before may stand at its end and lead to other nodes,
@@ -167,13 +168,13 @@ impl Writer<'_> {
             self.now.state.nodes result }
     {
         let mut bound = self.state.nodes;
-        let mut i = self.chains[head] as usize;
+        let mut i = usize::from(self.chains[head]);
         while i < bound {
             if self.same_row(i, x) {
                 return Some(i);
             }
             bound = i;
-            i = self.chains[Writer::MIDDLE + i] as usize;
+            i = usize::from(self.chains[Writer::MIDDLE + i]);
         }
         None
     }

@@ -2,7 +2,8 @@
 ghost use Rattle.std.specs.Prelude.{◌≡◌};
 ghost use Rattle.normal_steps.specs.States.{begun_at};
 
-use grammar::state::{Parser, Part};
+use grammar::part::Part;
+use grammar::state::Parser;
 
 // What the writing has come to.
 #[derive(Clone, Copy)]

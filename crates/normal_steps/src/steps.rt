@@ -6,16 +6,16 @@ ghost use Rattle.normal_steps.specs.Carries.{at_literal, at_part, counts_arg, wr
 
 use crate::state::{Row, Writer};
 use crate::{marks, words};
-use grammar::state::Part;
+use grammar::part::Part;
 
 // The number of a literal's kind and sign.
 fn signed(kind: u8, minus: bool) -> usize
     ensures { result ≡ signed_kind kind minus }
 {
     if minus {
-        kind as usize + Writer::LEAST
+        usize::from(kind) + Writer::LEAST
     } else {
-        kind as usize
+        usize::from(kind)
     }
 }
 
@@ -23,7 +23,7 @@ fn signed(kind: u8, minus: bool) -> usize
 fn one_of(tag: usize, a: u8, b: u8) -> bool
     ensures { result ≡ (eqb tag a || eqb tag b) }
 {
-    tag == a as usize || tag == b as usize
+    tag == usize::from(a) || tag == usize::from(b)
 }
 
 // Whether a wrapper, whose byte is q, may stand on what has the tag.
@@ -31,9 +31,9 @@ fn one_of(tag: usize, a: u8, b: u8) -> bool
 fn may_stand(q: u8, tag: usize) -> bool
     ensures { result ≡ may_stand q tag }
 {
-    let references = one_of(q as usize, b'R', b'O') && one_of(tag, b'R', b'O');
-    let qualifiers = one_of(q as usize, b'K', b'V') && one_of(tag, b'K', b'V');
-    tag != b'L' as usize && !references && !qualifiers
+    let references = one_of(usize::from(q), b'R', b'O') && one_of(tag, b'R', b'O');
+    let qualifiers = one_of(usize::from(q), b'K', b'V') && one_of(tag, b'K', b'V');
+    tag != usize::from(b'L') && !references && !qualifiers
 }
 
 // Whether what has the tag is a class without arguments at its end, and whether it is a class.
@@ -82,7 +82,7 @@ impl Writer<'_> {
         self.state.at = word.to;
         self.put_name(word);
         let u = self.note(Row {
-            tag: b'0' as usize,
+            tag: usize::from(b'0'),
             of: 0,
             word,
         });
@@ -120,7 +120,7 @@ impl Writer<'_> {
         self.put_byte(b'L');
         self.put_part(Part { from: at, to });
         let u = self.note(Row {
-            tag: b'L' as usize,
+            tag: usize::from(b'L'),
             of: signed(literal.kind, literal.minus),
             word: Part {
                 from: literal.from,
@@ -140,7 +140,7 @@ impl Writer<'_> {
         self.state.at = word.to;
         self.put_name(word);
         let u = self.note(Row {
-            tag: b'N' as usize,
+            tag: usize::from(b'N'),
             of: t,
             word,
         });
@@ -172,7 +172,7 @@ impl Writer<'_> {
             return None;
         }
         let u = self.note(Row {
-            tag: c as usize,
+            tag: usize::from(c),
             of: t,
             word: Part { from: 0, to: 0 },
         });
@@ -196,7 +196,7 @@ impl Writer<'_> {
         ensures does { Does 0 1 5 from (entered_nested u from) self.old self.new }
         ensures same_symbol { self.new.s.now ≡ self.old.s.now }
     {
-        if self.tag_of(u) == b'N' as usize && self.newest(u) {
+        if self.tag_of(u) == usize::from(b'N') && self.newest(u) {
             self.settle(u, from);
             return;
         }

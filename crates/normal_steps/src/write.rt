@@ -1,9 +1,8 @@
 // References and source names, written.
-ghost use Rattle.std.specs.Prelude.{◌≡◌, suc, ◌+◌, ◌-◌, ◌*◌, ◌/◌, ◌%◌, ◌≤◌, ◌<◌, length};
+ghost use Rattle.std.specs.Prelude.{◌≡◌, suc, ◌+◌, ◌*◌, ◌/◌, ◌%◌, ◌≤◌, ◌<◌, length};
 ghost use Rattle.grammar.specs.Text.{decimal};
 ghost use Rattle.grammar.specs.Limits.{most_symbol_bytes};
 ghost use Rattle.catalogue.specs.Spelling.{digit_of, base36, ref_bytes, name_bytes};
-ghost use Rattle.normal_steps.specs.Parts.{part};
 ghost use Rattle.normal_steps.specs.WrittenAt.{WrittenAt};
 
 use grammar::{numbers, text};
@@ -108,13 +107,11 @@ fn write_decimal(out: &mut [u8], at: usize, n: usize) -> usize
 }
 
 // The length of an identifier and its bytes.
-pub fn write_name(out: &mut [u8], at: usize, s: &[u8], from: usize, to: usize) -> usize
-    requires { (from ≤ to) × ((to ≤ length s.now) × ((to - from ≤ most_symbol_bytes)
-        × (at + length (name_bytes (part s.now from to)) ≤ length out.old))) }
-    ensures { WrittenAt out.old out.new at result (name_bytes (part s.now from to)) }
+pub fn write_name(out: &mut [u8], at: usize, word: &[u8]) -> usize
+    requires { (length word.now ≤ most_symbol_bytes) × (at + length (name_bytes word.now) ≤ length out.old) }
+    ensures { WrittenAt out.old out.new at result (name_bytes word.now) }
 {
-    let n = to - from;
-    let next = write_decimal(out, at, n);
-    text::copy(out, next, &s[from..to]);
-    next + n
+    let next = write_decimal(out, at, word.len());
+    text::copy(out, next, word);
+    next + word.len()
 }

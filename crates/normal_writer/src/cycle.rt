@@ -23,7 +23,7 @@ pub fn ty(w: &mut Writer) -> Option<usize>
     match lead::lead_of(c) {
         Lead::Letter => {
             w.copy_byte();
-            Some(c as usize)
+            Some(usize::from(c))
         }
         Lead::Wrap => wrap(w, c),
         Lead::Digit => named(w),
@@ -85,7 +85,7 @@ fn with_args(w: &mut Writer, t: usize, from: usize) -> Option<usize>
     if !text::here(w.s, w.state.at, b'I') {
         return Some(t);
     }
-    if w.tag_of(t) != b'0' as usize {
+    if w.tag_of(t) != usize::from(b'0') {
         return None;
     }
     w.copy_byte();
@@ -148,7 +148,7 @@ pub fn parts(w: &mut Writer) -> Option<usize>
             if !steps::class(tag) {
                 return None;
             }
-            more(w, t, tag == b'0' as usize, from)
+            more(w, t, tag == usize::from(b'0'), from)
         }
         _ => None,
     }

@@ -71,7 +71,7 @@ fn types(w: &mut Writer) -> Option<()>
 {
     while w.state.at < w.s.len() {
         let t = cycle::ty(w)?;
-        if w.tag_of(t) == b'L' as usize {
+        if w.tag_of(t) == usize::from(b'L') {
             return None;
         }
     }

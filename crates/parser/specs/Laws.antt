@@ -1,5 +1,6 @@
 -- Laws: propositions between definitions and code, and their proofs. Nothing here has to be believed.
 pub mod Holds
+pub mod Demanglers
 pub mod Tags
 pub mod Unnamed
 pub mod Decimals

@@ -2,6 +2,8 @@ pub mod Holds
 pub mod Halves
 pub mod Wraps
 pub mod Adds
+pub mod Recalls
+pub mod Demanglers
 pub mod Source
 pub mod References
 pub mod Leaves

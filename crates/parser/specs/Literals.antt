@@ -1,25 +1,23 @@
 -- How a literal is printed: by the text of its type, and what is put on the stack for its value.
-use Rattle.std.specs.Prelude.{List, ◌++◌, ℕ, ◌+◌, ◌≤◌, length, drop}
+use Rattle.std.specs.Prelude.{◌++◌, ◌≡◌, ℕ, ◌+◌, ◌≤◌, true, false, length, take, drop}
+use Rattle.std.specs.Borrow.{Bor}
+use Rattle.std.proofs.Math.Option.{none, some}
 use Rattle.grammar.specs.Text.{Text, b, if◌then◌otherwise◌, same, starts}
-use Rattle.grammar.specs.Limits.{most_text_bytes, most_entry_bytes}
-use Rattle.grammar.specs.Reader.{State, give}
-use Rattle.store.specs.Stack.{Stack}
-use Rattle.grammar.specs.declared.state.Parser.{Parser}
-use Rattle.grammar.specs.declared.state.Read.{Read}
+use Rattle.grammar.specs.Limits.{most_text_bytes, kept_bytes}
+use Rattle.grammar.specs.Tables.{suffixes}
+use Rattle.grammar.specs.Reader.{State, word_for}
+use Rattle.store.specs.Stack.{Tail}
+use Rattle.store.specs.declared.stack.Stack.{Stack}
+use Rattle.grammar.specs.States.{Progress, raised_to}
 use Rattle.parser.specs.declared.literal.Kind.{Kind}
 use Rattle.parser.specs.declared.literal.Kind.TheVariants.{Truth, Suffix, Cast}
-use Rattle.parser.specs.Holds.{mem, Stands, Refines}
+use Rattle.parser.specs.Holds.{Halves, mem, Stands}
 
--- how a literal is printed, by its type's text: a suffix is a part of ull
-unfoldable pub kind_of : Text → Kind
-kind_of t =
-    if same t (b "bool") then Truth otherwise
-    if same t (b "int") then Suffix 0 0 otherwise
-    if same t (b "long") then Suffix 1 2 otherwise
-    if same t (b "unsigned int") then Suffix 0 1 otherwise
-    if same t (b "unsigned long") then Suffix 0 2 otherwise
-    if same t (b "long long") then Suffix 1 3 otherwise
-    if same t (b "unsigned long long") then Suffix 0 3 otherwise Cast
+-- how a literal is printed whose type's text is t: by its row of the table of suffixes, if there is one
+pub data KindOf (t : Text) : Kind → Type 0 where
+  truth : same t (b "bool") ≡ true → KindOf t Truth
+  suffix : {w : Bor Text} → same t (b "bool") ≡ false → word_for suffixes t ≡ some w.now → KindOf t (Suffix w)
+  cast : same t (b "bool") ≡ false → word_for suffixes t ≡ none → KindOf t Cast
 
 -- a value with - for n in front
 unfoldable pub signed : Text → Text
@@ -29,17 +27,13 @@ signed v = if starts v (b "n") then b "-" ++ drop 1 v otherwise v
 unfoldable pub truth_of : Text → Text
 truth_of v = if same (signed v) (b "1") then b "true" otherwise b "false"
 
--- the newest text was put in parentheses
-pub record Encloses (text text' : Text) (p p' : Parser) (n : ℕ) : Type 0 where
-  pub stack : Stack text' p'.top
-  pub stands :
-      {k d : ℕ} {s base : Text} {from : ℕ} {store ends : List ℕ} {t : Text} {σ : State} →
-      length t ≤ most_text_bytes → Stands k d s base from (mem text store ends) p n t σ →
-      Stands k d s base from (mem text' store ends) p' (n + 2) (b "(" ++ t ++ b ")") σ
+-- the value was put on the stack, perhaps in two parts; the newest 34,816 bytes, at least, are there
+pub record PutsValue (v : Text) (k k' : Stack) : Type 0 where
+  pub tail : Tail kept_bytes (take k'.top k'.bytes.now) (take k.top k.bytes.now ++ signed v)
 
--- the newest text t, of at most so many bytes, was replaced by another, which is the answer
-abbrev pub Gives : Text → Text → Text → Parser → ℕ → Read → ℕ → (Text → Text) → Type 0
-Gives s text text' p n r most f =
-    (store ends : List ℕ) (k d : ℕ) (base : Text) (from : ℕ) (t : Text) (σ : State) →
-    Stands (k + 18) d s base from (mem text store ends) p n t σ → length t ≤ most → most_entry_bytes ≤ k →
-    Refines k d s base from (mem text' store ends) r (give (f t) σ)
+-- the newest n bytes were put in parentheses
+pub record Encloses (n : ℕ) (k k' : Stack) : Type 0 where
+  pub stands :
+      (p : Progress) {l d : ℕ} {s base : Text} {from : ℕ} {store ends : Halves} {t : Text} {σ : State} →
+      length t ≤ most_text_bytes → Stands l d s base from (mem k.bytes.now store ends) (raised_to p k.top) n t σ →
+      Stands l d s base from (mem k'.bytes.now store ends) (raised_to p k'.top) (n + 2) (b "(" ++ t ++ b ")") σ

@@ -1,6 +1,7 @@
 // The readings that call no other reading back.
 #![tactic(auto)]
 
+pub mod demangler;
 pub mod leaf;
 pub mod literal;
 pub mod memory;

@@ -1,225 +1,179 @@
 // Source names, references and the other names that are made of letters and digits alone.
-ghost use Rattle.std.specs.Prelude.{◌≡◌, List, ◌∷◌, ℕ, ◌+◌, ◌≤◌, length};
+ghost use Rattle.std.specs.Prelude.{◌≡◌, ◌∷◌, ◌+◌, ◌≤◌, length};
 ghost use Rattle.std.proofs.Math.ListN.{get_elem?};
-ghost use Rattle.grammar.specs.Text.{Text, choose, decimal};
+ghost use Rattle.grammar.specs.Text.{choose, decimal};
 ghost use Rattle.grammar.specs.Limits.{most_text_bytes, kept_bytes};
 ghost use Rattle.grammar.specs.Reader.{give};
 ghost use Rattle.grammar.specs.Grammar.{⟨source-name⟩, ⟨template-param⟩, ⟨substitution⟩, unnamed_type_name, reading};
-ghost use Rattle.store.specs.Stack.{Stack};
-ghost use Rattle.parser.specs.Holds.{mem, Ready, Reads};
-ghost use Rattle.parser.specs.Adds.{Adds};
-ghost use Rattle.parser.specs.Source.{identified, closers, behind_number};
-ghost use Rattle.parser.specs.References.{entry_at};
+ghost use Rattle.parser.specs.Demanglers.{Prepared, Leaf};
+ghost use Rattle.parser.specs.Source.{identified, behind_number, Closes};
+ghost use Rattle.parser.specs.References.{entry_at, Indexes};
 
-use crate::memory;
-use grammar::numbers::Number;
+use crate::demangler::Demangler;
+use crate::memory::{given, sum};
+use grammar::codes;
+use grammar::numbers::{Number, digits, write_decimal};
+use grammar::part::Part;
 use grammar::refusal::Refusal;
-use grammar::state::{Eaten, Parser, Read, Taken};
 use grammar::text::{before, here};
-use grammar::{codes, numbers};
-
-#[derive(Clone, Copy)]
-pub enum Found {
-    Part(usize, usize),
-    Nothing,
-}
-
-// The identifier behind its length.
-pub fn identifier(s: &[u8], at: usize) -> Found
-    requires { (at ≤ length s.now) × (length s.now ≤ most_text_bytes) }
-    ensures { result ≡ identified s.now at }
-{
-    let length = numbers::digits::<10>(s, at);
-    let from = length.next;
-    if length.value == 0 {
-        return Found::Nothing;
-    }
-    let left = (s.len() - from) as u64;
-    if left < length.value {
-        return Found::Nothing;
-    }
-    let to = from + length.value as usize;
-    Found::Part(from, to)
-}
-
-// A closing bracket for each tag.
-fn close_tags(text: &mut [u8], p: Parser, tags: usize) -> Parser
-    requires { Stack text.old p.top }
-    ensures { Adds text.old text.new p result (closers tags) }
-{
-    let mut next = p;
-    let mut closed: usize = 0;
-    while closed < tags {
-        next = memory::put(text, next, b"]");
-        closed += 1;
-    }
-    next
-}
-
-// <source-name> ::= <positive length number> <identifier>
-// <abi-tags> ::= B <source-name>
-pub fn source_name(s: &[u8], text: &mut [u8], p: Parser) -> Read
-    requires { (p.at ≤ length s.now) × ((length s.now ≤ most_text_bytes) × Stack text.old p.top) }
-    ensures { (store ends : List ℕ) → Reads (reading ⟨source-name⟩) kept_bytes (p.at + 1) s.now
-        (mem text.old store ends) (mem text.new store ends) p result }
-{
-    let mut next = p;
-    let mut n: usize = 0;
-    let mut tags: usize = 0;
-    loop {
-        let at = next.at;
-        let Found::Part(from, to) = identifier(s, at) else {
-            return Read::Refused(Refusal::NoRule);
-        };
-        let size = to - from;
-        next = memory::put_part(s, text, next.moved(to), from, to);
-        n = memory::sum(n, size);
-        let Eaten::Next(behind) = next.eat(s, b'B') else {
-            let done = close_tags(text, next, tags);
-            return memory::given(done, memory::sum(n, tags));
-        };
-        next = memory::put(text, behind, b"[abi:");
-        n = memory::sum(n, 5);
-        tags += 1;
-    }
-}
-
-// <substitution> ::= St | Sa | .. | S_ | S <seq-id> _
-pub fn substitution(s: &[u8], text: &mut [u8], store: &[u8], ends: &[u16], p: Parser) -> Read
-    requires { Ready s.now (mem text.old store.now ends.now) p }
-    ensures { Reads (reading ⟨substitution⟩) kept_bytes (p.at + 1) s.now
-        (mem text.old store.now ends.now)
-        (mem text.new store.now ends.now) p result }
-{
-    let Eaten::Next(behind) = p.eat(s, b'S') else {
-        return Read::Refused(Refusal::NoRule);
-    };
-    let Taken::Byte(c, next) = behind.take(s) else {
-        return Read::Refused(Refusal::NoRule);
-    };
-    let Some(name) = codes::abbreviation(c) else {
-        return old_entry(s, text, store, ends, behind);
-    };
-    word(text, next, name)
-}
-
-// S_ | S <seq-id> _, behind S
-fn old_entry(s: &[u8], text: &mut [u8], store: &[u8], ends: &[u16], p: Parser) -> Read
-    requires { Ready s.now (mem text.old store.now ends.now) p }
-    ensures { Reads entry_at kept_bytes p.at s.now
-        (mem text.old store.now ends.now)
-        (mem text.new store.now ends.now) p result }
-{
-    let at = p.at;
-    let number = numbers::digits::<36>(s, at);
-    let end = number.next;
-    let Eaten::Next(next) = p.moved(end).eat(s, b'_') else {
-        return Read::Refused(Refusal::NoRule);
-    };
-    if end == at {
-        return memory::recall(text, store, ends, next, 0);
-    }
-    if Parser::ENTRIES as u64 <= number.value {
-        return Read::Refused(Refusal::PastTable);
-    }
-    let k = number.value as usize + 1;
-    memory::recall(text, store, ends, next, k)
-}
-
-// A word, which is not too long to be returned.
-pub fn word(text: &mut [u8], p: Parser, word: &[u8]) -> Read
-    requires { (Stack text.old p.top) × (length word.now ≤ most_text_bytes) }
-    ensures { (s store ends : List ℕ) → Reads (give word.now) kept_bytes p.at s
-        (mem text.old store ends) (mem text.new store ends) p result }
-{
-    Read::Text(memory::put(text, p, word), word.len())
-}
-
-// <template-param> ::= T_ | T <number> _
-pub fn template_param(s: &[u8], text: &mut [u8], store: &[u8], ends: &[u16], p: Parser) -> Read
-    requires { Ready s.now (mem text.old store.now ends.now) p }
-    ensures { Reads (reading ⟨template-param⟩) kept_bytes (p.at + 1) s.now
-        (mem text.old store.now ends.now)
-        (mem text.new store.now ends.now) p result }
-{
-    let Eaten::Next(behind) = p.eat(s, b'T') else {
-        return Read::Refused(Refusal::NoRule);
-    };
-    let at = behind.at;
-    let number = numbers::digits::<10>(s, at);
-    let end = number.next;
-    let Eaten::Next(next) = behind.moved(end).eat(s, b'_') else {
-        return Read::Refused(Refusal::NoRule);
-    };
-    if end == at {
-        return argument(text, store, ends, next, 0);
-    }
-    if number.value == Number::PAST {
-        return Read::Refused(Refusal::NoRule);
-    }
-    let i = number.value + 1;
-    argument(text, store, ends, next, i)
-}
-
-// Template argument i, or T and i.
-pub fn argument(text: &mut [u8], store: &[u8], ends: &[u16], p: Parser, i: u64) -> Read
-    requires { (s : Text) × Ready s (mem text.old store.now ends.now) p }
-    ensures { (s : Text) → Reads (λ σ. choose (get_elem? σ.args i) give (give (84 ∷ decimal 20 i)) σ) kept_bytes p.at s
-        (mem text.old store.now ends.now)
-        (mem text.new store.now ends.now) p result }
-{
-    let args = p.args;
-    if i < args.count as u64 {
-        return memory::recall_arg(text, store, ends, p, i as usize);
-    }
-    number(text, p, i)
-}
-
-// T and the number in decimal.
-pub fn number(text: &mut [u8], p: Parser, i: u64) -> Read
-    requires { Stack text.old p.top }
-    ensures { (s store ends : List ℕ) → Reads (give (84 ∷ decimal 20 i)) kept_bytes p.at s
-        (mem text.old store ends) (mem text.new store ends) p result }
-{
-    let mut digits = [0u8; 21];
-    let first = numbers::write_decimal(&mut digits, 21, i);
-    let start = first - 1;
-    digits[start] = b'T';
-    let n = 21 - start;
-    Read::Text(memory::put(text, p, &digits[start..]), n)
-}
-
-// <unnamed-type-name> ::= Ut [<number>] _
-// <closure-type-name> ::= Ul <lambda-sig> E [<number>] _, behind U
-pub fn unnamed_type_name(s: &[u8], text: &mut [u8], p: Parser) -> Read
-    requires { Stack text.old p.top }
-    ensures { (store ends : List ℕ) → Reads unnamed_type_name kept_bytes p.at s.now
-        (mem text.old store ends) (mem text.new store ends) p result }
-{
-    let Taken::Byte(kind, behind) = p.take(s) else {
-        return Read::Refused(Refusal::NoRule);
-    };
-    let at = behind.at;
-    if kind == b'l' {
-        let end = before(s, at, b'E');
-        if s.len() <= end {
-            return Read::Refused(Refusal::NoRule);
-        }
-        let next = numbered(s, end + 1);
-        return Read::Text(memory::put(text, behind.moved(next), b"{lambda}"), 8);
-    }
-    let next = numbered(s, at);
-    Read::Text(memory::put(text, behind.moved(next), b"{unnamed}"), 9)
-}
 
 // The place behind digits and an underscore, if there are any.
 pub fn numbered(s: &[u8], at: usize) -> usize
     requires { at ≤ length s.now }
     ensures { (result ≡ behind_number s.now at) × (result ≤ length s.now) }
 {
-    let end = numbers::digits::<10>(s, at).next;
-    if here(s, end, b'_') {
-        return end + 1;
+    let end = digits::<10>(s, at).next;
+    if here(s, end, b'_') { end + 1 } else { end }
+}
+
+impl Demangler<'_> {
+    // The identifier behind its length.
+    fn identifier(&self) -> Option<Part>
+        requires { (self.now.state.at ≤ length self.now.s.now) × (length self.now.s.now ≤ most_text_bytes) }
+        ensures { result ≡ identified self.now.s.now self.now.state.at }
+    {
+        let length = digits::<10>(self.s, self.state.at);
+        let from = length.next;
+        if length.value == 0 {
+            return None;
+        }
+        let left = (self.s.len() - from) as u64;
+        if left < length.value {
+            return None;
+        }
+        Some(Part {
+            from,
+            to: from + length.value as usize,
+        })
     }
-    end
+
+    // A closing bracket for each tag.
+    fn close_tags(&mut self, tags: usize)
+        ensures { Closes tags self.old self.new }
+    {
+        for _ in 0..tags {
+            self.stack.put(b"]");
+        }
+    }
+
+    // <source-name> ::= <positive length number> <identifier>
+    // <abi-tags> ::= B <source-name>
+    pub fn source_name(&mut self) -> Result<usize, Refusal>
+        requires { (self.old.state.at ≤ length self.old.s.now) × (length self.old.s.now ≤ most_text_bytes) }
+        ensures { Leaf (reading ⟨source-name⟩) kept_bytes (self.old.state.at + 1) self.old self.new result }
+    {
+        let mut n: usize = 0;
+        let mut tags: usize = 0;
+        loop {
+            let part = self.identifier().ok_or(Refusal::NoRule)?;
+            self.state.at = part.to;
+            self.stack.put(&self.s[part.from..part.to]);
+            n = sum(n, part.to - part.from);
+            if !self.eat(b'B') {
+                self.close_tags(tags);
+                return given(sum(n, tags));
+            }
+            self.stack.put(b"[abi:");
+            n = sum(n, 5);
+            tags += 1;
+        }
+    }
+
+    // <substitution> ::= St | Sa | .. | S_ | S <seq-id> _
+    pub fn substitution(&mut self) -> Result<usize, Refusal>
+        requires { Prepared self.old }
+        ensures { Leaf (reading ⟨substitution⟩) kept_bytes (self.old.state.at + 1) self.old self.new result }
+    {
+        self.need(b'S')?;
+        let c = self.peek().ok_or(Refusal::NoRule)?;
+        let Some(word) = codes::abbreviation(c) else {
+            return self.old_entry();
+        };
+        self.state.at += 1;
+        self.stack.put(word);
+        Ok(word.len())
+    }
+
+    // A number by the base and its _, or _ alone: none. 4 where there is no _.
+    fn index<const BASE: u64>(&mut self) -> Result<Option<u64>, Refusal>
+        requires { 1 ≤ BASE }
+        ensures { Indexes BASE self.old self.new result }
+    {
+        let at = self.state.at;
+        let number = digits::<BASE>(self.s, at);
+        self.state.at = number.next;
+        self.need(b'_')?;
+        if number.next == at {
+            return Ok(None);
+        }
+        Ok(Some(number.value))
+    }
+
+    // S_ | S <seq-id> _, behind S
+    fn old_entry(&mut self) -> Result<usize, Refusal>
+        requires { Prepared self.old }
+        ensures { Leaf entry_at kept_bytes self.old.state.at self.old self.new result }
+    {
+        let k = match self.index::<36>()? {
+            None => 0,
+            Some(n) => n.saturating_add(1),
+        };
+        self.recall(k as usize)
+    }
+
+    // <template-param> ::= T_ | T <number> _
+    pub fn template_param(&mut self) -> Result<usize, Refusal>
+        requires { Prepared self.old }
+        ensures { Leaf (reading ⟨template-param⟩) kept_bytes (self.old.state.at + 1) self.old self.new result }
+    {
+        self.need(b'T')?;
+        let i = match self.index::<10>()? {
+            None => 0,
+            Some(Number::PAST) => return Err(Refusal::NoRule),
+            Some(n) => n + 1,
+        };
+        self.argument(i)
+    }
+
+    // Template argument i, or T and i.
+    fn argument(&mut self, i: u64) -> Result<usize, Refusal>
+        requires { Prepared self.old }
+        ensures { Leaf (λ σ. choose (get_elem? σ.args i) give (give (84 ∷ decimal 20 i)) σ) kept_bytes self.old.state.at self.old self.new result }
+    {
+        if i < self.args.count as u64 {
+            return self.recall_arg(i as usize);
+        }
+        Ok(self.number(i))
+    }
+
+    // T and the number in decimal.
+    fn number(&mut self, i: u64) -> usize
+        ensures { Leaf (give (84 ∷ decimal 20 i)) kept_bytes self.old.state.at self.old self.new (Ok result) }
+    {
+        let mut text = [0u8; 21];
+        let start = write_decimal(&mut text, 21, i) - 1;
+        text[start] = b'T';
+        self.stack.put(&text[start..]);
+        21 - start
+    }
+
+    // <unnamed-type-name> ::= Ut [<number>] _
+    // <closure-type-name> ::= Ul <lambda-sig> E [<number>] _, behind U
+    pub fn unnamed_type_name(&mut self) -> Result<usize, Refusal>
+        ensures { Leaf unnamed_type_name kept_bytes self.old.state.at self.old self.new result }
+    {
+        let kind = self.take()?;
+        if kind == b'l' {
+            let end = before(self.s, self.state.at, b'E');
+            if self.s.len() <= end {
+                return Err(Refusal::NoRule);
+            }
+            self.state.at = numbered(self.s, end + 1);
+            self.stack.put(b"{lambda}");
+            return Ok(8);
+        }
+        self.state.at = numbered(self.s, self.state.at);
+        self.stack.put(b"{unnamed}");
+        Ok(9)
+    }
 }

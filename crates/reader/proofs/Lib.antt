@@ -1,1 +1,9 @@
 pub mod Entries
+pub mod Passing
+pub mod TypeHeads
+pub mod Names
+pub mod Parts
+pub mod Spacings
+pub mod Literals
+pub mod Nested
+pub mod Angles

@@ -1,10 +1,8 @@
 -- A name or a type with its template arguments, and either of them at S: what the two share. Assumes nothing.
-use Rattle.std.specs.Prelude.{◌≡◌, Bool, true, false, []}
+use Rattle.std.specs.Prelude.{Bool, true, false, []}
 use Rattle.grammar.specs.Text.{Text}
 use Rattle.grammar.specs.Reader.{State, Reader}
 use Rattle.grammar.specs.Grammar.{reading, name_instance, type_instance, s_name, s_type}
-use Rattle.grammar.specs.declared.state.Parser.{Parser}
-use Rattle.parser.specs.Holds.{Memory, Holds}
 use Rattle.parser.specs.Halves.{with_args}
 use Rattle.parser.specs.Laws.Holds.{with_templated}
 
@@ -27,10 +25,3 @@ bare false σ = σ
 abbrev pub marked : Bool → State → State
 marked true σ = with_templated true σ
 marked false σ = σ
-
--- the next state holds f of what the state holds, at the same place, depth and height
-pub record Passes (f : State → State) (p r : Parser) : Type 0 where
-  pub at : r.at ≡ p.at
-  pub depth : r.depth ≡ p.depth
-  pub top : r.top ≡ p.top
-  pub holds : (s : Text) (m : Memory) (σ : State) → Holds s m p σ → Holds s m r (f σ)

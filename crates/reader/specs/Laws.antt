@@ -17,3 +17,4 @@ pub mod Funcs
 pub mod Separators
 pub mod Structors
 pub mod Instances
+pub mod Demanglers

@@ -1,361 +1,232 @@
-// Names, types, template arguments and literals. Each reading falls with the bytes that are left. The order is Grammar.antt's.
-// A file's name has at most 255 bytes, and the proof's folder bears the names of all members; so some are not the Rust's:
-//
-//   instance, at_s               shared by name_inner, std_prefixed and ty_inner: with arguments, at S
-//   plain                        name_inner, elsewhere than at N, S, L and Z
-//   loc_fn                       mangled_name_until_e, params_until_e
-//   px, px_arg, px_new, part     the loop of nested_name: a prefix, its arguments, a part that is an entry, a part's text
-//   unq, operator                unqualified_name, operator_name
-//   wrap, func, array, member    ty_inner: P R O C K V r, F, A, M
-//   nest_ty, class               ty_inner: N, a digit
-//   items, item                  the loops of template_args, params and params_until_e
-//   args, arg, pack              template_args, template_arg, J in template_arg
-//   lit                          expr_primary
-ghost use Rattle.std.specs.Prelude.{◌≡◌, ℕ, ◌+◌, ◌-◌, ◌<◌, ◌≤◌, min, true, List, ◌∷◌, drop};
-ghost use Rattle.grammar.specs.Limits.{most_entry_bytes, most_length};
+// Names, types, template arguments and literals, by the names of Grammar.antt and in its order. Each reading falls with the bytes that are left.
+// Some are not the Rust's: `instance` and `at_s` are shared by names and types, `items` and `item` are the loops of all lists.
+ghost use Rattle.std.specs.Prelude.{◌≡◌, ℕ, ◌+◌, ◌-◌, ◌<◌, ◌≤◌, true, List, ◌∷◌, length, drop};
+ghost use Rattle.grammar.specs.Limits.{most_text_bytes, most_entry_bytes};
 ghost use Rattle.grammar.specs.Grammar.{reading, ⟨type⟩, ⟨template-args⟩, ⟨template-arg⟩, ⟨expr-primary⟩, ⟨name⟩, ⟨nested-name⟩, ⟨unqualified-name⟩};
 ghost use Rattle.grammar.specs.Grammar.{⟨operator-name⟩, type_inner, array_type, function_type, pointer_to_member_type, nested_type, class_type, name_inner};
 ghost use Rattle.grammar.specs.Grammar.{unscoped_name, std_ahead, std_name, local_name, local_encoding, prefix, prefix_args, pack};
-ghost use Rattle.parser.specs.Holds.{mem, Ready, Reads, keep};
-ghost use Rattle.reader.specs.Cycle.{ReadsWrapped, Instance};
+ghost use Rattle.parser.specs.Holds.{keep};
+ghost use Rattle.parser.specs.Demanglers.{Prepared, Parses};
+ghost use Rattle.reader.specs.Cycle.{Wrapped, Instanced, Itemized, Item, Prefixed, PrefixedNew, PartText, BehindLetter, Structor};
 ghost use Rattle.reader.specs.Instances.{instance_of, at_S_of};
-ghost use Rattle.reader.specs.Lists.{ReadsItems, ReadsItem, ReadsPart, ReadsNewPart, ReadsPartText};
+ghost use Rattle.reader.specs.Lists.{PreparedFor};
 
-use crate::lists::{Kind, Parts, Prefix, Texts};
-use crate::{instances, lists};
+use crate::lists;
+use crate::lists::{Joined, Kind, PACKS, Parts};
+use grammar::part::Part;
 use grammar::refusal::Refusal;
-use grammar::state::{Eaten, Parser, Peeked, Read, Taken};
-use grammar::{codes, text as bytes};
-use parser::leaf::Skipped;
-use parser::{leaf, literal, memory, names, types};
+use grammar::{codes, text};
+use parser::demangler::Demangler;
+use parser::memory::{given, sum};
 
-// A name, or else a type, of x bytes with its arguments.
+// A name, or else a type, of x bytes with its arguments. The arguments of a name replace those so far; those of a type come on top.
 #[cycle(readers)]
-fn instance(
-    s: &[u8],
-    text: &mut [u8],
-    store: &mut [u8],
-    ends: &mut [u16],
-    p: Parser,
-    x: usize,
-    named: bool,
-) -> Read
-    requires { (Ready s.now (mem text.old store.old ends.old) p) × ((x ≤ most_entry_bytes) × (x ≤ p.top)) }
-    ensures { Instance (instance_of named) x s.now
-        (mem text.old store.old ends.old) (mem text.new store.new ends.new) p result }
+fn instance(d: &mut Demangler, x: usize, named: bool) -> Result<usize, Refusal>
+    requires { (Prepared d.old) × ((x ≤ most_entry_bytes) × (x ≤ d.old.stack.top)) }
+    ensures { Instanced (instance_of named) x d.old d.new result }
 {
-    let bare = instances::bare(p, named);
-    let got = args(s, text, store, ends, bare);
-    let Read::Text(next, n) = got else {
-        return got;
-    };
-    let marked = instances::marked(next, named);
-    memory::recorded(text, store, ends, marked, x + n)
+    if named {
+        d.args.clear();
+    }
+    let n = template_args(d)?;
+    if named {
+        d.state.templated = true;
+    }
+    d.recorded(x + n)
 }
 
 // <unscoped-name> ::= St <unqualified-name>
 #[cycle(readers)]
-fn std_prefixed(s: &[u8], text: &mut [u8], store: &mut [u8], ends: &mut [u16], p: Parser) -> Read
-    requires { (Ready s.now (mem text.old store.old ends.old) p) × (std_ahead (drop p.at s.now) ≡ true) }
-    ensures { Reads (std_name reading) (keep p.depth) (p.at + 1) s.now
-        (mem text.old store.old ends.old) (mem text.new store.new ends.new) p result }
+fn std_prefixed(d: &mut Demangler) -> Result<usize, Refusal>
+    requires { (Prepared d.old) × (std_ahead (drop d.old.state.at d.old.s.now) ≡ true) }
+    ensures { Parses (std_name reading) (keep d.old.state.depth) (d.old.state.at + 1) d.old d.new result }
 {
-    let at = p.at;
-    let prefixed = memory::put(text, p.moved(at + 2), b"std::");
-    let got = unq(s, text, store, ends, prefixed);
-    let Read::Text(next, m) = got else {
-        return got;
-    };
-    let n = m + 5;
-    let kept = memory::push_sub(text, store, ends, next, n);
-    let Read::Text(after, _) = kept else {
-        return kept;
-    };
-    let end = after.at;
-    if bytes::here(s, end, b'I') {
-        return instance(s, text, store, ends, after, n, true);
+    d.state.at += 2;
+    d.stack.put(b"std::");
+    let n = unqualified_name(d)? + 5;
+    d.push_sub(n)?;
+    if d.here(b'I') {
+        return instance(d, n, true);
     }
-    memory::given(after, n)
+    given(n)
 }
 
 // <name> or else <type> ::= <substitution> [<template-args>] | St <unqualified-name>, at S
 #[cycle(readers)]
-fn at_s(
-    s: &[u8],
-    text: &mut [u8],
-    store: &mut [u8],
-    ends: &mut [u16],
-    p: Parser,
-    named: bool,
-) -> Read
-    requires { Ready s.now (mem text.old store.old ends.old) p }
-    ensures { Reads (at_S_of named) (keep p.depth) (p.at + 1) s.now
-        (mem text.old store.old ends.old) (mem text.new store.new ends.new) p result }
+fn at_s(d: &mut Demangler, named: bool) -> Result<usize, Refusal>
+    requires { Prepared d.old }
+    ensures { Parses (at_S_of named) (keep d.old.state.depth) (d.old.state.at + 1) d.old d.new result }
 {
-    let at = p.at;
-    if leaf::std_ahead(s, at) {
-        return std_prefixed(s, text, store, ends, p);
+    if d.std_ahead() {
+        return std_prefixed(d);
     }
-    let got = names::substitution(s, text, store, ends, p);
-    let Read::Text(next, n) = got else {
-        return got;
-    };
-    let end = next.at;
-    if bytes::here(s, end, b'I') {
-        return instance(s, text, store, ends, next, n, named);
+    let n = d.substitution()?;
+    if d.here(b'I') {
+        return instance(d, n, named);
     }
-    got
+    Ok(n)
 }
 
 // <name> ::= <unscoped-name> [<template-args>]
 #[cycle(readers)]
-fn plain(s: &[u8], text: &mut [u8], store: &mut [u8], ends: &mut [u16], p: Parser) -> Read
-    requires { Ready s.now (mem text.old store.old ends.old) p }
-    ensures { Reads (unscoped_name reading) (keep p.depth) (p.at + 1) s.now
-        (mem text.old store.old ends.old) (mem text.new store.new ends.new) p result }
+fn plain(d: &mut Demangler) -> Result<usize, Refusal>
+    requires { Prepared d.old }
+    ensures { Parses (unscoped_name reading) (keep d.old.state.depth) (d.old.state.at + 1) d.old d.new result }
 {
-    let got = unq(s, text, store, ends, p);
-    let Read::Text(next, n) = got else {
-        return got;
-    };
-    let end = next.at;
-    if !bytes::here(s, end, b'I') {
-        return got;
+    let n = unqualified_name(d)?;
+    if !d.here(b'I') {
+        return Ok(n);
     }
-    let kept = memory::push_sub(text, store, ends, next, n);
-    let Read::Text(after, _) = kept else {
-        return kept;
-    };
-    instance(s, text, store, ends, after, n, true)
+    d.push_sub(n)?;
+    instance(d, n, true)
 }
 
 // <name> <type>* E
 #[cycle(readers)]
-fn loc_fn(s: &[u8], text: &mut [u8], store: &mut [u8], ends: &mut [u16], p: Parser) -> Read
-    requires { Ready s.now (mem text.old store.old ends.old) p }
-    ensures { Reads (local_encoding reading) (keep p.depth) (p.at + 1) s.now
-        (mem text.old store.old ends.old) (mem text.new store.new ends.new) p result }
+fn local_function(d: &mut Demangler) -> Result<usize, Refusal>
+    requires { Prepared d.old }
+    ensures { Parses (local_encoding reading) (keep d.old.state.depth) (d.old.state.at + 1) d.old d.new result }
 {
-    let got = name(s, text, store, ends, p);
-    let Read::Text(named, n) = got else {
-        return got;
-    };
-    if let Eaten::Next(bare) = named.eat(s, b'E') {
-        return Read::Text(bare, n);
+    let n = name(d)?;
+    if d.eat(b'E') {
+        return Ok(n);
     }
-    let open = memory::put(text, named, b"(");
-    let list = items(s, text, store, ends, open, Kind::Types);
-    let Texts::Listed(last, m, _) = list else {
-        return lists::refused(list);
-    };
-    if Parser::TEXT < m {
-        return Read::Refused(Refusal::LongText);
-    }
-    let Eaten::Next(closed) = last.eat(s, b'E') else {
-        return Read::Refused(Refusal::NoRule);
-    };
-    let close = memory::put(text, closed, b")");
-    memory::given(close, n + m + 2)
+    d.stack.put(b"(");
+    let list = items(d, Kind::Types)?;
+    let m = given(list.n)?;
+    d.need(b'E')?;
+    d.stack.put(b")");
+    given(n + m + 2)
 }
 
 // <local-name> ::= Z <function encoding> E <entity name> | Z <function encoding> E s
 #[cycle(readers)]
-fn local_name(s: &[u8], text: &mut [u8], store: &mut [u8], ends: &mut [u16], p: Parser) -> Read
-    requires { Ready s.now (mem text.old store.old ends.old) p }
-    ensures { Reads (local_name reading) (keep p.depth) (p.at + 1) s.now
-        (mem text.old store.old ends.old) (mem text.new store.new ends.new) p result }
+fn local_name(d: &mut Demangler) -> Result<usize, Refusal>
+    requires { Prepared d.old }
+    ensures { Parses (local_name reading) (keep d.old.state.depth) (d.old.state.at + 1) d.old d.new result }
 {
-    let Eaten::Next(behind) = p.eat(s, b'Z') else {
-        return Read::Refused(Refusal::NoRule);
-    };
-    let got = loc_fn(s, text, store, ends, behind);
-    let Read::Text(outer, n) = got else {
-        return got;
-    };
-    if let Eaten::Next(last) = outer.eat(s, b's') {
-        let next = memory::put(text, last, b"::string literal");
-        return memory::given(next, n + 16);
+    d.need(b'Z')?;
+    let n = local_function(d)?;
+    if d.eat(b's') {
+        d.stack.put(b"::string literal");
+        return given(n + 16);
     }
-    let colons = memory::put(text, outer, b"::");
-    let inner = name(s, text, store, ends, colons);
-    let Read::Text(next, m) = inner else {
-        return inner;
-    };
-    memory::given(next, n + m + 2)
+    d.stack.put(b"::");
+    let m = name(d)?;
+    given(n + m + 2)
 }
 
 #[cycle(readers)]
-fn name_inner(s: &[u8], text: &mut [u8], store: &mut [u8], ends: &mut [u16], p: Parser) -> Read
-    requires { Ready s.now (mem text.old store.old ends.old) p }
-    ensures { Reads (name_inner reading) (keep p.depth) (p.at + 1) s.now
-        (mem text.old store.old ends.old) (mem text.new store.new ends.new) p result }
+fn name_inner(d: &mut Demangler) -> Result<usize, Refusal>
+    requires { Prepared d.old }
+    ensures { Parses (name_inner reading) (keep d.old.state.depth) (d.old.state.at + 1) d.old d.new result }
 {
-    let Taken::Byte(c, behind) = p.take(s) else {
-        return Read::Refused(Refusal::NoRule);
-    };
-    match c {
-        b'N' => nested_name(s, text, store, ends, p),
-        b'S' => at_s(s, text, store, ends, p, true),
-        b'L' => name(s, text, store, ends, behind),
-        b'Z' => local_name(s, text, store, ends, p),
-        _ => plain(s, text, store, ends, p),
+    match d.peek().ok_or(Refusal::NoRule)? {
+        b'N' => nested_name(d),
+        b'S' => at_s(d, true),
+        b'L' => {
+            d.state.at += 1;
+            name(d)
+        }
+        b'Z' => local_name(d),
+        _ => plain(d),
     }
 }
 
 // <name>
 #[cycle(readers)]
-pub fn name(s: &[u8], text: &mut [u8], store: &mut [u8], ends: &mut [u16], p: Parser) -> Read
-    requires { Ready s.now (mem text.old store.old ends.old) p }
-    ensures { Reads (reading ⟨name⟩) (keep (p.depth + 1)) (p.at + 1) s.now
-        (mem text.old store.old ends.old) (mem text.new store.new ends.new) p result }
+pub fn name(d: &mut Demangler) -> Result<usize, Refusal>
+    requires { Prepared d.old }
+    ensures { Parses (reading ⟨name⟩) (keep (d.old.state.depth + 1)) (d.old.state.at + 1) d.old d.new result }
 {
-    let depth = p.depth;
-    let entered = p.enter();
-    let Read::Text(open, _) = entered else {
-        return entered;
-    };
-    let got = name_inner(s, text, store, ends, open);
-    let Read::Text(next, n) = got else {
-        return got;
-    };
-    Read::Text(next.leave(depth), n)
+    let depth = d.state.depth;
+    d.enter()?;
+    let n = name_inner(d)?;
+    d.leave(depth);
+    Ok(n)
 }
 
 // One part more, which begins with c.
 #[cycle(readers)]
-fn px(
-    s: &[u8],
-    text: &mut [u8],
-    store: &mut [u8],
-    ends: &mut [u16],
-    p: Parser,
-    parts: Parts,
-    c: u8,
-) -> Prefix
-    requires { (Ready s.now (mem text.old store.old ends.old) p) × ((parts.n ≤ most_length) × ((parts.last ≤ parts.n) × (min parts.n most_entry_bytes ≤ p.top))) }
-    ensures { (t : List ℕ) → drop p.at s.now ≡ c ∷ t → ReadsPart (prefix reading) s.now
-        (mem text.old store.old ends.old) (mem text.new store.new ends.new) p parts result }
+fn prefix(d: &mut Demangler, parts: Parts, c: u8) -> Result<Parts, Refusal>
+    requires { PreparedFor parts d.old }
+    ensures { (t : List ℕ) → drop d.old.state.at d.old.s.now ≡ c ∷ t → Prefixed (prefix reading) d.old d.new parts result }
 {
-    let at = p.at;
-    if leaf::structor(s, at) {
-        return lists::ctor_dtor(text, p, parts, c);
+    if d.structor_ahead() {
+        return Ok(lists::ctor_dtor(d, parts, c));
     }
     match c {
-        b'I' => px_arg(s, text, store, ends, p, parts),
+        b'I' => prefix_args(d, parts),
         b'S' => {
-            let colons = lists::separated(text, p, parts);
-            let got = names::substitution(s, text, store, ends, colons);
-            let Read::Text(next, m) = got else {
-                return lists::unread(got);
-            };
-            Prefix::Parts(next, lists::longer(parts, m))
+            parts.separate(&mut d.stack);
+            let m = d.substitution()?;
+            Ok(parts.longer(m))
         }
-        _ => px_new(s, text, store, ends, p, parts, c),
+        _ => new_prefix(d, parts, c),
     }
 }
 
 // template arguments behind the last part
 #[cycle(readers)]
-fn px_arg(
-    s: &[u8],
-    text: &mut [u8],
-    store: &mut [u8],
-    ends: &mut [u16],
-    p: Parser,
-    parts: Parts,
-) -> Prefix
-    requires { (Ready s.now (mem text.old store.old ends.old) p) × ((parts.n ≤ most_length) × ((parts.last ≤ parts.n) × (min parts.n most_entry_bytes ≤ p.top))) }
-    ensures { ReadsPart (prefix_args reading) s.now
-        (mem text.old store.old ends.old) (mem text.new store.new ends.new) p parts result }
+fn prefix_args(d: &mut Demangler, parts: Parts) -> Result<Parts, Refusal>
+    requires { PreparedFor parts d.old }
+    ensures { Prefixed (prefix_args reading) d.old d.new parts result }
 {
-    let bare = memory::clear_args(p);
-    let got = args(s, text, store, ends, bare);
-    let Read::Text(named, m) = got else {
-        return lists::unread(got);
-    };
+    d.args.clear();
+    let m = template_args(d)?;
     if parts.count == 0 {
-        return Prefix::Refused(Refusal::NoRule);
+        return Err(Refusal::NoRule);
     }
-    let n = memory::sum(parts.n, m);
-    let kept = memory::push_sub(text, store, ends, named, n);
-    let Read::Text(next, _) = kept else {
-        return lists::unread(kept);
-    };
-    let at = next.at;
-    let last = bytes::here(s, at, b'E');
-    Prefix::Parts(
-        next.with_templated(last),
-        Parts {
-            n,
-            last: memory::sum(parts.last, m),
-            count: 1,
-            structor: parts.structor,
-        },
-    )
+    let n = sum(parts.n, m);
+    d.push_sub(n)?;
+    d.state.templated = d.here(b'E');
+    Ok(Parts {
+        n,
+        last: sum(parts.last, m),
+        count: 1,
+        structor: parts.structor,
+    })
 }
 
 // an unqualified name or a template parameter: an entry, unless it is the last part
 #[cycle(readers)]
-fn px_new(
-    s: &[u8],
-    text: &mut [u8],
-    store: &mut [u8],
-    ends: &mut [u16],
-    p: Parser,
-    parts: Parts,
-    c: u8,
-) -> Prefix
-    requires { (Ready s.now (mem text.old store.old ends.old) p) × ((parts.n ≤ most_length) × ((parts.last ≤ parts.n) × (min parts.n most_entry_bytes ≤ p.top))) }
-    ensures { ReadsNewPart c s.now
-        (mem text.old store.old ends.old) (mem text.new store.new ends.new) p parts result }
+fn new_prefix(d: &mut Demangler, parts: Parts, c: u8) -> Result<Parts, Refusal>
+    requires { PreparedFor parts d.old }
+    ensures { PrefixedNew c d.old d.new parts result }
 {
-    let colons = lists::separated(text, p, parts);
-    let got = part(s, text, store, ends, colons, c);
-    let Read::Text(next, m) = got else {
-        return lists::unread(got);
-    };
-    let more = lists::longer(parts, m);
-    let at = next.at;
-    if bytes::here(s, at, b'E') {
-        return Prefix::Parts(next, more);
+    parts.separate(&mut d.stack);
+    let m = part(d, c)?;
+    let more = parts.longer(m);
+    if !d.here(b'E') {
+        d.push_sub(more.n)?;
     }
-    let n = more.n;
-    let kept = memory::push_sub(text, store, ends, next, n);
-    let Read::Text(after, _) = kept else {
-        return lists::unread(kept);
-    };
-    Prefix::Parts(after, more)
+    Ok(more)
 }
 
 #[cycle(readers)]
-fn part(s: &[u8], text: &mut [u8], store: &mut [u8], ends: &mut [u16], p: Parser, c: u8) -> Read
-    requires { Ready s.now (mem text.old store.old ends.old) p }
-    ensures { ReadsPartText c s.now
-        (mem text.old store.old ends.old) (mem text.new store.new ends.new) p result }
+fn part(d: &mut Demangler, c: u8) -> Result<usize, Refusal>
+    requires { Prepared d.old }
+    ensures { PartText c d.old d.new result }
 {
     if c == b'T' {
-        return names::template_param(s, text, store, ends, p);
+        return d.template_param();
     }
-    let at = p.at;
-    if leaf::digit_ahead(s, at) {
-        return names::source_name(s, text, p);
+    if d.digit_ahead() {
+        return d.source_name();
     }
-    unq(s, text, store, ends, p)
+    unqualified_name(d)
 }
 
 // <nested-name> ::= N [<CV-qualifiers>] [<ref-qualifier>] <prefix> <unqualified-name> E
 #[cycle(readers)]
-fn nested_name(s: &[u8], text: &mut [u8], store: &mut [u8], ends: &mut [u16], p: Parser) -> Read
-    requires { Ready s.now (mem text.old store.old ends.old) p }
-    ensures { Reads (reading ⟨nested-name⟩) (keep p.depth) (p.at + 1) s.now
-        (mem text.old store.old ends.old) (mem text.new store.new ends.new) p result }
+fn nested_name(d: &mut Demangler) -> Result<usize, Refusal>
+    requires { Prepared d.old }
+    ensures { Parses (reading ⟨nested-name⟩) (keep d.old.state.depth) (d.old.state.at + 1) d.old d.new result }
 {
-    let Eaten::Next(behind) = p.eat(s, b'N') else {
-        return Read::Refused(Refusal::NoRule);
-    };
-    let from = behind.at;
-    let to = leaf::qualifiers(s, from);
-    let mut next = behind.moved(to);
+    d.need(b'N')?;
+    let from = d.state.at;
+    let to = d.qualifiers();
+    d.state.at = to;
     let mut parts = Parts {
         n: 0,
         last: 0,
@@ -363,440 +234,325 @@ fn nested_name(s: &[u8], text: &mut [u8], store: &mut [u8], ends: &mut [u16], p:
         structor: false,
     };
     loop {
-        let Taken::Byte(c, last) = next.take(s) else {
-            return Read::Refused(Refusal::NoRule);
-        };
+        let c = d.peek().ok_or(Refusal::NoRule)?;
         if c == b'E' {
-            let named = last.with_cv(from, to);
-            let n = parts.n;
+            d.state.at += 1;
+            d.state.cv = Part { from, to };
             if parts.structor {
-                return memory::given(named.with_templated(false), n);
+                d.state.templated = false;
             }
-            return memory::given(named, n);
+            return given(parts.n);
         }
-        let got = px(s, text, store, ends, next, parts, c);
-        let Prefix::Parts(after, more) = got else {
-            return lists::unprefixed(got);
-        };
-        next = after;
-        parts = more;
+        parts = prefix(d, parts, c)?;
     }
 }
 
 // <unqualified-name> ::= <operator-name> | <ctor-dtor-name> | <source-name> | <unnamed-type-name>
 #[cycle(readers)]
-fn unq(s: &[u8], text: &mut [u8], store: &mut [u8], ends: &mut [u16], p: Parser) -> Read
-    requires { Ready s.now (mem text.old store.old ends.old) p }
-    ensures { Reads (reading ⟨unqualified-name⟩) (keep p.depth) (p.at + 1) s.now
-        (mem text.old store.old ends.old) (mem text.new store.new ends.new) p result }
+fn unqualified_name(d: &mut Demangler) -> Result<usize, Refusal>
+    requires { Prepared d.old }
+    ensures { Parses (reading ⟨unqualified-name⟩) (keep d.old.state.depth) (d.old.state.at + 1) d.old d.new result }
 {
-    let first = p.at;
-    let at = bytes::behind(s, first, b'L');
-    let q = p.moved(at);
-    let Taken::Byte(c, behind) = q.take(s) else {
-        return Read::Refused(Refusal::NoRule);
-    };
-    match c {
-        b'0'..=b'9' => names::source_name(s, text, q),
-        b'C' => {
-            let Taken::Byte(_, next) = behind.take(s) else {
-                return Read::Refused(Refusal::NoRule);
-            };
-            Read::Text(memory::put(text, next, b"{ctor}"), 6)
+    d.state.at = text::behind(d.s, d.state.at, b'L');
+    match d.peek().ok_or(Refusal::NoRule)? {
+        b'0'..=b'9' => d.source_name(),
+        b'C' => structor(d, b"{ctor}"),
+        b'D' => structor(d, b"{dtor}"),
+        b'U' => {
+            d.state.at += 1;
+            d.unnamed_type_name()
         }
-        b'D' => {
-            let Taken::Byte(_, next) = behind.take(s) else {
-                return Read::Refused(Refusal::NoRule);
-            };
-            Read::Text(memory::put(text, next, b"{dtor}"), 6)
-        }
-        b'U' => names::unnamed_type_name(s, text, behind),
-        _ => operator(s, text, store, ends, q),
+        _ => operator_name(d),
     }
+}
+
+// <ctor-dtor-name> that stands alone, at C or D
+fn structor(d: &mut Demangler, word: &[u8]) -> Result<usize, Refusal>
+    requires { (d.old.state.at < length d.old.s.now) × (length word.now ≤ most_text_bytes) }
+    ensures { Structor word.now d.old d.new result }
+{
+    d.state.at += 1;
+    d.take()?;
+    d.stack.put(word);
+    Ok(word.len())
 }
 
 // <operator-name> ::= nw | .. | cv <type>
 #[cycle(readers)]
-fn operator(s: &[u8], text: &mut [u8], store: &mut [u8], ends: &mut [u16], p: Parser) -> Read
-    requires { Ready s.now (mem text.old store.old ends.old) p }
-    ensures { Reads (reading ⟨operator-name⟩) (keep p.depth) (p.at + 1) s.now
-        (mem text.old store.old ends.old) (mem text.new store.new ends.new) p result }
+fn operator_name(d: &mut Demangler) -> Result<usize, Refusal>
+    requires { Prepared d.old }
+    ensures { Parses (reading ⟨operator-name⟩) (keep d.old.state.depth) (d.old.state.at + 1) d.old d.new result }
 {
-    let at = p.at;
-    if s.len() <= at + 1 {
-        return Read::Refused(Refusal::NoRule);
-    }
-    let a = s[at];
-    let c = s[at + 1];
-    let behind = p.moved(at + 2);
+    let a = d.take()?;
+    let c = d.take()?;
     if let Some(word) = codes::operator_name(a, c) {
-        return names::word(text, behind, word);
+        d.stack.put(word);
+        return Ok(word.len());
     }
-    if a != b'c' {
-        return Read::Refused(Refusal::NoRule);
+    if a != b'c' || c != b'v' {
+        return Err(Refusal::NoRule);
     }
-    if c != b'v' {
-        return Read::Refused(Refusal::NoRule);
-    }
-    let operator = memory::put(text, behind, b"operator ");
-    let got = ty(s, text, store, ends, operator);
-    let Read::Text(next, n) = got else {
-        return got;
-    };
-    memory::given(next.with_templated(false), n + 9)
+    d.stack.put(b"operator ");
+    let n = ty(d)?;
+    d.state.templated = false;
+    given(n + 9)
 }
 
-// P R O C K V r <type>, behind the letter
+// P R O K C V r <type>, behind the letter
 #[cycle(readers)]
-fn wrap(s: &[u8], text: &mut [u8], store: &mut [u8], ends: &mut [u16], p: Parser, c: u8) -> Read
-    requires { Ready s.now (mem text.old store.old ends.old) p }
-    ensures { ReadsWrapped c s.now
-        (mem text.old store.old ends.old) (mem text.new store.new ends.new) p result }
+fn wrapped(d: &mut Demangler, c: u8) -> Result<usize, Refusal>
+    requires { Prepared d.old }
+    ensures { Wrapped c d.old d.new result }
 {
-    let got = ty(s, text, store, ends, p);
-    let Read::Text(next, n) = got else {
-        return got;
-    };
-    types::wrap(text, store, ends, next, n, c)
+    let n = ty(d)?;
+    d.wrap(n, c)
 }
 
 // <function-type> ::= F <type> <type>* E, behind F
 #[cycle(readers)]
-fn func(s: &[u8], text: &mut [u8], store: &mut [u8], ends: &mut [u16], p: Parser) -> Read
-    requires { Ready s.now (mem text.old store.old ends.old) p }
-    ensures { Reads (function_type reading) (keep p.depth) (p.at + 1) s.now
-        (mem text.old store.old ends.old) (mem text.new store.new ends.new) p result }
+fn function_type(d: &mut Demangler) -> Result<usize, Refusal>
+    requires { Prepared d.old }
+    ensures { Parses (function_type reading) (keep d.old.state.depth) (d.old.state.at + 1) d.old d.new result }
 {
-    let got = ty(s, text, store, ends, p);
-    let Read::Text(returned, r) = got else {
-        return got;
-    };
-    let open = memory::put(text, returned, b" (\x01)(");
-    let list = items(s, text, store, ends, open, Kind::Types);
-    let Texts::Listed(last, n, count) = list else {
-        return lists::refused(list);
-    };
-    let Eaten::Next(next) = last.eat(s, b'E') else {
-        return Read::Refused(Refusal::NoRule);
-    };
-    lists::func_end(text, store, ends, next, r, n, count)
+    let r = ty(d)?;
+    d.stack.put(b" (\x01)(");
+    let list = items(d, Kind::Types)?;
+    d.need(b'E')?;
+    lists::func_end(d, r, list)
 }
 
 // <array-type> ::= A [<dimension>] _ <type>, behind A
 #[cycle(readers)]
-fn array(s: &[u8], text: &mut [u8], store: &mut [u8], ends: &mut [u16], p: Parser) -> Read
-    requires { Ready s.now (mem text.old store.old ends.old) p }
-    ensures { Reads (array_type reading) (keep p.depth) (p.at + 1) s.now
-        (mem text.old store.old ends.old) (mem text.new store.new ends.new) p result }
+fn array_type(d: &mut Demangler) -> Result<usize, Refusal>
+    requires { Prepared d.old }
+    ensures { Parses (array_type reading) (keep d.old.state.depth) (d.old.state.at + 1) d.old d.new result }
 {
-    let from = p.at;
-    let to = bytes::before(s, from, b'_');
-    let Eaten::Next(behind) = p.moved(to).eat(s, b'_') else {
-        return Read::Refused(Refusal::NoRule);
-    };
-    let got = ty(s, text, store, ends, behind);
-    let Read::Text(next, n) = got else {
-        return got;
-    };
-    let open = memory::put(text, next, b" [");
-    let bound = memory::put_part(s, text, open, from, to);
-    let close = memory::put(text, bound, b"]");
-    memory::given(close, n + 3 + (to - from))
+    let from = d.state.at;
+    let to = text::before(d.s, from, b'_');
+    d.state.at = to;
+    d.need(b'_')?;
+    let n = ty(d)?;
+    d.stack.put(b" [");
+    d.stack.put(&d.s[from..to]);
+    d.stack.put(b"]");
+    given(n + 3 + (to - from))
 }
 
 // <pointer-to-member-type> ::= M <type> <type>, behind M
 #[cycle(readers)]
-fn member(s: &[u8], text: &mut [u8], store: &mut [u8], ends: &mut [u16], p: Parser) -> Read
-    requires { Ready s.now (mem text.old store.old ends.old) p }
-    ensures { Reads (pointer_to_member_type reading) (keep p.depth) (p.at + 1) s.now
-        (mem text.old store.old ends.old) (mem text.new store.new ends.new) p result }
+fn pointer_to_member_type(d: &mut Demangler) -> Result<usize, Refusal>
+    requires { Prepared d.old }
+    ensures { Parses (pointer_to_member_type reading) (keep d.old.state.depth) (d.old.state.at + 1) d.old d.new result }
 {
-    let class = ty(s, text, store, ends, p);
-    let Read::Text(a, c) = class else {
-        return class;
-    };
-    let got = ty(s, text, store, ends, a);
-    let Read::Text(b, m) = got else {
-        return got;
-    };
-    types::wrap_member(text, store, ends, b, c, m)
+    let c = ty(d)?;
+    let m = ty(d)?;
+    d.wrap_member(c, m)
 }
 
 // <class-enum-type> ::= <nested-name>
 #[cycle(readers)]
-fn nest_ty(s: &[u8], text: &mut [u8], store: &mut [u8], ends: &mut [u16], p: Parser) -> Read
-    requires { Ready s.now (mem text.old store.old ends.old) p }
-    ensures { Reads (nested_type reading) (keep p.depth) (p.at + 1) s.now
-        (mem text.old store.old ends.old) (mem text.new store.new ends.new) p result }
+fn nested_type(d: &mut Demangler) -> Result<usize, Refusal>
+    requires { Prepared d.old }
+    ensures { Parses (nested_type reading) (keep d.old.state.depth) (d.old.state.at + 1) d.old d.new result }
 {
-    let got = nested_name(s, text, store, ends, p);
-    let Read::Text(next, n) = got else {
-        return got;
-    };
-    if memory::newest_entry(text, store, ends, next, n) {
-        return got;
+    let n = nested_name(d)?;
+    if d.newest_entry(n) {
+        return Ok(n);
     }
-    memory::recorded(text, store, ends, next, n)
+    d.recorded(n)
 }
 
 // <class-enum-type> ::= <source-name> [<template-args>]
 #[cycle(readers)]
-fn class(s: &[u8], text: &mut [u8], store: &mut [u8], ends: &mut [u16], p: Parser) -> Read
-    requires { Ready s.now (mem text.old store.old ends.old) p }
-    ensures { Reads (class_type reading) (keep p.depth) (p.at + 1) s.now
-        (mem text.old store.old ends.old) (mem text.new store.new ends.new) p result }
+fn class_type(d: &mut Demangler) -> Result<usize, Refusal>
+    requires { Prepared d.old }
+    ensures { Parses (class_type reading) (keep d.old.state.depth) (d.old.state.at + 1) d.old d.new result }
 {
-    let got = names::source_name(s, text, p);
-    let Read::Text(a, n) = got else {
-        return got;
-    };
-    let kept = memory::push_sub(text, store, ends, a, n);
-    let Read::Text(b, _) = kept else {
-        return kept;
-    };
-    let at = b.at;
-    if bytes::here(s, at, b'I') {
-        return instance(s, text, store, ends, b, n, false);
+    let n = d.source_name()?;
+    d.push_sub(n)?;
+    if d.here(b'I') {
+        return instance(d, n, false);
     }
-    kept
+    Ok(n)
 }
 
 #[cycle(readers)]
-pub fn ty_inner(s: &[u8], text: &mut [u8], store: &mut [u8], ends: &mut [u16], p: Parser) -> Read
-    requires { Ready s.now (mem text.old store.old ends.old) p }
-    ensures { Reads (type_inner reading) (keep p.depth) (p.at + 1) s.now
-        (mem text.old store.old ends.old) (mem text.new store.new ends.new) p result }
+pub fn type_inner(d: &mut Demangler) -> Result<usize, Refusal>
+    requires { Prepared d.old }
+    ensures { Parses (type_inner reading) (keep d.old.state.depth) (d.old.state.at + 1) d.old d.new result }
 {
-    let Taken::Byte(c, behind) = p.take(s) else {
-        return Read::Refused(Refusal::NoRule);
-    };
+    let c = d.peek().ok_or(Refusal::NoRule)?;
     if let Some(word) = codes::builtin(c) {
-        return names::word(text, behind, word);
+        d.state.at += 1;
+        d.stack.put(word);
+        return Ok(word.len());
     }
     match c {
-        b'P' | b'R' | b'O' | b'C' | b'K' | b'V' | b'r' => wrap(s, text, store, ends, behind, c),
-        b'A' => array(s, text, store, ends, behind),
-        b'F' => func(s, text, store, ends, behind),
-        b'M' => member(s, text, store, ends, behind),
-        b'D' => types::builtin_d(s, text, p),
-        b'u' => names::source_name(s, text, behind),
-        b'N' => nest_ty(s, text, store, ends, p),
-        b'T' => names::template_param(s, text, store, ends, p),
-        b'S' => at_s(s, text, store, ends, p, false),
-        b'0'..=b'9' => class(s, text, store, ends, p),
-        _ => Read::Refused(Refusal::NoRule),
+        b'D' => d.builtin_d(),
+        b'N' => nested_type(d),
+        b'T' => d.template_param(),
+        b'S' => at_s(d, false),
+        b'0'..=b'9' => class_type(d),
+        _ => behind_letter(d, c),
+    }
+}
+
+// The types that their first letter tells, at the letter.
+#[cycle(readers)]
+fn behind_letter(d: &mut Demangler, c: u8) -> Result<usize, Refusal>
+    requires { (Prepared d.old) × (d.old.state.at < length d.old.s.now) }
+    ensures { BehindLetter c d.old d.new result }
+{
+    d.state.at += 1;
+    match c {
+        b'P' | b'R' | b'O' | b'C' | b'K' | b'V' | b'r' => wrapped(d, c),
+        b'A' => array_type(d),
+        b'F' => function_type(d),
+        b'M' => pointer_to_member_type(d),
+        b'u' => d.source_name(),
+        _ => Err(Refusal::NoRule),
     }
 }
 
 // <type>
 #[cycle(readers)]
-pub fn ty(s: &[u8], text: &mut [u8], store: &mut [u8], ends: &mut [u16], p: Parser) -> Read
-    requires { Ready s.now (mem text.old store.old ends.old) p }
-    ensures { Reads (reading ⟨type⟩) (keep (p.depth + 1)) (p.at + 1) s.now
-        (mem text.old store.old ends.old) (mem text.new store.new ends.new) p result }
+pub fn ty(d: &mut Demangler) -> Result<usize, Refusal>
+    requires { Prepared d.old }
+    ensures { Parses (reading ⟨type⟩) (keep (d.old.state.depth + 1)) (d.old.state.at + 1) d.old d.new result }
 {
-    let depth = p.depth;
-    let entered = p.enter();
-    let Read::Text(open, _) = entered else {
-        return entered;
-    };
-    let got = ty_inner(s, text, store, ends, open);
-    let Read::Text(next, n) = got else {
-        return got;
-    };
-    Read::Text(next.leave(depth), n)
+    let depth = d.state.depth;
+    d.enter()?;
+    let n = type_inner(d)?;
+    d.leave(depth);
+    Ok(n)
 }
 
 // A list of types or of template arguments.
 #[cycle(readers)]
-pub fn items(
-    s: &[u8],
-    text: &mut [u8],
-    store: &mut [u8],
-    ends: &mut [u16],
-    p: Parser,
-    kind: Kind,
-) -> Texts
-    requires { Ready s.now (mem text.old store.old ends.old) p }
-    ensures { ReadsItems kind s.now
-        (mem text.old store.old ends.old) (mem text.new store.new ends.new) p result }
+pub fn items(d: &mut Demangler, kind: Kind) -> Result<Joined, Refusal>
+    requires { Prepared d.old }
+    ensures { Itemized kind d.old d.new result }
 {
-    let mut next = p;
-    let mut n: usize = 0;
-    let mut count: usize = 0;
-    loop {
-        let Peeked::Byte(c) = next.peek(s) else {
-            return Texts::Listed(next, n, count);
-        };
+    let mut list = Joined { n: 0, count: 0 };
+    while let Some(c) = d.peek() {
         if lists::stops(kind, c) {
-            return Texts::Listed(next, n, count);
+            break;
         }
-        if 0 < count {
-            next = memory::put(text, next, b", ");
-            n = memory::sum(n, 2);
-        }
-        let got = item(s, text, store, ends, next, kind);
-        let Read::Text(after, m) = got else {
-            return lists::unlisted(got);
-        };
-        next = after;
-        n = memory::sum(n, m);
-        count += 1;
+        lists::comma(&mut d.stack, list.count);
+        let m = item(d, kind)?;
+        list = list.longer(m);
     }
+    Ok(list)
 }
 
 // One text of a list.
 #[cycle(readers)]
-fn item(
-    s: &[u8],
-    text: &mut [u8],
-    store: &mut [u8],
-    ends: &mut [u16],
-    p: Parser,
-    kind: Kind,
-) -> Read
-    requires { Ready s.now (mem text.old store.old ends.old) p }
-    ensures { ReadsItem kind s.now
-        (mem text.old store.old ends.old) (mem text.new store.new ends.new) p result }
+fn item(d: &mut Demangler, kind: Kind) -> Result<usize, Refusal>
+    requires { Prepared d.old }
+    ensures { Item kind d.old d.new result }
 {
     match kind {
-        Kind::Parameters | Kind::Types => ty(s, text, store, ends, p),
+        Kind::Parameters | Kind::Types => ty(d),
         Kind::Arguments => {
-            let got = arg(s, text, store, ends, p);
-            let Read::Text(next, n) = got else {
-                return got;
-            };
-            memory::push_arg(text, store, ends, next, n)
+            let n = template_arg(d)?;
+            d.push_arg(n)?;
+            Ok(n)
         }
     }
 }
 
 // <template-args> ::= I <template-arg>* E
 #[cycle(readers)]
-pub fn args(s: &[u8], text: &mut [u8], store: &mut [u8], ends: &mut [u16], p: Parser) -> Read
-    requires { Ready s.now (mem text.old store.old ends.old) p }
-    ensures { Reads (reading ⟨template-args⟩) (keep (p.depth + 1)) (p.at + 1) s.now
-        (mem text.old store.old ends.old) (mem text.new store.new ends.new) p result }
+pub fn template_args(d: &mut Demangler) -> Result<usize, Refusal>
+    requires { Prepared d.old }
+    ensures { Parses (reading ⟨template-args⟩) (keep (d.old.state.depth + 1)) (d.old.state.at + 1) d.old d.new result }
 {
-    let Eaten::Next(behind) = p.eat(s, b'I') else {
-        return Read::Refused(Refusal::NoRule);
+    d.need(b'I')?;
+    let depth = d.state.depth;
+    d.enter()?;
+    d.stack.put(b"<");
+    let list = items(d, Kind::Arguments)?;
+    d.need(b'E')?;
+    d.leave(depth);
+    let close: &[u8] = if d.stack.newest(1) == b">".as_slice() {
+        b" >"
+    } else {
+        b">"
     };
-    let entered = behind.enter();
-    let Read::Text(inner, _) = entered else {
-        return entered;
-    };
-    let open = memory::put(text, inner, b"<");
-    let list = items(s, text, store, ends, open, Kind::Arguments);
-    let Texts::Listed(last, n, _) = list else {
-        return lists::refused(list);
-    };
-    let Eaten::Next(closed) = last.eat(s, b'E') else {
-        return Read::Refused(Refusal::NoRule);
-    };
-    let next = closed.leave(p.depth);
-    let top = next.top;
-    if text[top - 1] == b'>' {
-        let close = memory::put(text, next, b" >");
-        return memory::given(close, memory::sum(n, 3));
-    }
-    let close = memory::put(text, next, b">");
-    memory::given(close, memory::sum(n, 2))
+    d.stack.put(close);
+    given(sum(list.n, close.len() + 1))
 }
 
 // J <template-arg>* E, behind J. Packs inside one another are read in one loop, up to 64 in the outermost: `outer` has, for
 // each that is open around the innermost, what n has for that: the bytes of its texts so far, with two more for each text.
 #[cycle(readers)]
-fn pack(s: &[u8], text: &mut [u8], store: &mut [u8], ends: &mut [u16], p: Parser) -> Read
-    requires { Ready s.now (mem text.old store.old ends.old) p }
-    ensures { Reads (pack reading) (keep p.depth) (p.at + 1) s.now
-        (mem text.old store.old ends.old) (mem text.new store.new ends.new) p result }
+fn pack(d: &mut Demangler) -> Result<usize, Refusal>
+    requires { Prepared d.old }
+    ensures { Parses (pack reading) (keep d.old.state.depth) (d.old.state.at + 1) d.old d.new result }
 {
-    let mut next = p;
-    let mut outer = [0usize; 64];
+    let mut outer = [0usize; PACKS];
     let mut level: usize = 0;
     let mut n: usize = 0;
     loop {
-        let Taken::Byte(c, behind) = next.take(s) else {
-            return Read::Refused(Refusal::NoRule);
-        };
+        let c = d.peek().ok_or(Refusal::NoRule)?;
         if c == b'E' {
-            next = behind;
+            d.state.at += 1;
             if lists::pack_ends(level, n) {
-                return memory::given(next, lists::joined_size(n));
+                return given(n.saturating_sub(2));
             }
             level -= 1;
-            n = memory::sum(outer[level], lists::joined_size(n) + 2);
+            n = sum(outer[level], n.saturating_sub(2) + 2);
             continue;
         }
+        lists::comma(&mut d.stack, n);
         if lists::pack_opens(level, c) {
-            next = lists::comma(text, behind, n);
+            d.state.at += 1;
             outer[level] = n;
             level += 1;
             n = 0;
             continue;
         }
-        next = lists::comma(text, next, n);
-        let got = arg(s, text, store, ends, next);
-        let Read::Text(after, m) = got else {
-            return got;
-        };
-        next = after;
-        n = memory::sum(n, m + 2);
+        let m = template_arg(d)?;
+        n = sum(n, m + 2);
     }
 }
 
 // <template-arg> ::= <type> | X <expression> E | <expr-primary> | J <template-arg>* E
 #[cycle(readers)]
-pub fn arg(s: &[u8], text: &mut [u8], store: &mut [u8], ends: &mut [u16], p: Parser) -> Read
-    requires { Ready s.now (mem text.old store.old ends.old) p }
-    ensures { Reads (reading ⟨template-arg⟩) (keep p.depth) (p.at + 1) s.now
-        (mem text.old store.old ends.old) (mem text.new store.new ends.new) p result }
+pub fn template_arg(d: &mut Demangler) -> Result<usize, Refusal>
+    requires { Prepared d.old }
+    ensures { Parses (reading ⟨template-arg⟩) (keep d.old.state.depth) (d.old.state.at + 1) d.old d.new result }
 {
-    let at = p.at;
-    if bytes::here(s, at, b'L') {
-        return lit(s, text, store, ends, p);
+    if d.here(b'L') {
+        return expr_primary(d);
     }
-    if let Eaten::Next(behind) = p.eat(s, b'X') {
-        let from = behind.at;
-        let Skipped::To(end) = leaf::expression(s, from) else {
-            return Read::Refused(Refusal::NoRule);
-        };
-        return Read::Text(memory::put(text, behind.moved(end), b"..."), 3);
+    if d.eat(b'X') {
+        d.state.at = d.expression().ok_or(Refusal::NoRule)?;
+        d.stack.put(b"...");
+        return Ok(3);
     }
-    if let Eaten::Next(behind) = p.eat(s, b'J') {
-        return pack(s, text, store, ends, behind);
+    if d.eat(b'J') {
+        return pack(d);
     }
-    ty(s, text, store, ends, p)
+    ty(d)
 }
 
 // <expr-primary> ::= L <type> <value number> E | L _ <name> E
 #[cycle(readers)]
-fn lit(s: &[u8], text: &mut [u8], store: &mut [u8], ends: &mut [u16], p: Parser) -> Read
-    requires { Ready s.now (mem text.old store.old ends.old) p }
-    ensures { Reads (reading ⟨expr-primary⟩) (keep p.depth) (p.at + 1) s.now
-        (mem text.old store.old ends.old) (mem text.new store.new ends.new) p result }
+fn expr_primary(d: &mut Demangler) -> Result<usize, Refusal>
+    requires { Prepared d.old }
+    ensures { Parses (reading ⟨expr-primary⟩) (keep d.old.state.depth) (d.old.state.at + 1) d.old d.new result }
 {
-    let Eaten::Next(behind) = p.eat(s, b'L') else {
-        return Read::Refused(Refusal::NoRule);
-    };
-    if let Eaten::Next(mangled) = behind.eat(s, b'_') {
-        let got = name(s, text, store, ends, mangled);
-        let Read::Text(next, n) = got else {
-            return got;
-        };
-        let Eaten::Next(last) = next.eat(s, b'E') else {
-            return got;
-        };
-        return Read::Text(last, n);
+    d.need(b'L')?;
+    if d.eat(b'_') {
+        let n = name(d)?;
+        let _ = d.eat(b'E');
+        return Ok(n);
     }
-    let got = ty(s, text, store, ends, behind);
-    let Read::Text(next, n) = got else {
-        return got;
-    };
-    let from = next.at;
-    let to = bytes::before(s, from, b'E');
-    let Eaten::Next(last) = next.moved(to).eat(s, b'E') else {
-        return Read::Refused(Refusal::NoRule);
-    };
-    literal::literal(s, text, last, n, from, to)
+    let n = ty(d)?;
+    let from = d.state.at;
+    let to = text::before(d.s, from, b'E');
+    d.state.at = to;
+    d.need(b'E')?;
+    d.literal(n, &d.s[from..to])
 }

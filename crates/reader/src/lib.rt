@@ -2,5 +2,4 @@
 #![tactic(auto)]
 
 pub mod cycle;
-pub mod instances;
 pub mod lists;

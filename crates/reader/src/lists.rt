@@ -1,16 +1,16 @@
 // Lists of texts, and the parts of a nested name.
-ghost use Rattle.std.specs.Prelude.{◌≡◌, ℕ, ◌+◌, ◌-◌, ◌<◌, ◌≤◌, min, List, length};
+ghost use Rattle.std.specs.Prelude.{◌≡◌, ◌+◌, ◌-◌, ◌*◌, ◌≤◌, min};
 ghost use Rattle.grammar.specs.Limits.{most_text_bytes, most_entry_bytes, most_length};
-ghost use Rattle.store.specs.Stack.{Stack};
-ghost use Rattle.parser.specs.Holds.{mem, Ready, Puts};
-ghost use Rattle.reader.specs.Funcs.{FuncEnd};
-ghost use Rattle.reader.specs.Structors.{tilde_of};
-ghost use Rattle.reader.specs.Lists.{refused_of, unlisted_of, unprefixed_of, unread_of, stops_at, Separates, longer_of, before_text, ends_pack, opens_pack, CtorDtor};
+ghost use Rattle.parser.specs.Demanglers.{Prepared};
+ghost use Rattle.reader.specs.Funcs.{FuncEnds};
+ghost use Rattle.reader.specs.Lists.{stops_at, Separates, listed_by, longer_of, ends_pack, opens_pack, Structors, PreparedFor, PutsBefore};
 
 use grammar::refusal::Refusal;
-use grammar::state::{Parser, Read};
-use parser::{leaf, memory};
-use store::stack;
+use grammar::state::Parser;
+use parser::demangler::Demangler;
+use parser::leaf;
+use parser::memory::sum;
+use store::stack::Stack;
 
 // What a list is made of, and where it stops.
 #[derive(Clone, Copy)]
@@ -23,11 +23,11 @@ pub enum Kind {
     Arguments,
 }
 
-// The texts of a list, with ", " between them: so many bytes and so many texts.
+// The texts of a list with ", " between them: so many bytes, and so many texts.
 #[derive(Clone, Copy)]
-pub enum Texts {
-    Listed(Parser, usize, usize),
-    Refused(Refusal),
+pub struct Joined {
+    pub n: usize,
+    pub count: usize,
 }
 
 // The parts of a nested name so far: all of them, and the last.
@@ -39,21 +39,6 @@ pub struct Parts {
     pub structor: bool,
 }
 
-#[derive(Clone, Copy)]
-pub enum Prefix {
-    Parts(Parser, Parts),
-    Refused(Refusal),
-}
-
-pub fn refused(list: Texts) -> Read
-    ensures { result ≡ refused_of list }
-{
-    match list {
-        Texts::Refused(k) => Read::Refused(k),
-        Texts::Listed(p, n, _) => Read::Text(p, n),
-    }
-}
-
 pub fn stops(kind: Kind, c: u8) -> bool
     ensures { result ≡ stops_at kind c }
 {
@@ -63,203 +48,117 @@ pub fn stops(kind: Kind, c: u8) -> bool
     }
 }
 
-pub fn unlisted(read: Read) -> Texts
-    ensures { result ≡ unlisted_of read }
+// How many bytes stand between the texts of a list and one text more.
+fn between(count: usize) -> usize
+    ensures { result ≡ 2 * min count 1 }
 {
-    match read {
-        Read::Refused(k) => Texts::Refused(k),
-        Read::Text(p, n) => Texts::Listed(p, n, 0),
+    if count == 0 { 0 } else { 2 }
+}
+
+impl Joined {
+    // The list with one text of m bytes more.
+    pub fn longer(self, m: usize) -> Self
+        requires { (m + 2 ≤ most_length) × ((self.n ≤ most_length) × (self.count ≤ most_length)) }
+        ensures { result ≡ listed_by self m }
+    {
+        Joined {
+            n: sum(self.n, m + between(self.count)),
+            count: self.count + 1,
+        }
     }
 }
 
-pub fn unprefixed(got: Prefix) -> Read
-    ensures { result ≡ unprefixed_of got }
-{
-    match got {
-        Prefix::Refused(k) => Read::Refused(k),
-        Prefix::Parts(p, _) => Read::Text(p, 0),
+impl Parts {
+    // "::" behind the parts so far, if there are any.
+    pub fn separate(self, stack: &mut Stack)
+        ensures { Separates self stack.old stack.new }
+    {
+        if 0 < self.count {
+            stack.put(b"::");
+        }
     }
-}
 
-pub fn unread(got: Read) -> Prefix
-    ensures { result ≡ unread_of got }
-{
-    match got {
-        Read::Refused(k) => Prefix::Refused(k),
-        Read::Text(p, n) => Prefix::Parts(
-            p,
-            Parts {
-                n,
-                last: 0,
-                count: 0,
-                structor: false,
-            },
-        ),
-    }
-}
-
-// "::" behind the parts so far, if there are any.
-pub fn separated(text: &mut [u8], p: Parser, parts: Parts) -> Parser
-    requires { (s store ends : List ℕ) × Ready s (mem text.old store ends) p }
-    ensures { Separates text.old text.new p parts result }
-{
-    if parts.count == 0 {
-        return p;
-    }
-    memory::put(text, p, b"::")
-}
-
-// The parts with one of m bytes more.
-pub fn longer(parts: Parts, m: usize) -> Parts
-    requires { (m + 2 ≤ most_length) × (parts.n ≤ most_length) }
-    ensures { result ≡ longer_of parts m }
-{
-    let n = parts.n;
-    let structor = parts.structor;
-    if parts.count == 0 {
-        return Parts {
-            n: memory::sum(n, m),
+    // The parts with one of m bytes more.
+    pub fn longer(self, m: usize) -> Self
+        requires { (m + 2 ≤ most_length) × (self.n ≤ most_length) }
+        ensures { result ≡ longer_of self m }
+    {
+        Parts {
+            n: sum(self.n, m + between(self.count)),
             last: m,
             count: 1,
-            structor,
-        };
-    }
-    Parts {
-        n: memory::sum(n, m + 2),
-        last: m,
-        count: 1,
-        structor,
+            structor: self.structor,
+        }
     }
 }
 
-// ", " behind the texts so far, if there are any: n is their bytes, with two more for each of them.
-pub fn comma(text: &mut [u8], p: Parser, n: usize) -> Parser
-    requires { Stack text.old p.top }
-    ensures { Puts text.old text.new p result (before_text n) }
+// ", " behind the texts so far, if there are any: n is their number, or their bytes with two more for each of them.
+pub fn comma(stack: &mut Stack, n: usize)
+    ensures { PutsBefore n stack.old stack.new }
 {
-    if n == 0 {
-        return p;
+    if 0 < n {
+        stack.put(b", ");
     }
-    memory::put(text, p, b", ")
-}
-
-// The bytes of such texts with ", " between them.
-pub fn joined_size(n: usize) -> usize
-    ensures { result ≡ n - 2 }
-{
-    if n < 2 { 0 } else { n - 2 }
 }
 
 // At an E: whether it ends the outermost pack, or a pack that is too long.
 pub fn pack_ends(level: usize, n: usize) -> bool
     ensures { result ≡ ends_pack level n }
 {
-    if level == 0 {
-        return true;
-    }
-    Parser::TEXT + 2 < n
+    level == 0 || Parser::TEXT + 2 < n
 }
 
-// Whether c opens one of the 64 packs that are read in one loop.
+// How many packs inside one another are read in one loop.
+pub const PACKS: usize = 64;
+
+// Whether c opens one of them.
 pub fn pack_opens(level: usize, c: u8) -> bool
     ensures { result ≡ opens_pack level c }
 {
-    if c != b'J' {
-        return false;
-    }
-    level < 64
-}
-
-// ~ for a destructor, at D.
-fn tilde(text: &mut [u8], p: Parser, c: u8) -> Parser
-    requires { Stack text.old p.top }
-    ensures { Puts text.old text.new p result (tilde_of c) }
-{
-    if c == b'D' {
-        return memory::put(text, p, b"~");
-    }
-    p
-}
-
-fn tilde_size(c: u8) -> usize
-    ensures { result ≡ length (tilde_of c) }
-{
-    if c == b'D' {
-        return 1;
-    }
-    0
-}
-
-// No more than can be put at once.
-fn shorter(n: usize) -> usize
-    ensures { result ≡ min n most_text_bytes }
-{
-    if Parser::TEXT < n { Parser::TEXT } else { n }
+    c == b'J' && level < PACKS
 }
 
 // <ctor-dtor-name>, at C or D: the class again behind the parts so far. Of parts that are too long to be an entry, or
 // become so, no more is asked than that.
-pub fn ctor_dtor(text: &mut [u8], p: Parser, parts: Parts, c: u8) -> Prefix
-    requires { ((s store ends : List ℕ) × Ready s (mem text.old store ends) p) × ((parts.n ≤ most_length) × ((parts.last ≤ parts.n) × (min parts.n most_entry_bytes ≤ p.top))) }
-    ensures { CtorDtor c text.old text.new p parts result }
+pub fn ctor_dtor(d: &mut Demangler, parts: Parts, c: u8) -> Parts
+    requires { PreparedFor parts d.old }
+    ensures { Structors c d.old d.new parts result }
 {
-    let at = p.at;
+    d.state.at += 2;
     let n = parts.n;
     if Parser::BYTES < n {
-        return Prefix::Parts(
-            p.moved(at + 2),
-            Parts {
-                n,
-                last: 0,
-                count: 1,
-                structor: true,
-            },
-        );
-    }
-    let top = p.top;
-    let class = leaf::class_of(text, top, parts.last);
-    let m = shorter(class.n);
-    let last = tilde_size(c) + m;
-    let more = longer(parts, last);
-    let size = more.n;
-    let colons = separated(text, p, parts);
-    let named = tilde(text, colons, c);
-    let next = memory::again(text, named, class.back + (size - n - m), m);
-    Prefix::Parts(
-        next.moved(at + 2),
-        Parts {
-            n: size,
-            last,
+        return Parts {
+            n,
+            last: 0,
             count: 1,
             structor: true,
-        },
-    )
+        };
+    }
+    let class = leaf::class_of(d.stack.newest(parts.last));
+    let m = (class.to - class.from).min(Parser::TEXT);
+    let back = parts.last - class.from;
+    let tilde: &[u8] = if c == b'D' { b"~" } else { b"" };
+    let more = parts.longer(tilde.len() + m);
+    parts.separate(&mut d.stack);
+    d.stack.put(tilde);
+    d.stack.again(back + (more.n - n - m), m);
+    Parts {
+        structor: true,
+        ..more
+    }
 }
 
-// The end of a function type, behind its E: the type returned, of r bytes, and the parameters, of n bytes, are on the
-// stack. A lone void prints nothing.
-pub fn func_end(
-    text: &mut [u8],
-    store: &mut [u8],
-    ends: &mut [u16],
-    p: Parser,
-    r: usize,
-    n: usize,
-    count: usize,
-) -> Read
-    requires { ((s : List ℕ) × Ready s (mem text.old store.old ends.old) p) × ((r ≤ most_text_bytes) × ((n ≤ most_length) × (min (r + (5 + n)) most_entry_bytes ≤ p.top))) }
-    ensures { FuncEnd (mem text.old store.old ends.old) (mem text.new store.new ends.new) p r n count result }
+// The end of a function type, behind its E: the type returned, of r bytes, and the parameters are on the stack. A lone void
+// prints nothing.
+pub fn func_end(d: &mut Demangler, r: usize, list: Joined) -> Result<usize, Refusal>
+    requires { (Prepared d.old) × ((r ≤ most_text_bytes) × ((list.n ≤ most_length) × (min (r + (5 + list.n)) most_entry_bytes ≤ d.old.stack.top))) }
+    ensures { FuncEnds d.old d.new r list.n list.count result }
 {
-    let top = p.top;
-    if count == 1 {
-        if n == 4 {
-            if stack::same(text, top, 4, b"void") {
-                let bare = memory::cut(text, p, 4, 0);
-                let close = memory::put(text, bare, b")");
-                return memory::recorded(text, store, ends, close, r + 6);
-            }
-        }
+    if list.count == 1 && list.n == 4 && d.stack.newest(4) == b"void".as_slice() {
+        d.stack.cut(4, 0);
+        d.stack.put(b")");
+        return d.recorded(r + 6);
     }
-    let close = memory::put(text, p, b")");
-    memory::recorded(text, store, ends, close, memory::sum(r + 6, n))
+    d.stack.put(b")");
+    d.recorded(sum(r + 6, list.n))
 }

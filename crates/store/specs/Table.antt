@@ -1,6 +1,6 @@
 -- A table of texts in two slices: `store` of 32,768 bytes has the texts one after another, `ends` of 1,024 numbers where each ends; the rest
 -- may be anything.
-use Rattle.std.specs.Prelude.{◌≡◌, List, [], ◌∷◌, ◌++◌, ℕ, ◌+◌, ◌-◌, ◌≤◌, length, take, drop, get_or}
+use Rattle.std.specs.Prelude.{◌≡◌, Bool, true, false, ◌<◌, List, [], ◌∷◌, ◌++◌, ℕ, ◌+◌, ◌-◌, ◌≤◌, length, take, drop, get_or}
 use Rattle.grammar.specs.Text.{Text}
 use Rattle.grammar.specs.Limits.{most_entries, most_entry_bytes}
 use Rattle.grammar.specs.Reader.{bytes_of}
@@ -38,3 +38,8 @@ pub record Placed (l : List Text) (store : List ℕ) (k from to : ℕ) : Type 0 
   pub size : to ≡ from + length (get_or l k [])
   pub within : to ≤ most_entry_bytes
   pub is : take (to - from) (drop from store) ≡ get_or l k []
+
+-- whether a table of c texts, of b bytes, has room for one of n bytes more
+pub record Room (c b n : ℕ) (q : Bool) : Type 0 where
+  pub yes : q ≡ true → (c < most_entries) × (b + n ≤ most_entry_bytes)
+  pub no : q ≡ false → c < most_entries → b + n ≤ most_entry_bytes → ⊥

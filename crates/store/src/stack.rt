@@ -1,14 +1,12 @@
 // A stack of texts in 51,200 bytes: the first `top` bytes, the newest last; those behind them may be anything. Where a text
 // does not fit, the oldest bytes leave and the newest 34,816 stay.
-ghost use Rattle.std.specs.Prelude.{true, ◌≡◌, ◌++◌, ◌⊎◌, ◌+◌, ◌-◌, ◌*◌, ◌≤◌, length, take, drop};
-ghost use Rattle.std.proofs.Math.Seq.{paste};
-ghost use Rattle.grammar.specs.Text.{same};
+ghost use Rattle.std.specs.Prelude.{◌≡◌, ◌++◌, ◌+◌, ◌-◌, ◌*◌, ◌≤◌, length, take, drop};
 ghost use Rattle.grammar.specs.Limits.{most_text_bytes, kept_bytes, stack_bytes};
 ghost use Rattle.grammar.specs.Grammar.{at_slots};
-ghost use Rattle.store.specs.Stack.{zeros, Stack, Put, Cut, Room, Grown, slots_in, at_slot, newest, below_newest};
+ghost use Rattle.store.specs.Stack.{Put, Cut, Room, Grown, slots_in, at_slot, newest, below_newest};
 
 use grammar::state::Parser;
-use grammar::text as bytes;
+use grammar::text;
 
 // How many of its newest bytes a full stack keeps: those of an entry, and what readings may drop above it.
 const KEPT: usize = Parser::BYTES + 2048;
@@ -16,133 +14,124 @@ const KEPT: usize = Parser::BYTES + 2048;
 // The length of the stack.
 pub const LENGTH: usize = KEPT + Parser::TEXT;
 
-// Removes the k bytes that stand below the newest n.
-pub fn cut(text: &mut [u8], top: usize, k: usize, n: usize) -> usize
-    requires { (Stack text.old top) × (k + n ≤ top) }
-    ensures { Cut text.old text.new top result k n }
-{
-    let from = top - n;
-    let to = from - k;
-    text.copy_within(from..top, to);
-    top - k
+#[derive(Drop)]
+pub struct Stack<'a> {
+    pub bytes: &'a mut [u8],
+    pub top: usize,
+    pub ghost size: { length bytes.now ≡ stack_bytes },
+    pub ghost most: { top ≤ stack_bytes },
 }
 
-// Room for so many bytes.
-pub fn room(text: &mut [u8], top: usize, size: usize) -> usize
-    requires { (Stack text.old top) × (size ≤ most_text_bytes) }
-    ensures { Room text.old text.new top result size }
-{
-    if size <= LENGTH - top {
-        return top;
+impl Stack<'_> {
+    // Removes the k bytes that stand below the newest n.
+    pub fn cut(&mut self, k: usize, n: usize)
+        requires { k + n ≤ self.old.top }
+        ensures { Cut self.old.bytes.now self.new.bytes.now self.old.top self.new.top k n }
+    {
+        let from = self.top - n;
+        self.bytes.copy_within(from..self.top, from - k);
+        self.top -= k;
     }
-    let k = top - KEPT;
-    cut(text, top, k, KEPT)
-}
 
-// Puts `word` on the top.
-pub fn put(text: &mut [u8], top: usize, word: &[u8]) -> usize
-    requires { (Stack text.old top) × (length word.now ≤ most_text_bytes) }
-    ensures { Put text.old text.new top result word.now }
-{
-    let at = room(text, top, word.len());
-    bytes::copy(text, at, word);
-    at + word.len()
-}
-
-// Puts src[from..to] on the top.
-pub fn put_part(text: &mut [u8], top: usize, src: &[u8], from: usize, to: usize) -> usize
-    requires { (Stack text.old top) × ((from ≤ to) × ((to ≤ length src.now) × (to - from ≤ most_text_bytes))) }
-    ensures { Put text.old text.new top result (take (to - from) (drop from src.now)) }
-{
-    put(text, top, &src[from..to])
-}
-
-// Puts the n bytes at `from` on the top once more.
-pub fn again(text: &mut [u8], top: usize, from: usize, n: usize) -> usize
-    requires { (Stack text.old top) × ((from + n ≤ top) × ((top ≤ from + kept_bytes) × (n ≤ most_text_bytes))) }
-    ensures { Put text.old text.new top result (take n (drop from text.old)) }
-{
-    let back = top - from;
-    let at = room(text, top, n);
-    let low = at - back;
-    text.copy_within(low..low + n, at);
-    at + n
-}
-
-// How many slots stand in text[from..to]. Almost no text has one, and `contains` sees that faster than a count.
-pub fn slots(text: &[u8], from: usize, to: usize) -> usize
-    requires { (from ≤ to) × (to ≤ length text.now) }
-    ensures { (result ≡ slots_in (take (to - from) (drop from text.now))) × (result ≤ to - from) }
-{
-    let part = &text[from..to];
-    if !part.contains(&1) {
-        return 0;
+    // Room for so many bytes.
+    fn room(&mut self, size: usize)
+        requires { size ≤ most_text_bytes }
+        ensures { Room self.old.bytes.now self.new.bytes.now self.old.top self.new.top size }
+    {
+        if LENGTH - self.top < size {
+            self.cut(self.top - KEPT, KEPT);
+        }
     }
-    part.iter().filter(|x| **x == 1).count()
-}
 
-// Puts the byte x on the top, and before a slot the d bytes at `low` and the word.
-fn piece(text: &mut [u8], top: usize, low: usize, d: usize, word: &[u8], x: u8) -> usize
-    requires { (Stack text.old top) × ((low + d ≤ top)
-        × (top + length (at_slot (take d (drop low text.old) ++ word.now) x) ≤ stack_bytes)) }
-    ensures { Grown text.old text.new top result
-        (at_slot (take d (drop low text.old) ++ word.now) x) }
-{
-    if x == 1 {
-        text.copy_within(low..low + d, top);
-        bytes::copy(text, top + d, word);
-        let end = top + d + word.len();
-        text[end] = x;
-        return end + 1;
+    // The word, for which there is room, on the top.
+    fn place(&mut self, word: &[u8])
+        requires { self.old.top + length word.now ≤ stack_bytes }
+        ensures { Grown self.old.bytes.now self.new.bytes.now self.old.top self.new.top word.now }
+    {
+        text::copy(self.bytes, self.top, word);
+        self.top += word.len();
     }
-    text[top] = x;
-    top + 1
-}
 
-// Puts the newest n bytes on the top once more, with the d bytes below them and the word in front of each slot.
-fn pieces(text: &mut [u8], top: usize, n: usize, d: usize, word: &[u8]) -> usize
-    requires { (Stack text.old top) × ((d + n ≤ top)
-        × (top + length (at_slots (below_newest text.old top n d ++ word.now) (newest text.old top n)) ≤ stack_bytes)) }
-    ensures { Grown text.old text.new top result
-        (at_slots (below_newest text.old top n d ++ word.now) (newest text.old top n)) }
-{
-    let from = top - n;
-    let low = from - d;
-    let mut at = top;
-    for i in 0..n {
-        let x = text[from + i];
-        at = piece(text, at, low, d, word, x);
+    // The n bytes at `from`, for which there is room, on the top once more.
+    fn repeat(&mut self, from: usize, n: usize)
+        requires { (from + n ≤ self.old.top) × (self.old.top + n ≤ stack_bytes) }
+        ensures { Grown self.old.bytes.now self.new.bytes.now self.old.top self.new.top (take n (drop from self.old.bytes.now)) }
+    {
+        self.bytes.copy_within(from..from + n, self.top);
+        self.top += n;
     }
-    at
-}
 
-// The same, and room is made for it first.
-pub fn weave(text: &mut [u8], top: usize, n: usize, d: usize, word: &[u8]) -> usize
-    requires { (Stack text.old top) × ((d + n ≤ top) × ((d + n ≤ kept_bytes) × ((length word.now ≤ most_text_bytes)
-        × (n + slots_in (newest text.old top n) * (d + length word.now) ≤ most_text_bytes)))) }
-    ensures { Put text.old text.new top result
-        (at_slots (below_newest text.old top n d ++ word.now) (newest text.old top n)) }
-{
-    let from = top - n;
-    let holes = slots(text, from, top);
-    let each = d + word.len();
-    let size = n + holes * each;
-    let at = room(text, top, size);
-    pieces(text, at, n, d, word)
-}
+    // Puts `word` on the top.
+    pub fn put(&mut self, word: &[u8])
+        requires { length word.now ≤ most_text_bytes }
+        ensures { Put self.old.bytes.now self.new.bytes.now self.old.top self.new.top word.now }
+    {
+        self.room(word.len());
+        self.place(word);
+    }
 
-// Whether the n bytes of `text` from `from` on are the n bytes of `store` from `a` on.
-pub fn same_part(text: &[u8], from: usize, store: &[u8], a: usize, n: usize) -> bool
-    requires { (from + n ≤ length text.now) × (a + n ≤ length store.now) }
-    ensures { result ≡ same (take n (drop from text.now)) (take n (drop a store.now)) }
-{
-    text[from..from + n] == store[a..a + n]
-}
+    // Puts the n bytes that begin `back` bytes below the top on it once more.
+    pub fn again(&mut self, back: usize, n: usize)
+        requires { (n ≤ back) × ((back ≤ self.old.top) × ((back ≤ kept_bytes) × (n ≤ most_text_bytes))) }
+        ensures { Put self.old.bytes.now self.new.bytes.now self.old.top self.new.top (take n (drop (self.old.top - back) self.old.bytes.now)) }
+    {
+        self.room(n);
+        self.repeat(self.top - back, n);
+    }
 
-// Whether the newest n bytes are the word.
-pub fn same(text: &[u8], top: usize, n: usize, word: &[u8]) -> bool
-    requires { (n ≤ top) × (top ≤ length text.now) }
-    ensures { result ≡ same (newest text.now top n) word.now }
-{
-    &text[top - n..top] == word
+    // The newest n bytes.
+    pub fn newest(&self, n: usize) -> &[u8]
+        requires { n ≤ self.now.top }
+        ensures { result.now ≡ newest self.now.bytes.now self.now.top n }
+    {
+        &self.bytes[self.top - n..self.top]
+    }
+
+    // How many slots stand in the newest n bytes.
+    pub fn slots(&self, n: usize) -> usize
+        requires { n ≤ self.now.top }
+        ensures { (result ≡ slots_in (newest self.now.bytes.now self.now.top n)) × (result ≤ n) }
+    {
+        self.newest(n).iter().filter(|x| **x == 1).count()
+    }
+
+    // Puts the byte x on the top, and before a slot the d bytes at `low` and the word.
+    fn piece(&mut self, low: usize, d: usize, word: &[u8], x: u8)
+        requires { (low + d ≤ self.old.top)
+            × (self.old.top + length (at_slot (take d (drop low self.old.bytes.now) ++ word.now) x) ≤ stack_bytes) }
+        ensures { Grown self.old.bytes.now self.new.bytes.now self.old.top self.new.top
+            (at_slot (take d (drop low self.old.bytes.now) ++ word.now) x) }
+    {
+        if x == 1 {
+            self.repeat(low, d);
+            self.place(word);
+        }
+        self.place(&[x]);
+    }
+
+    // Puts the newest n bytes on the top once more, with the d bytes below them and the word in front of each slot.
+    fn pieces(&mut self, n: usize, d: usize, word: &[u8])
+        requires { (d + n ≤ self.old.top)
+            × (self.old.top + length (at_slots (below_newest self.old.bytes.now self.old.top n d ++ word.now) (newest self.old.bytes.now self.old.top n)) ≤ stack_bytes) }
+        ensures { Grown self.old.bytes.now self.new.bytes.now self.old.top self.new.top
+            (at_slots (below_newest self.old.bytes.now self.old.top n d ++ word.now) (newest self.old.bytes.now self.old.top n)) }
+    {
+        let from = self.top - n;
+        for i in from..from + n {
+            let x = self.bytes[i];
+            self.piece(from - d, d, word, x);
+        }
+    }
+
+    // The same, and room is made for it first.
+    pub fn weave(&mut self, n: usize, d: usize, word: &[u8])
+        requires { (d + n ≤ self.old.top) × ((d + n ≤ kept_bytes) × ((length word.now ≤ most_text_bytes)
+            × (n + slots_in (newest self.old.bytes.now self.old.top n) * (d + length word.now) ≤ most_text_bytes))) }
+        ensures { Put self.old.bytes.now self.new.bytes.now self.old.top self.new.top
+            (at_slots (below_newest self.old.bytes.now self.old.top n d ++ word.now) (newest self.old.bytes.now self.old.top n)) }
+    {
+        let holes = self.slots(n);
+        self.room(n + holes * (d + word.len()));
+        self.pieces(n, d, word);
+    }
 }

@@ -1,22 +1,25 @@
 -- Laws of the answer for a text that was read. Assumes nothing.
-use Rattle.std.specs.Prelude.{true, false, [], ◌≡◌, refl, ℕ, ◌-◌, ◌≤◌, ◌<◌, length, drop, Err}
-use Rattle.std.proofs.Common.{ap, ◌∙◌, arith, length-drop, length-take-le}
+use Rattle.std.specs.Prelude.{true, false, [], ◌≡◌, ℕ, ◌-◌, ◌≤◌, ◌<◌, length, take, drop, Ok, Err}
+use Rattle.std.specs.Prelude as std
+use Rattle.std.proofs.Common.{refl, sym, ap, subst, ◌∙◌, arith}
 use borrow.Author.Tests.{le-leb, lt-leb}
 use Rattle.grammar.specs.Text.{Text, if◌then◌otherwise◌}
-use Rattle.grammar.specs.Reader.{State, Result, ok, refused, start}
+use Rattle.grammar.specs.Reader.{State, Result, ok, start}
 use Rattle.grammar.specs.Grammar.{reading, ended, ⟨encoding⟩}
 use Rattle.grammar.specs.Names.{named, refusal, without_slots, finished, within, mangled_name}
-use Rattle.store.specs.Stack.{slots_in, lent}
-use Rattle.store.specs.Laws.Tails.{newest_lent}
-use Rattle.grammar.specs.declared.state.Parser.{Parser}
-use Rattle.grammar.specs.declared.state.Read.{Read}
-use Rattle.grammar.specs.declared.state.Read.TheVariants.{Text as read, Refused as unread}
-use Rattle.parser.specs.Holds.{Memory, mem, keep}
-use Rattle.grammar.specs.Refusals.{refusal_number}
+use Rattle.grammar.specs.States.{fresh}
 use Rattle.grammar.specs.declared.refusal.Refusal.{Refusal}
-use Rattle.encoding.specs.Encodings.{Prints, Encodes, encodes, refuses}
+use Rattle.store.specs.Stack.{Stack, slots_in, newest}
+use Rattle.store.specs.Laws.Tails.{newest_is, top_size}
+use Rattle.parser.specs.declared.demangler.Demangler.{Demangler}
+use Rattle.parser.specs.Holds.{keep, window}
+use Rattle.parser.specs.Demanglers.{state_of, memory_of, outcome}
+use Rattle.parser.specs.Laws.Wraps.{newest_size}
+use Rattle.encoding.specs.Encodings.{Prints, Encodes, Encoded}
+use Rattle.encoding.specs.Laws.Answers.{refusal as refusal_of, Answered, answered}
 use Rattle.answer.specs.Told.{Tells}
-use Rattle.answer.specs.Laws.Told.{tells_refusal}
+use Rattle.answer.specs.Laws.Told.{tells_refusal, tells_as}
+use Rattle.demangle.specs.Printed.{PrintsName}
 use Rattle.demangle.specs.Laws.Slotless.{slotless_length}
 
 -- ---- the definition's answer, by its tests
@@ -37,42 +40,44 @@ module _ (n : ℕ) (t : Text) (σ : State) where
 
 -- ---- the text on the stack
 
-pub newest_length : (text : Text) (top n : ℕ) {k : ℕ} → n ≤ top → top ≤ length text → k ≡ slots_in (lent text top n) → n - k ≡ length (without_slots (lent text top n))
-newest_length text top n a b e = omega (arith, e, slotless_length (lent text top n), length-take-le (top - (top - n)) (drop (top - n) text) (simp length-drop (omega arith)))
+pub newest_length : {text : Text} {top : ℕ} (n : ℕ) {k : ℕ} → Stack text top → n ≤ top → k ≡ slots_in (newest text top n) → n - k ≡ length (without_slots (newest text top n))
+newest_length {text} {top} n c l e = omega (arith, e, slotless_length (newest text top n), newest_size n c l)
 
-module _ {s text store ends : Text} {p : Parser} {n : ℕ} {t : Text} {σ : State} (h : Prints (keep 0) s [] (mem text store ends) p n t σ) where
-  newest : (n ≤ p.top) × (lent text p.top n ≡ t)
-  newest = newest_lent [] t h.text h.tail h.size (omega (arith, h.short))
+module _ (d : Demangler) {s : Text} {n : ℕ} {t : Text} {σ : State} (h : Prints (keep 0) s [] (memory_of d) (state_of d) n t σ) where
+  on_top : (n ≤ d.stack.top) × (newest d.stack.bytes.now d.stack.top n ≡ t)
+  on_top =
+      let w : Text = take d.stack.top d.stack.bytes.now in
+      let e : length w ≡ d.stack.top = top_size h.text in
+      let i = newest_is [] t h.tail (omega (arith, h.short)) in
+      (omega (arith, h.size, i.0), ap (λ (j : ℕ). drop j w) {x = d.stack.top - n} {y = length w - length t} (omega (arith, h.size)) ∙ i.1)
 
-  pub printed_fits : n ≤ p.top
-  printed_fits = newest.0
+  pub printed_fits : n ≤ d.stack.top
+  printed_fits = on_top.0
 
-  pub printed_top : p.top ≤ length text
-  printed_top = omega (arith, h.text.size, h.text.most)
+  pub printed_text : newest d.stack.bytes.now d.stack.top n ≡ t
+  printed_text = on_top.1
 
-  pub printed_text : lent text p.top n ≡ t
-  printed_text = newest.1
-
-  pub printed_length : {k : ℕ} → k ≡ slots_in (lent text p.top n) → n - k ≡ length (without_slots t)
-  printed_length e = newest_length text p.top n printed_fits printed_top e ∙ ap (λ (z : Text). length (without_slots z)) printed_text
+  pub printed_length : {k : ℕ} → k ≡ slots_in (newest d.stack.bytes.now d.stack.top n) → n - k ≡ length (without_slots t)
+  printed_length e = newest_length n h.text printed_fits e ∙ ap (λ (z : Text). length (without_slots z)) printed_text
 
 -- ---- what the reading told
 
-module _ {k : ℕ} {s base : Text} {m : Memory} where
-  not_read : {g : Read} {x : Result Text} {r : Refusal} → Encodes k s base m g x → g ≡ unread r → x ≡ refused (refusal_number r)
-  not_read (encodes h) e = absurd (let z : ◌≡◌ {A = ℕ} 0 1 = cc in omega arith)
-  not_read (refuses {r = r'}) e = let a : r' ≡ _ = cc in ap (λ (y : Refusal). refused (refusal_number y)) a
+module _ (d : Demangler) (e : state_of d ≡ fresh) where
+  module _ {d' : Demangler} {n : ℕ} (h : Encoded d d' (Ok n) (reading ⟨encoding⟩ (start d.s.now))) where
+    said : Answered (keep 0) d.s.now [] (memory_of d') (state_of d') n (reading ⟨encoding⟩ (start d.s.now))
+    said =
+        answered
+        (subst (λ (base : Text). Encodes (keep 0) d.s.now base (memory_of d') (outcome (state_of d') (Ok n)) (reading ⟨encoding⟩ (start d.s.now))) (ap (window (memory_of d)) e) h.is)
 
-  pub was_read : {g : Read} {x : Result Text} {p : Parser} {n : ℕ} → Encodes k s base m g x → g ≡ read p n
-      → (t : Text) × ((σ : State) × ((x ≡ ok t σ) × Prints k s base m p n t σ))
-  was_read {p = p} {n = n} (encodes {p = p'} {n = n'} {t = t} {σ = σ} h) e =
-      let a : p' ≡ p = cc in
-      let b : n' ≡ n = cc in
-      (t, (σ, (refl, rw (a, b) at h)))
-  was_read refuses e = absurd (let z : ◌≡◌ {A = ℕ} 0 1 = cc in omega arith)
+    pub read_fits : n ≤ d'.stack.top
+    read_fits = printed_fits d' said.prints
 
--- a reading that was refused
-pub tells_unread : {k : ℕ} {s base : Text} (out : Text) {m : Memory} {g : Read} {r : Refusal} → Encodes k s base m g (reading ⟨encoding⟩ (start s)) → g ≡ unread r
-    → Tells (within (length out) (mangled_name s)) out out (Err r)
+    pub tells_read : {out out' : Text} {r : std.Result ℕ Refusal} → PrintsName d' n out out' r → Tells (within (length out) (mangled_name d.s.now)) out out' r
+    unfolding mangled_name
+    tells_read {out} p =
+        let w = subst (λ (s : Text). Prints (keep 0) s [] (memory_of d') (state_of d') n said.said said.state) (sym (h.symbol refl)) said.prints in
+        tells_as (ap (λ (x : Result Text). within (length out) (finished x)) (sym said.is)) (p said.said said.state w)
+
+pub tells_unread : {d d' : Demangler} {e : Refusal} (out : Text) → Encoded d d' (Err e) (reading ⟨encoding⟩ (start d.s.now)) → Tells (within (length out) (mangled_name d.s.now)) out out (Err e)
 unfolding mangled_name finished within
-tells_unread {s = s} out h e = tells_refusal (ap (λ (y : Result Text). within (length out) (finished y)) (not_read h e))
+tells_unread out h = tells_refusal (ap (λ (x : Result Text). within (length out) (finished x)) (refusal_of h.is))

@@ -8,9 +8,7 @@ use Rattle.grammar.specs.Text.{Text, if◌then◌otherwise◌}
 use Rattle.grammar.specs.Limits.{most_text_bytes, most_length}
 use Rattle.grammar.specs.Reader.{State, Result, ok, refused, Reader, onto, give}
 use Rattle.store.specs.Laws.Tails.{weaken}
-use Rattle.grammar.specs.declared.state.Parser.{Parser}
-use Rattle.grammar.specs.declared.state.Read.{Read}
-use Rattle.grammar.specs.declared.state.Read.TheVariants.{Text as read, Refused}
+use Rattle.grammar.specs.States.{Progress, Read, read, Refused}
 use Rattle.parser.specs.Holds.{Memory, Refines, reads, given_of}
 use Rattle.parser.specs.Holds as holds
 use Rattle.encoding.specs.Encodings.{Prints, Encodes, encodes, refuses}
@@ -34,7 +32,8 @@ module _ {k : ℕ} {s base : Text} {m : Memory} where
   encodes_refines l holds.refuses = refuses
 
   -- an answer without a text is the whole answer
-  pub encodes_refused : {j d : ℕ} {s' base' : Text} {from : ℕ} {m' : Memory} {r : Read} {f : Result Text} {i : Refusal} (g : Text → Reader Text) → r ≡ Refused i → Refines j d s' base' from m' r f → Encodes k s base m r (onto g f)
+  pub encodes_refused : {j d : ℕ} {s' base' : Text} {from : ℕ} {m' : Memory} {r : Read} {f : Result Text} {i : Refusal} (g : Text → Reader Text) → r ≡ Refused i →
+      Refines j d s' base' from m' r f → Encodes k s base m r (onto g f)
   unfolding onto
   encodes_refused {j} {d} {s'} {base'} {from} {m'} {r} {f} {i} g e h =
       subst (λ (x : Read). Encodes k s base m x (onto g f)) (sym e) (told (subst (λ (x : Read). Refines j d s' base' from m' x f) e h))
@@ -42,7 +41,8 @@ module _ {k : ℕ} {s base : Text} {m : Memory} where
       told : {f : Result Text} → Refines j d s' base' from m' (Refused i) f → Encodes k s base m (Refused i) (onto g f)
       told holds.refuses = refuses
 
-  pub encodes_given : {p : Parser} {n : ℕ} {t : Text} {σ : State} {v : Read} → v ≡ given_of p n → n ≡ min (length t) most_length → (length t ≤ most_text_bytes → Prints k s base m p n t σ) → Encodes k s base m v (give t σ)
+  pub encodes_given : {p : Progress} {n : ℕ} {t : Text} {σ : State} {v : Read} → v ≡ given_of p n → n ≡ min (length t) most_length →
+      (length t ≤ most_text_bytes → Prints k s base m p n t σ) → Encodes k s base m v (give t σ)
   unfolding given_of give if◌then◌otherwise◌
   encodes_given {p} {n} {t} {σ} {v} e z h = subst (λ (x : Read). Encodes k s base m x (give t σ)) (sym e) (go (leb n most_text_bytes) refl)
     where
@@ -65,11 +65,11 @@ module _ {k : ℕ} {s base : Text} {m : Memory} where
   refusal refuses = refl
 
 -- what an answer with a text says
-pub record Answered (k : ℕ) (s base : Text) (m : Memory) (p : Parser) (n : ℕ) (f : Result Text) : Type 0 where
+pub record Answered (k : ℕ) (s base : Text) (m : Memory) (p : Progress) (n : ℕ) (f : Result Text) : Type 0 where
   pub said : Text
   pub state : State
   pub prints : Prints k s base m p n said state
   pub is : f ≡ ok said state
 
-pub answered : {k : ℕ} {s base : Text} {m : Memory} {p : Parser} {n : ℕ} {f : Result Text} → Encodes k s base m (read p n) f → Answered k s base m p n f
+pub answered : {k : ℕ} {s base : Text} {m : Memory} {p : Progress} {n : ℕ} {f : Result Text} → Encodes k s base m (read p n) f → Answered k s base m p n f
 answered (encodes {t = t} {σ = σ} w) = record { said = t; state = σ; prints = w; is = refl }

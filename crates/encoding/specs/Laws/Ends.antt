@@ -1,6 +1,7 @@
 -- Where a name ends, a void alone, and what qualifiers print. Assumes nothing.
 use Rattle.std.specs.Prelude.{Bool, false, ◌&&◌, ◌≡◌, refl, ℕ, ◌+◌, ◌-◌, ◌≤◌, ◌<◌, min, eqb, drop, get_or}
 use Rattle.std.proofs.Math.Bool.{true, and-true}
+use mathlib.Core.Logic.{◌⊎◌, inl, inr}
 use mathlib.Core.List.{List, [], ◌∷◌, ◌++◌, append_assoc, append-nil}
 use Rattle.std.proofs.Math.Option.{Option, none, some}
 use Rattle.std.proofs.Math.Path.{sym, ap}
@@ -13,33 +14,35 @@ use Rattle.grammar.specs.Reader.{give, word_for}
 use Rattle.grammar.specs.Grammar.{ended, only_void, qualifier}
 use Rattle.grammar.specs.Laws.Text.{starts_nothing}
 use Rattle.store.specs.Stack.{Stack, newest}
-use Rattle.grammar.specs.declared.state.Parser.{Parser}
-use Rattle.grammar.specs.declared.state.Peeked.TheVariants as peeked_as
-use Rattle.grammar.specs.declared.state.Read.{Read}
-use Rattle.grammar.specs.States.{peeked}
+use Rattle.grammar.specs.States.{Progress, Read, peeked}
+use Rattle.std.specs.Prelude as peeked_as
 use Rattle.grammar.specs.Laws.Places.{rest_none}
-use Rattle.parser.specs.Holds.{mem, part, Refines, Puts, given_of}
+use Rattle.parser.specs.Holds.{Halves, Memory, mem, part, Refines, Puts, given_of}
 use Rattle.parser.specs.Laws.Holds.{given_refines}
 use Rattle.grammar.specs.Laws.Text.{same_not}
 use Rattle.grammar.specs.Limits.{most_length}
 use Rattle.parser.specs.Adds.{Adds}
 use Rattle.parser.specs.Laws.Adds.{adds_none, adds_more, stands_more}
 use Rattle.parser.specs.Laws.Wraps.{newest_text}
-use Rattle.encoding.specs.Encodings.{qualified_by, Qualifies, LoneVoid}
+use Rattle.encoding.specs.Encodings.{qualified_by, Qualifies, OnlyVoid}
 
 -- ---------------------------------------------------------------- where a name ends
 
-pub ended_end : (t : Text) → peeked t ≡ peeked_as.End → ended t ≡ true
+ended_end : (t : Text) → peeked t ≡ peeked_as.None → ended t ≡ true
 unfolding ended same
 ended_end [] e = refl
 ended_end (x ∷ t) e = let z : ◌≡◌ {A = ℕ} 0 1 = cc in absurd (omega arith)
 
-pub ended_byte : (t : Text) {c : ℕ} → peeked t ≡ peeked_as.Byte c → ended t ≡ eqb c 46
+ended_byte : (t : Text) {c : ℕ} → peeked t ≡ peeked_as.Some c → ended t ≡ eqb c 46
 unfolding ended same starts b
 ended_byte [] e = let z : ◌≡◌ {A = ℕ} 0 1 = cc in absurd (omega arith)
 ended_byte (x ∷ t) {c} e =
     let f : x ≡ c = cc in
     ap (λ (q : Bool). eqb x 46 && q) (starts_nothing t) ∙ and-true (eqb x 46) ∙ ap (λ (y : ℕ). eqb y 46) f
+
+pub ended_by : (t : Text) (o : peeked_as.Option ℕ) {r : Bool} (Q : ℕ → Type 0) → o ≡ peeked t → peeked_as.MatchOption o (r ≡ true) Q → ((c : ℕ) → Q c → r ≡ eqb c 46) → r ≡ ended t
+ended_by t peeked_as.None Q e h k = h ∙ sym (ended_end t (sym e))
+ended_by t (peeked_as.Some c) Q e h k = k c h ∙ sym (ended_byte t (sym e))
 
 -- ---------------------------------------------------------------- a void alone
 
@@ -59,25 +62,29 @@ and-false : (q : Bool) → q && false ≡ false
 and-false true = refl
 and-false false = refl
 
-module _ (s text : Text) (p : Parser) {n count : ℕ} where
-  pub void_many : (count ≡ 1 → ⊥) → LoneVoid s text p n count false
-  void_many h k d base at store ends ts σ z e = sym (ap (λ (q : Bool). q && same σ.rest []) (not_one ts (λ f. h (e ∙ f))))
+module _ (s : Text) (m : Memory) (p : Progress) {n count : ℕ} where
+  void_many : (count ≡ 1 → ⊥) → OnlyVoid s m p n count false
+  void_many h k d base at ts σ z e = sym (ap (λ (q : Bool). q && same σ.rest []) (not_one ts (λ f. h (e ∙ f))))
 
-  pub void_other : count ≡ 1 → (n ≡ 4 → ⊥) → LoneVoid s text p n count false
+  void_other : count ≡ 1 → (n ≡ 4 → ⊥) → OnlyVoid s m p n count false
   unfolding b
-  void_other i h k d base at store ends ts σ z e =
+  void_other i h k d base at ts σ z e =
       sym (ap (λ (q : Bool). q && same σ.rest []) (one_void ts (sym e ∙ i) ∙ same_not (join (b ", ") ts) (b "void") (λ f. h (omega (arith, z.size, f)))))
 
-  pub void_before : p.at < length s → LoneVoid s text p n count false
-  void_before l k d base at store ends ts σ z e =
+  pub void_unlike : ((count ≡ 1) × (n ≡ 4 → ⊥)) ⊎ (count ≡ 1 → ⊥) → OnlyVoid s m p n count false
+  void_unlike (inl (i, h)) = void_other i h
+  void_unlike (inr h) = void_many h
+
+  pub void_before : p.at < length s → OnlyVoid s m p n count false
+  void_before l k d base at ts σ z e =
       let f : same σ.rest [] ≡ false = ap (λ (t : Text). same t []) z.holds.rest ∙ same_not (drop p.at s) [] (λ g. omega (arith, g, length-drop p.at s)) in
       sym (ap (λ (q : Bool). only_void ts && q) f ∙ and-false (only_void ts))
 
-  pub void_alone : {r : Bool} → count ≡ 1 → n ≡ 4 → length s ≤ p.at → r ≡ same (newest text p.top 4) (b "void") → LoneVoid s text p n count r
+  pub void_alone : {r : Bool} → count ≡ 1 → n ≡ 4 → length s ≤ p.at → r ≡ same (newest m.text p.top 4) (b "void") → OnlyVoid s m p n count r
   unfolding same
-  void_alone {r} i j l h k d base at store ends ts σ z e =
+  void_alone {r} i j l h k d base at ts σ z e =
       let f : same σ.rest [] ≡ true = ap (λ (t : Text). same t []) (z.holds.rest ∙ rest_none s p.at l) in
-      let g : newest text p.top 4 ≡ join (b ", ") ts = ap (λ (m : ℕ). newest text p.top m) (sym j) ∙ newest_text z (omega (arith, z.size)) in
+      let g : newest m.text p.top 4 ≡ join (b ", ") ts = ap (λ (j : ℕ). newest m.text p.top j) (sym j) ∙ newest_text z (omega (arith, z.size)) in
       h ∙ ap (λ (t : Text). same t (b "void")) g ∙ sym (one_void ts (sym e ∙ i)) ∙ sym (ap (λ (q : Bool). only_void ts && q) f ∙ and-true (only_void ts))
 
 -- ---------------------------------------------------------------- qualifiers
@@ -98,17 +105,17 @@ qualified_more cs i l =
     ∙ ap (λ (t : Text). each qualifier (take i cs) ++ t) (each_one qualifier (get_or cs i 0))
 
 -- what the first i of the qualifiers print was put behind a text of n bytes
-pub record Qualifying (cs text₀ text : Text) (p next : Parser) (n size i : ℕ) : Type 0 where
+pub record Qualifying (cs text₀ text : Text) (p next : Progress) (n size i : ℕ) : Type 0 where
   pub size_is : size ≡ min (n + length (each qualifier (take i cs))) most_length
   pub adds : Adds text₀ text p next (each qualifier (take i cs))
 
-pub qualifying_start : {text : Text} {p : Parser} (cs : Text) {n : ℕ} → Stack text p.top → n ≤ most_length → Qualifying cs text text p p n n 0
+pub qualifying_start : {text : Text} {p : Progress} (cs : Text) {n : ℕ} → Stack text p.top → n ≤ most_length → Qualifying cs text text p p n n 0
 unfolding each
 qualifying_start cs c l = record { size_is = omega arith; adds = adds_none c }
 
-module _ {cs text₀ text : Text} {p next : Parser} {n size i : ℕ} (q : Qualifying cs text₀ text p next n size i) where
+module _ {cs text₀ text : Text} {p next : Progress} {n size i : ℕ} (q : Qualifying cs text₀ text p next n size i) where
   module _ (l : i < length cs) where
-    pub qualifying_word : {w text' : Text} {next' : Parser} {size' : ℕ} → some w ≡ word_for qualifiers (get_or cs i 0 ∷ [])
+    pub qualifying_word : {w text' : Text} {next' : Progress} {size' : ℕ} → some w ≡ word_for qualifiers (get_or cs i 0 ∷ [])
         → Puts text text' next next' w → size' ≡ min (size + length w) most_length → Qualifying cs text₀ text' p next' n size' (i + 1)
     unfolding qualifier choose
     qualifying_word {w} e u j =
@@ -123,10 +130,11 @@ module _ {cs text₀ text : Text} {p next : Parser} {n size i : ℕ} (q : Qualif
         let x = qualified_more cs i l ∙ ap (λ (t : Text). each qualifier (take i cs) ++ t) f ∙ append-nil (each qualifier (take i cs)) in
         record { size_is = omega (arith, q.size_is, ap length x); adds = rw x q.adds }
 
-module _ (s : Text) (from to : ℕ) {text₀ text : Text} {p next : Parser} {n size i : ℕ} (q : Qualifying (part s from to) text₀ text p next n size i) where
-  pub qualifying_done : {r : Read} → to - from ≤ i → r ≡ given_of next size → Qualifies s text₀ text p n from to r
-  qualifying_done {r} l e k d base fr store ends t σ h =
+module _ (s : Text) (from to : ℕ) {text₀ text : Text} {store ends : Halves} {p next : Progress} {n size i : ℕ} (q : Qualifying (part s from to) text₀ text p next n size i) where
+  pub qualifying_done : {r : Read} → to - from ≤ i → r ≡ given_of next size → Qualifies s (mem text₀ store ends) (mem text store ends) p n from to r
+  qualifying_done {r} l e k d base fr t σ h =
       let x : take i (part s from to) ≡ part s from to = take_all i (part s from to) (omega (arith, length-take (to - from) (drop from s))) in
       let a : Adds text₀ text p next (qualified_by s from to) = rw x at q.adds in
-      let z : min (length (t ++ qualified_by s from to)) most_length ≡ size = omega (arith, q.size_is, h.size, length-append t (qualified_by s from to), ap (λ (u : Text). length (each qualifier u)) x) in
+      let z : min (length (t ++ qualified_by s from to)) most_length ≡ size =
+      omega (arith, q.size_is, h.size, length-append t (qualified_by s from to), ap (λ (u : Text). length (each qualifier u)) x) in
       subst (λ (v : Read). Refines k d s base fr (mem text store ends) v (give (t ++ qualified_by s from to) σ)) (ap (given_of next) z ∙ sym e) (given_refines (stands_more a h))

@@ -1,8 +1,10 @@
 -- The special names of the definition, each by the bytes that stand first, and the labels that the code picks. Assumes nothing.
-use Rattle.std.specs.Prelude.{Bool, true, false, ◌&&◌, List, [], ◌∷◌, ◌++◌, ◌≡◌, refl, ℕ, ◌≤◌, ◌<◌, T, eqb, length, drop, get_or, Option as Returned, Some, None}
+use Rattle.std.specs.Prelude.{Bool, true, false, ◌&&◌, List, [], ◌∷◌, ◌++◌, ◌≡◌, refl, ℕ, ◌≤◌, ◌<◌, T, eqb, length, take, drop, get_or, nat_eq, Option as Returned, Some, None}
 use Rattle.std.specs.Borrow.{Bor}
 use Rattle.std.proofs.Math.Option.{Option, none, some}
-use Rattle.std.proofs.Common.{sym, ap₂, ◌∙◌, arith, ne_eqb, eqb→eq}
+use Rattle.std.proofs.Common.{sym, ap₂, ◌∙◌, arith, eq-eqb, ne_eqb, eqb-true, eqb→eq}
+use Rattle.std.proofs.lemmas.Bool.{eqb-false}
+use Rattle.std.specs.Cmp.Lexicographic.{pointwise}
 use Rattle.std.proofs.Math.Path.{ap}
 use Prim.Native.String.{String}
 use Rattle.grammar.specs.Text.{Text, b, if◌then◌otherwise◌, choose, starts, holds}
@@ -17,6 +19,29 @@ use Rattle.grammar.specs.Laws.Steps.{heads, within, no_row_of}
 use Rattle.grammar.specs.Words.{word_of, Spells}
 use Rattle.grammar.specs.Laws.Places.{rest_some}
 use Rattle.encoding.specs.Encodings.{Labels}
+
+-- ---------------------------------------------------------------- what a slice begins with
+
+eqb_turned : (x y : ℕ) → eqb x y ≡ eqb y x
+eqb_turned x y = go (eqb x y) refl
+  where
+    go : (q : Bool) → eqb x y ≡ q → q ≡ eqb y x
+    go true e = sym (eq-eqb y x (sym (eqb-true x y e)))
+    go false e = sym (ne_eqb y x (λ i. eqb-false x y e (sym i)))
+
+pub strip_starts : (s w : Text) → pointwise nat_eq (take (length w) s) w ≡ starts s w
+unfolding starts
+strip_starts [] [] = refl
+strip_starts (x ∷ s) [] = refl
+strip_starts [] (y ∷ w) = refl
+strip_starts (x ∷ s) (y ∷ w) = ap (λ (q : Bool). eqb x y && q) (strip_starts s w)
+
+pub slice_starts : (s w : Text) → pointwise nat_eq w (take (length w) s) ≡ starts s w
+unfolding starts
+slice_starts [] [] = refl
+slice_starts (x ∷ s) [] = refl
+slice_starts [] (y ∷ w) = refl
+slice_starts (x ∷ s) (y ∷ w) = ap₂ (λ (p q : Bool). p && q) (eqb_turned y x) (slice_starts s w)
 
 -- ---------------------------------------------------------------- the definition
 
@@ -123,7 +148,10 @@ unfolding all_of labels b
 labels_told s {y} l h k g =
     let e : s ≡ 84 ∷ y ∷ drop 2 s = rest_some s 0 (omega arith) ∙ ap₂ (λ (x : ℕ) (t : Text). x ∷ t) h (rest_some s 1 (omega arith) ∙ ap (λ (x : ℕ). x ∷ drop 2 s) k) in
     record {
-      is = λ f x. ap (λ (t : Text). choose (find labels t) (λ q. f (b q.0) q.1) x) e ∙ by_word (84 ∷ y ∷ []) (drop 2 s) f x labels tt ∙ ap (λ (o : Option Text). choose o (λ t. f t (drop 2 s)) x) (sym g.0);
+      is = λ f x.
+          ap (λ (t : Text). choose (find labels t) (λ q. f (b q.0) q.1) x) e
+          ∙ by_word (84 ∷ y ∷ []) (drop 2 s) f x labels tt
+          ∙ ap (λ (o : Option Text). choose o (λ t. f t (drop 2 s)) x) (sym g.0);
       fits = g.1;
       long = λ _. l;
     }

@@ -9,11 +9,8 @@ use Rattle.grammar.specs.Limits.{most_text_bytes}
 use Rattle.grammar.specs.Reader.{State, Result, ok, refused, Reader, onto, give, set_cv}
 use Rattle.grammar.specs.Grammar.{reading, ⟨name⟩, ⟨type⟩, ended, bare_function_type, function_or_data}
 use Rattle.store.specs.Stack.{Tail}
-use Rattle.grammar.specs.declared.state.Parser.{Parser}
-use Rattle.grammar.specs.declared.state.Read.{Read}
-use Rattle.grammar.specs.declared.state.Read.TheVariants.{Text as read, Refused}
-use Rattle.grammar.specs.States.{cv_to}
-use Rattle.parser.specs.Holds.{Memory, mem, window, Holds, Stands, Refines, Reads, keep}
+use Rattle.grammar.specs.States.{Progress, Read, read, Refused, cv_to}
+use Rattle.parser.specs.Holds.{Halves, Memory, mem, window, Holds, Stands, Refines, Reads, keep}
 use Rattle.parser.specs.Laws.Holds.{by, by_state, less, Got, got, refused_on, holds_cv, with_cv}
 use Rattle.reader.specs.Laws.Opens.{wrote_fits}
 use Rattle.encoding.specs.Encodings.{qualified_by, Qualifies, GoesOn, with_parameters, with_returned}
@@ -52,18 +49,19 @@ returned_is n q σ = onto_ok (λ r. r ++ b " ") (behind n q) (reading ⟨type⟩
 
 -- ---------------------------------------------------------------- answers
 
-module _ {s text store ends text₁ store₁ ends₁ : Text} {p : Parser} {r : Read} (f : Reads (reading ⟨name⟩) (keep (p.depth + 1)) (p.at + 1) s (mem text store ends) (mem text₁ store₁ ends₁) p r) {σ : State} (h : Holds s (mem text store ends) p σ) where
+module _ {s text text₁ : Text} {store ends store₁ ends₁ : Halves} {p : Progress} {r : Read}
+    (f : Reads (reading ⟨name⟩) (keep (p.depth + 1)) (p.at + 1) s (mem text store ends) (mem text₁ store₁ ends₁) p r) {σ : State} (h : Holds s (mem text store ends) p σ) where
   abbrev pub Named : Memory → Read → Type 0
   Named m' v = Refines (keep p.depth) p.depth s (window (mem text store ends) p) (p.at + 1) m' v (function_or_data reading σ)
 
   pub name_refused : {m' : Memory} {j : Refusal} → r ≡ Refused j → Named m' r
   name_refused e = by (named_is σ) (refused_on from_name e (f σ h))
 
-  module _ {named : Parser} {n : ℕ} (e : r ≡ read named n) where
+  module _ {named : Progress} {n : ℕ} (e : r ≡ read named n) where
     pub name_got : Got (keep (p.depth + 1)) p.depth s (window (mem text store ends) p) (p.at + 1) (mem text₁ store₁ ends₁) named n (reading ⟨name⟩ σ)
     name_got = got e (f σ h)
 
-    module _ {next : Parser} (z : next ≡ cv_to named 0 0) where
+    module _ {next : Progress} (z : next ≡ cv_to named 0 0) where
       abbrev pub there : State
       there = with_cv [] name_got.state
 
@@ -74,17 +72,17 @@ module _ {s text store ends text₁ store₁ ends₁ : Text} {p : Parser} {r : R
       pub name_fits : (n ≤ next.top) × (n ≤ most_text_bytes)
       name_fits =
           let y = wrote_fits name_got.wrote (omega arith) in
-          (omega (arith, y.0, ap (λ (x : Parser). x.top) z), y.1)
+          (omega (arith, y.0, ap (λ (x : Progress). x.top) z), y.1)
 
       name_stands : Stands (keep (p.depth + 1)) p.depth s (window (mem text store ends) p) (p.at + 1) (mem text₁ store₁ ends₁) next n name_got.said there
       name_stands =
           let w = name_got.wrote in
           record {
             holds = name_holds;
-            tail = subst (λ (x : Parser). Tail (keep (p.depth + 1)) (take x.top text₁) (window (mem text store ends) p ++ name_got.said)) (sym z) w.tail;
+            tail = subst (λ (x : Progress). Tail (keep (p.depth + 1)) (take x.top text₁) (window (mem text store ends) p ++ name_got.said)) (sym z) w.tail;
             size = omega (arith, w.size, w.short);
-            level = ap (λ (x : Parser). x.depth) z ∙ w.level;
-            more = omega (arith, w.more, ap (λ (x : Parser). x.at) z);
+            level = ap (λ (x : Progress). x.depth) z ∙ w.level;
+            more = omega (arith, w.more, ap (λ (x : Progress). x.at) z);
             least = omega arith;
             most = omega (arith, h.deep);
           }
@@ -102,21 +100,24 @@ module _ {s text store ends text₁ store₁ ends₁ : Text} {p : Parser} {r : R
           named_is σ
           ∙ ap (onto from_name) y.is
           ∙ ap (λ (q : Text). named_on y.said q (ended y.state.rest) there) y.wrote.holds.cv
-          ∙ ap (λ (q : Bool). named_on y.said (qualified_by s left right) q there) (ap ended (y.wrote.holds.rest ∙ ap (λ (w : Parser). drop w.at s) (sym z)) ∙ x)
+          ∙ ap (λ (q : Bool). named_on y.said (qualified_by s left right) q there) (ap ended (y.wrote.holds.rest ∙ ap (λ (w : Progress). drop w.at s) (sym z)) ∙ x)
 
-      pub name_over : {text₂ : Text} {v : Read} → ended (drop next.at s) ≡ true → Qualifies s text₁ text₂ next n left right v → Named (mem text₂ store₁ ends₁) v
+      pub name_over : {m' : Memory} {v : Read} → ended (drop next.at s) ≡ true → Qualifies s (mem text₁ store₁ ends₁) m' next n left right v → Named m' v
       unfolding if◌then◌otherwise◌
-      name_over x g = by (name_is true x) (less (omega arith) (g _ _ _ _ _ _ _ _ name_stands))
+      name_over x g = by (name_is true x) (less (omega arith) (g _ _ _ _ _ _ name_stands))
 
-      templated_is : (q : Bool) → next.templated ≡ q → function_on name_got.said (qualified_by s left right) there.templated there ≡ function_on name_got.said (qualified_by s left right) q there
+      templated_is : (q : Bool) → next.templated ≡ q →
+          function_on name_got.said (qualified_by s left right) there.templated there ≡ function_on name_got.said (qualified_by s left right) q there
       templated_is q x = ap (λ (w : Bool). function_on name_got.said (qualified_by s left right) w there) (name_holds.templated ∙ x)
 
-      pub name_templated : {m' : Memory} {v : Read} → ended (drop next.at s) ≡ false → next.templated ≡ true → GoesOn with_returned s (mem text₁ store₁ ends₁) m' next n left right v → Named m' v
+      pub name_templated : {m' : Memory} {v : Read} → ended (drop next.at s) ≡ false → next.templated ≡ true →
+          GoesOn with_returned s (mem text₁ store₁ ends₁) m' next n left right v → Named m' v
       unfolding if◌then◌otherwise◌
       name_templated x y g =
           by (name_is false x ∙ templated_is true y ∙ returned_is name_got.said (qualified_by s left right) there)
           (goes_on_at with_returned left right g name_stands)
 
-      pub name_plain : {m' : Memory} {v : Read} → ended (drop next.at s) ≡ false → next.templated ≡ false → GoesOn with_parameters s (mem text₁ store₁ ends₁) m' next n left right v → Named m' v
+      pub name_plain : {m' : Memory} {v : Read} → ended (drop next.at s) ≡ false → next.templated ≡ false →
+          GoesOn with_parameters s (mem text₁ store₁ ends₁) m' next n left right v → Named m' v
       unfolding if◌then◌otherwise◌ onto
       name_plain x y g = by (name_is false x ∙ templated_is false y) (goes_on_at with_parameters left right g name_stands)

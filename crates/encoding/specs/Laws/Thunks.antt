@@ -1,55 +1,71 @@
 -- Offsets and the rows of thunks, by the bytes that stand first. Assumes nothing.
-use Rattle.std.specs.Prelude.{Bool, true, false, ℕ, ◌+◌, ◌≤◌, take, drop}
+use Rattle.std.specs.Prelude.{Bool, true, false, ℕ, ◌+◌, ◌≤◌, drop, get_or, Result as Result', Ok, Err}
 use mathlib.Core.List.{[], ◌∷◌}
 use Rattle.std.proofs.Math.Path.{◌≡◌, refl, sym, ap, subst}
-use Rattle.std.proofs.Common.{◌∙◌, arith}
+use Rattle.std.proofs.Common.{ap₂, eq-eqb, ◌∙◌, arith}
 use Rattle.std.proofs.Math.ListN.{length}
 use Rattle.grammar.specs.Text.{Text, b, if◌then◌otherwise◌, choose, same, starts, run, digit}
 use Rattle.grammar.specs.Limits.{most_text_bytes}
 use Rattle.grammar.specs.Reader.{State, Result, ok, refused, Reader, onto, go_to, start, find, by_code, cases, need}
 use Rattle.grammar.specs.Grammar.{reading, unsigned, offset, labelled, thunks, function_or_data}
-use Rattle.grammar.specs.Laws.Text.{same_not, starts_is}
+use Rattle.grammar.specs.Laws.Text.{same_not, starts_is, starts_nothing}
 use Rattle.grammar.specs.Laws.Agree.{moved}
 use Rattle.grammar.specs.Laws.Runs.{every_at, eat_here, eat_not, need_here, need_not}
-use Rattle.grammar.specs.declared.state.Parser.{Parser}
-use Rattle.grammar.specs.declared.state.Eaten.{Eaten}
-use Rattle.grammar.specs.declared.state.Eaten.TheVariants.{Next, Nothing}
-use Rattle.grammar.specs.States.{moved_to, eaten}
-use Rattle.grammar.specs.Laws.States.{Past}
-use Rattle.grammar.specs.Laws.Places.{starts_inside}
-use Rattle.grammar.specs.declared.state.Read.{Read}
-use Rattle.grammar.specs.declared.state.Read.TheVariants.{Refused}
-use Rattle.parser.specs.Holds.{Memory, Holds}
-use Rattle.parser.specs.Laws.Holds.{by_state, holds_moved}
-use Rattle.encoding.specs.Encodings.{Fresh, Encodes, refuses, Stepped, past, stopped, StepsOver, SteppedFrom, two_offsets}
-use Rattle.encoding.specs.Laws.Answers.{encodes_by}
-use Rattle.encoding.specs.Laws.Specials.{fresh_holds}
+use Rattle.grammar.specs.Laws.Places.{rest_some, starts_inside}
+use Rattle.grammar.specs.Words.{longest_word}
+use Rattle.store.specs.Stack.{Put}
+use Rattle.store.specs.declared.stack.Stack.{Stack}
+use Rattle.parser.specs.Holds.{Holds, window, keep}
+use Rattle.parser.specs.declared.demangler.Demangler.{Demangler}
+use Rattle.parser.specs.Demanglers.{state_of, memory_of, Held, Prepared, at_place, Eats, eats, stays, Needs, needs, lacks, outcome, given_length, Parses}
+use Rattle.parser.specs.Laws.Demanglers.{held_at, puts_of, reads_of, given_by}
+use Rattle.parser.specs.Laws.Holds.{holds_puts}
+use Rattle.encoding.specs.Encodings.{Begun, Encodes, refuses, Encoded, Stepped, past, stopped, StepsOver, two_offsets}
+use Rattle.encoding.specs.Laws.Answers.{encodes_by, encodes_refines}
+use Rattle.encoding.specs.Laws.Specials.{fresh_holds, behind_refused, behind_got, behind_given}
+use Rattle.grammar.specs.declared.refusal.Refusal.{Refusal}
 use Rattle.grammar.specs.declared.refusal.Refusal.TheVariants.{NoRule}
+
+-- ---------------------------------------------------------------- two bytes that stand first
+
+module _ (s : Text) {x y : ℕ} where
+  pub starts_both : 2 ≤ length s → get_or s 0 0 ≡ x → get_or s 1 0 ≡ y → starts s (x ∷ y ∷ []) ≡ true
+  unfolding starts
+  starts_both l h k =
+      let e : s ≡ x ∷ y ∷ drop 2 s = rest_some s 0 (omega arith) ∙ ap₂ (λ (i : ℕ) (t : Text). i ∷ t) h (rest_some s 1 (omega arith) ∙ ap (λ (i : ℕ). i ∷ drop 2 s) k) in
+      ap (λ (t : Text). starts t (x ∷ y ∷ [])) e ∙ rw (eq-eqb x x refl, eq-eqb y y refl) (starts_nothing (drop 2 s))
+
+  pub starts_unlike : (2 ≤ length s → get_or s 0 0 ≡ x → get_or s 1 0 ≡ y → ⊥) → starts s (x ∷ y ∷ []) ≡ false
+  starts_unlike h = go (starts s (x ∷ y ∷ [])) refl
+    where
+      go : (q : Bool) → starts s (x ∷ y ∷ []) ≡ q → q ≡ false
+      go false e = refl
+      go true e =
+          let f = starts_is s (x ∷ y ∷ []) e in
+          absurd (h (omega (arith, ap length f)) (ap (λ (t : Text). get_or t 0 0) f) (ap (λ (t : Text). get_or t 1 0) f))
 
 -- ---------------------------------------------------------------- what is stepped over, taken apart
 
--- the state q is p at another place, and there the grammar's x goes on
-pub record Place (s : Text) (p : Parser) (σ : State) (q : Parser) (x : Result (Unit {0})) : Type 0 where
+-- d' is d at another place, and there the grammar's x goes on
+pub record Place (d d' : Demangler) (σ : State) (x : Result (Unit {0})) : Type 0 where
   pub at : ℕ
-  pub within : at ≤ length s
-  pub next : q ≡ moved_to p at
-  pub is : x ≡ ok tt (moved (drop at s) σ)
+  pub within : at ≤ length d.s.now
+  pub next : d' ≡ at_place d at
+  pub is : x ≡ ok tt (moved (drop at d.s.now) σ)
 
-module _ {s : Text} {p : Parser} {σ : State} {r : Eaten} {x : Result (Unit {0})} where
-  stepped_none : Stepped s p σ r x → r ≡ Nothing → x ≡ refused 4
-  stepped_none (past {at} l a c) e = let h : Nothing ≡ Next (moved_to p at) = sym e ∙ a in let z : ◌≡◌ {A = ℕ} 0 1 = cc in absurd (omega arith)
-  stepped_none (stopped a c) e = c
+module _ {d d' : Demangler} {σ : State} {x : Result (Unit {0})} where
+  stepped_none : {e : Refusal} → Stepped d d' σ x (Err e) → (x ≡ refused 4) × (e ≡ NoRule)
+  stepped_none (stopped c) = (c, refl)
 
-  stepped_next : {q : Parser} → Stepped s p σ r x → r ≡ Next q → Place s p σ q x
+  stepped_next : {u : Unit {0}} → Stepped d d' σ x (Ok u) → Place d d' σ x
   unfolding go_to
-  stepped_next {q} (past {at} l a c) e = record { at = at; within = l; next = let h : Next q ≡ Next (moved_to p at) = sym e ∙ a in cc; is = c }
-  stepped_next {q} (stopped a c) e = let h : Next q ≡ Nothing = sym e ∙ a in let z : ◌≡◌ {A = ℕ} 0 1 = cc in absurd (omega arith)
+  stepped_next (past {at} l a c) = record { at = at; within = l; next = a; is = c }
 
   -- from another place
-  stepped_from : {at : ℕ} → Stepped s (moved_to p at) (moved (drop at s) σ) r x → Stepped s p σ r x
+  stepped_from : {at : ℕ} {r : Result' (Unit {0}) Refusal} → Stepped (at_place d at) d' (moved (drop at d.s.now) σ) x r → Stepped d d' σ x r
   unfolding go_to
   stepped_from (past l a c) = past l a c
-  stepped_from (stopped a c) = stopped a c
+  stepped_from (stopped c) = stopped c
 
 -- ---------------------------------------------------------------- offsets
 
@@ -75,44 +91,44 @@ module _ (s : Text) (at : ℕ) (σ : State) (e : σ.rest ≡ drop at s) {end : �
     unfolding b go_to
     digits_closed g = by_end ∙ need_here "_" s end (moved (drop end s) σ) refl g
 
-module _ {s : Text} {p : Parser} {end : ℕ} (n : end ≡ p.at + length (run (digit 10) (drop p.at s))) where
-  pub unsigned_none : end ≡ p.at → StepsOver unsigned s p Nothing
-  unsigned_none h σ e = stopped refl (no_digits s p.at σ e n h)
+module _ {d d' : Demangler} {end : ℕ} (n : end ≡ d.state.at + length (run (digit 10) (drop d.state.at d.s.now))) where
+  unsigned_none : end ≡ d.state.at → StepsOver unsigned d d' (Err NoRule)
+  unsigned_none h σ e = stopped (no_digits d.s.now d.state.at σ e n h)
 
-  pub unsigned_ate : {q : Parser} {r : Eaten} → (end ≡ p.at → ⊥) → q ≡ moved_to p end → r ≡ eaten q 95 (drop q.at s) → StepsOver unsigned s p r
-  unfolding if◌then◌otherwise◌
-  unsigned_ate {q} {r} h z f σ e = go (starts (drop end s) (95 ∷ [])) refl
-    where
-      is : r ≡ eaten (moved_to p end) 95 (drop end s)
-      is = f ∙ ap (λ (x : Parser). eaten x 95 (drop x.at s)) z
+  unsigned_ate : {r : Result' (Unit {0}) Refusal} → (end ≡ d.state.at → ⊥) → Needs 95 (at_place d end) d' r → StepsOver unsigned d d' r
+  unsigned_ate h (needs g f) σ e = past {at = end + 1} (omega (arith, starts_inside d.s.now end 95 g)) f (digits_closed d.s.now d.state.at σ e n h g)
+  unsigned_ate h (lacks g f) σ e = stopped (digits_open d.s.now d.state.at σ e n h g)
 
-      go : (b : Bool) → starts (drop end s) (95 ∷ []) ≡ b → Stepped s p σ r (unsigned σ)
-      go true g = past {at = end + 1} (omega (arith, starts_inside s end 95 g)) (is ∙ rw g refl) (digits_closed s p.at σ e n h g)
-      go false g = stopped (is ∙ rw g refl) (digits_open s p.at σ e n h g)
+offset_behind : {d d₁ d₂ : Demangler} {q : Bool} {r : Result' (Unit {0}) Refusal} → Eats 110 d d₁ q → StepsOver unsigned d₁ d₂ r → StepsOver offset d d₂ r
+unfolding offset onto b
+offset_behind {d} {d₁} {d₂} {r = r} (stays h e) f σ i =
+    let k = subst (λ (x : Demangler). StepsOver unsigned x d₂ r) e f σ i in
+    subst (λ (x : Result (Unit {0})). Stepped d d₂ σ x r) (sym (ap (onto (λ _. unsigned)) (eat_not "n" d.s.now d.state.at σ i h))) k
+offset_behind {d} {d₁} {d₂} {r = r} (eats h e) f σ i =
+    let k = subst (λ (x : Demangler). StepsOver unsigned x d₂ r) e f (moved (drop (d.state.at + 1) d.s.now) σ) refl in
+    subst (λ (x : Result (Unit {0})). Stepped d d₂ σ x r) (sym (ap (onto (λ _. unsigned)) (eat_here "n" d.s.now d.state.at σ i h))) (stepped_from k)
 
-module _ {s : Text} {p : Parser} {r : Eaten} where
-  pub offset_plain : starts (drop p.at s) (110 ∷ []) ≡ false → StepsOver unsigned s p r → StepsOver offset s p r
-  unfolding offset onto b
-  offset_plain h f σ e = subst (λ (x : Result (Unit {0})). Stepped s p σ r x) (sym (ap (onto (λ _. unsigned)) (eat_not "n" s p.at σ e h))) (f σ e)
+module _ {d d₁ d₂ : Demangler} {q : Bool} {end : ℕ} (e : Eats 110 d d₁ q) (n : end ≡ d₁.state.at + length (run (digit 10) (drop d₁.state.at d₁.s.now))) where
+  pub offset_none : end ≡ d₁.state.at → StepsOver offset d d₂ (Err NoRule)
+  offset_none h = offset_behind e (unsigned_none n h)
 
-  pub offset_minus : {q : Parser} → Past s p 110 q → StepsOver unsigned s q r → StepsOver offset s p r
-  unfolding offset onto b
-  offset_minus {q} h f σ e =
-      let i = subst (λ (x : Parser). StepsOver unsigned s x r) h.next f (moved (drop (p.at + 1) s) σ) refl in
-      subst (λ (x : Result (Unit {0})). Stepped s p σ r x) (sym (ap (onto (λ _. unsigned)) (eat_here "n" s p.at σ e h.ahead))) (stepped_from i)
+  pub offset_ate : {r : Result' (Unit {0}) Refusal} → (end ≡ d₁.state.at → ⊥) → Needs 95 (at_place d₁ end) d₂ r → StepsOver offset d d₂ r
+  offset_ate h f = offset_behind e (unsigned_ate n h f)
 
 -- two offsets, one after the other
-module _ {s : Text} {p : Parser} {r : Eaten} (g : StepsOver offset s p r) where
-  pub no_offset : r ≡ Nothing → StepsOver two_offsets s p r
+module _ {d d₁ : Demangler} where
+  no_offset : {d₂ : Demangler} {e : Refusal} → StepsOver offset d d₁ (Err e) → StepsOver two_offsets d d₂ (Err e)
   unfolding onto
-  no_offset e σ h = stopped e (ap (onto (λ _. offset)) (stepped_none (g σ h) e))
+  no_offset {d₂} {e} g σ h =
+      let z = stepped_none (g σ h) in
+      subst (λ (x : Refusal). Stepped d d₂ σ (two_offsets σ) (Err x)) (sym z.1) (stopped (ap (onto (λ _. offset)) z.0))
 
-  pub next_offset : {q : Parser} {r' : Eaten} → r ≡ Next q → StepsOver offset s q r' → StepsOver two_offsets s p r'
+  next_offset : {d₂ : Demangler} {u : Unit {0}} {r : Result' (Unit {0}) Refusal} → StepsOver offset d d₁ (Ok u) → StepsOver offset d₁ d₂ r → StepsOver two_offsets d d₂ r
   unfolding onto
-  next_offset {q} {r'} e f σ h =
-      let z = stepped_next (g σ h) e in
-      let k = subst (λ (x : Parser). StepsOver offset s x r') z.next f (moved (drop z.at s) σ) refl in
-      subst (λ (x : Result (Unit {0})). Stepped s p σ r' x) (sym (ap (onto (λ _. offset)) z.is)) (stepped_from k)
+  next_offset {d₂} {r = r} g f σ h =
+      let z = stepped_next (g σ h) in
+      let k = subst (λ (x : Demangler). StepsOver offset x d₂ r) z.next f (moved (drop z.at d.s.now) σ) refl in
+      subst (λ (x : Result (Unit {0})). Stepped d d₂ σ x r) (sym (ap (onto (λ _. offset)) z.is)) (stepped_from k)
 
 -- ---------------------------------------------------------------- the rows
 
@@ -146,36 +162,87 @@ module _ (s : Text) where
   unfolding thunks by_code find choose onto b if◌then◌otherwise◌ start
   no_thunk e f = rw (e, f)
 
--- what is stepped over behind T and a letter
-pub row_starts :
-    {s : Text} {m : Memory} (p : Parser) {q : Parser} (c : ℕ) {f : Reader (Unit {0})} {r : Eaten} → length s ≤ most_text_bytes → Fresh m p → starts s (84 ∷ c ∷ []) ≡ true →
-    q ≡ moved_to p 2 → StepsOver f s q r → SteppedFrom s m (moved_to p 2) r (f (opened s))
-row_starts {s} p c {f} {r} l h e z g = record {
-  from = opened s;
-  holds = holds_moved (fresh_holds l h) 2 (omega (arith, ap length (starts_is s (84 ∷ c ∷ []) e)));
-  stepped = subst (λ (y : Parser). StepsOver f s y r) z g (opened s) refl;
-}
-
 -- ---------------------------------------------------------------- a function or data behind offsets
 
-module _ {s : Text} {m : Memory} {p : Parser} {r : Eaten} {x : Result (Unit {0})} (h : SteppedFrom s m p r x) where
-  pub stopped_refused : {k : ℕ} {above : Text} (w : Text) {m' : Memory} → r ≡ Nothing → Encodes k s above m' (Refused NoRule) (onto (λ _. labelled w base) x)
+-- the place is behind a thunk's offsets, and the reading goes on there with its label in front
+pub record Labelled (d d' : Demangler) (w : Text) : Type 0 where
+  pub at : ℕ
+  pub within : at ≤ length d.s.now
+  pub next : d' ≡ at_place d at
+  pub is : rows (start d.s.now) ≡ labelled w base (moved (drop at d.s.now) (start d.s.now))
+  pub fits : length w ≤ longest_word
+
+module _ {d : Demangler} (w : Text) {f : Reader (Unit {0})} (row : rows (start d.s.now) ≡ onto (λ _. labelled w base) (f (opened d.s.now))) where
+  labelled_by : {d' : Demangler} {u : Unit {0}} → length w ≤ longest_word → StepsOver f (at_place d 2) d' (Ok u) → Labelled d d' w
   unfolding onto
-  stopped_refused w e = encodes_by (ap (onto (λ _. labelled w base)) (stepped_none h.stepped e)) refuses
+  labelled_by l g =
+      let z = stepped_next (g (opened d.s.now) refl) in
+      record { at = z.at; within = z.within; next = z.next; is = row ∙ ap (onto (λ _. labelled w base)) z.is; fits = l }
 
-  module _ {q : Parser} (e : r ≡ Next q) where
-    pub behind_offsets : Place s p h.from q x
-    behind_offsets = stepped_next h.stepped e
+  unlabelled_by : {d' : Demangler} {e : Refusal} → StepsOver f (at_place d 2) d' (Err e) → Encoded d d' (Err e) (rows (start d.s.now))
+  unfolding onto
+  unlabelled_by {d'} {e} g =
+      let z = stepped_none (g (opened d.s.now) refl) in
+      subst (λ (x : Refusal). Encoded d d' (Err x) (rows (start d.s.now))) (sym z.1)
+      (record { symbol = λ i. cc; is = encodes_by (row ∙ ap (onto (λ _. labelled w base)) z.0) refuses })
 
-    pub there : State
-    there = moved (drop behind_offsets.at s) h.from
+module _ (d : Demangler) where
+  module _ (e : starts d.s.now (84 ∷ 104 ∷ []) ≡ true) where
+    pub labelled_h : {d' : Demangler} {u : Unit {0}} → StepsOver offset (at_place d 2) d' (Ok u) → Labelled d d' (b "non-virtual thunk to ")
+    unfolding b
+    labelled_h g = labelled_by _ (row_h d.s.now e) (omega arith) g
 
-    pub offsets_hold : Holds s m q there
-    unfolding there
-    offsets_hold = by_state behind_offsets.next (holds_moved h.holds behind_offsets.at behind_offsets.within)
+    pub unlabelled_h : {d' : Demangler} {r : Refusal} → StepsOver offset (at_place d 2) d' (Err r) → Encoded d d' (Err r) (rows (start d.s.now))
+    unlabelled_h g = unlabelled_by _ (row_h d.s.now e) g
 
-    pub offsets_read : {k : ℕ} (w text : Text) {m' : Memory} {v : Read} → Encodes k s (take q.top text) m' v (labelled w base there) →
-        Encodes k s (take p.top text) m' v (onto (λ _. labelled w base) x)
-    unfolding onto there
-    offsets_read {k} w text {m'} {v} g =
-        encodes_by (ap (onto (λ _. labelled w base)) behind_offsets.is) (subst (λ (y : Parser). Encodes k s (take y.top text) m' v (labelled w base there)) behind_offsets.next g)
+  module _ (e : starts d.s.now (84 ∷ 118 ∷ []) ≡ true) where
+    pub labelled_v : {d₁ d₂ : Demangler} {u v : Unit {0}} → StepsOver offset (at_place d 2) d₁ (Ok u) → StepsOver offset d₁ d₂ (Ok v) → Labelled d d₂ (b "virtual thunk to ")
+    unfolding b
+    labelled_v g f = labelled_by _ (row_v d.s.now e) (omega arith) (next_offset g f)
+
+    pub unlabelled_v : {d₁ : Demangler} {r : Refusal} → StepsOver offset (at_place d 2) d₁ (Err r) → Encoded d d₁ (Err r) (rows (start d.s.now))
+    unlabelled_v {d₁} g = unlabelled_by _ (row_v d.s.now e) (no_offset g)
+
+    pub unlabelled_second : {d₁ d₂ : Demangler} {u : Unit {0}} {r : Refusal} → StepsOver offset (at_place d 2) d₁ (Ok u) → StepsOver offset d₁ d₂ (Err r) →
+        Encoded d d₂ (Err r) (rows (start d.s.now))
+    unlabelled_second g f = unlabelled_by _ (row_v d.s.now e) (next_offset g f)
+
+-- no thunk
+pub plain_encoded : {d d' : Demangler} {r : Result' ℕ Refusal} → length d.s.now ≤ most_text_bytes → Begun d → starts d.s.now (84 ∷ 104 ∷ []) ≡ false →
+    starts d.s.now (84 ∷ 118 ∷ []) ≡ false →
+    Parses base (keep d.state.depth) (d.state.at + 1) d d' r → Encoded d d' r (rows (start d.s.now))
+plain_encoded {d} l h e f g = record { symbol = λ j. g.symbol; is = encodes_by (no_thunk d.s.now e f) (encodes_refines (omega arith) (g.reads (start d.s.now) (fresh_holds l h))) }
+
+module _ {d d' : Demangler} {w : Text} (l : length d.s.now ≤ most_text_bytes) (h : Begun d) (i : Labelled d d' w) where
+  abbrev there : State
+  there = moved (drop i.at d.s.now) (start d.s.now)
+
+  pub labelled_held : Held d' there
+  labelled_held = held_at i.next i.within (fresh_holds l h)
+
+  pub labelled_symbol : d'.s.now ≡ d.s.now
+  labelled_symbol = ap (λ (x : Demangler). x.s.now) i.next
+
+  labelled_holds : Holds d.s.now (memory_of d') (state_of d') there
+  labelled_holds = subst (λ (t : Text). Holds t (memory_of d') (state_of d') there) labelled_symbol labelled_held
+
+  -- the word is put, and a reading goes on behind it
+  module _ (x : Stack) (u : Put d'.stack.bytes.now x.bytes.now d'.stack.top x.top w) where
+    pub put_prepared : Prepared (record d' { stack = x })
+    put_prepared = (there, holds_puts (puts_of d' x u) labelled_held)
+
+    module _ {d₂ : Demangler} where
+      pub labelled_refused : {e : Refusal} → Parses base (keep d'.state.depth) (d'.state.at + 1) (record d' { stack = x }) d₂ (Err e) → Encoded d d₂ (Err e) (rows (start d.s.now))
+      labelled_refused g = record { symbol = λ j. cc; is = encodes_by i.is (behind_refused labelled_holds (puts_of d' x u) (reads_of labelled_symbol g) refl) }
+
+      pub labelled_short : {n : ℕ} → Parses base (keep d'.state.depth) (d'.state.at + 1) (record d' { stack = x }) d₂ (Ok n) → n ≤ most_text_bytes
+      labelled_short g = let v = (behind_got labelled_holds (puts_of d' x u) (reads_of labelled_symbol g) refl).wrote in omega (arith, v.size, v.short)
+
+      pub labelled_given : {n : ℕ} {r : Result' ℕ Refusal} → Parses base (keep d'.state.depth) (d'.state.at + 1) (record d' { stack = x }) d₂ (Ok n) → r ≡ given_length (n + length w) →
+          Encoded d d₂ r (rows (start d.s.now))
+      labelled_given {n} {r} g e = record {
+        symbol = λ j. g.symbol ∙ labelled_symbol;
+        is = encodes_by i.is
+            (subst (λ (y : Demangler). Encodes (keep 0) d.s.now (window (memory_of y) (state_of y)) (memory_of d₂) (outcome (state_of d₂) r) (labelled w base there)) i.next
+            (behind_given labelled_holds (puts_of d' x u) (reads_of labelled_symbol g) (omega arith) i.fits refl (given_by (state_of d₂) (n + length w) e)));
+      }

@@ -22,8 +22,7 @@ use Rattle.grammar.specs.Laws.Alike.{dot, Place, before, behind, ahead_of, other
 use Rattle.grammar.specs.Laws.Alike.{returns, refuses_alike, field, unseen, asked, told, ask, undotted, empty_blind, all_undotted}
 use Rattle.grammar.specs.Laws.Alike.{ended_blind, list_blind, digit_blind, std_blind, structor_dot, structor_blind}
 use Rattle.grammar.specs.Laws.Alike.{by_code_alike, by_table_alike, at_code_alike, every_alike, set_args_alike, set_cv_alike, set_templated_alike, give_alike}
-use Rattle.grammar.specs.Laws.Alike.{push_sub_alike, push_arg_alike, recorded_alike, entered_alike, see_alike, eat_alike, need_alike, any_alike, while_alike}
-use Rattle.grammar.specs.Laws.Alike.{up_to_E_alike}
+use Rattle.grammar.specs.Laws.Alike.{push_sub_alike, push_arg_alike, recorded_alike, entered_alike, see_alike, eat_alike, need_alike, any_alike, while_alike, up_to_E_alike}
 
 -- ---------------------------------------------------------------- productions of letters and digits alone
 

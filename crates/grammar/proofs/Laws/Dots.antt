@@ -11,8 +11,7 @@ use Rattle.grammar.specs.Reader.{Result, ok, refused, start, find}
 use Rattle.grammar.specs.Grammar.{⟨encoding⟩, ended, reading}
 use Rattle.grammar.specs.Names.{Answer, refusal, Lent, high, finished, mangled_name, front, demangle, answer, work_fits, within}
 use Rattle.grammar.specs.Laws.Agree.{end, row, coded}
-use Rattle.grammar.specs.Laws.Alike.{dot, Place, before, behind, other, Same, reads, passes, refuses, at, unseen, undotted, all_undotted, Hit, miss, hit}
-use Rattle.grammar.specs.Laws.Alike.{find_hit, ended_blind}
+use Rattle.grammar.specs.Laws.Alike.{dot, Place, before, behind, other, Same, reads, passes, refuses, at, unseen, undotted, all_undotted, Hit, miss, hit, find_hit, ended_blind}
 use Rattle.grammar.proofs.Laws.AlikeReadings.{reading_alike}
 
 -- the bytes that a reading leaves; none where it is refused

@@ -9,8 +9,7 @@ use Rattle.grammar.specs.Text.{Text, b, if◌then◌otherwise◌, choose, starts
 use Rattle.grammar.specs.Laws.Text.{both}
 use Rattle.grammar.specs.Tables.{Row, ◌⇒◌}
 use Rattle.grammar.specs.Reader.{State, Result, ok, refused, Reader, onto, find, by_code, at_code, go_to, set_subs, set_args, set_depth, set_cv}
-use Rattle.grammar.specs.Reader.{set_templated, push_sub, push_arg, give, recorded, entered, refuse, return, see, eat, need, first, any, every, steps}
-use Rattle.grammar.specs.Reader.{while, up_to_E}
+use Rattle.grammar.specs.Reader.{set_templated, push_sub, push_arg, give, recorded, entered, refuse, return, see, eat, need, first, any, every, steps, while, up_to_E}
 
 abbrev pub unread : State → ℕ
 unread s = length s.rest

@@ -12,8 +12,7 @@ use Rattle.grammar.specs.Reader.{State, Result, ok, refused, Reader, onto, refus
 use Rattle.grammar.specs.Reader.{set_templated, push_sub, push_arg, give, recorded, entered, see, eat, need, first, any, every, steps, while, up_to_E}
 use Rattle.grammar.specs.Grammar.{ended, digit_ahead, std_ahead, structor_ahead}
 use Rattle.grammar.specs.Laws.Text.{both, starts_nothing}
-use Rattle.grammar.specs.Laws.Agree.{unread, moved, Agree, refuses as ends, branch as agree_branch, Rows, end, row, all_coded, each_row}
-use Rattle.grammar.specs.Laws.Agree.{past_shorter, while_is}
+use Rattle.grammar.specs.Laws.Agree.{unread, moved, Agree, refuses as ends, branch as agree_branch, Rows, end, row, all_coded, each_row, past_shorter, while_is}
 
 -- the byte of b "."
 abbrev pub dot : ℕ

@@ -7,9 +7,9 @@ use Rattle.std.specs.List.{list_any}
 use mathlib.Core.List.{List, [], ◌∷◌}
 use Rattle.std.proofs.Math.Option.{Option, none, some}
 use Rattle.std.proofs.Math.Path.{refl, ap}
-use Rattle.std.proofs.Common.{sym, subst, arith, eqb-true}
+use Rattle.std.proofs.Common.{sym, subst, eqb-true}
 use Rattle.std.proofs.Math.Dec.{eqb}
-use Rattle.grammar.specs.Text.{if◌then◌otherwise◌, choose, digit}
+use Rattle.grammar.specs.Text.{if◌then◌otherwise◌, choose, digit, digit_value}
 use Rattle.catalogue.specs.Tree.{Letter as Letters, Wrap as Wraps, letter_code, wrap_code}
 use Rattle.catalogue.specs.Recogniser.{with_code, all_letters, all_wraps, Lead as First, lead_letter, lead_wrap, lead_digit, lead_S, lead_N, lead_L, lead_none, lead}
 use Rattle.normal_steps.specs.declared.lead.Lead.{Lead}
@@ -40,43 +40,40 @@ module _ {A : Type 0} (f : A → ℕ) (c : ℕ) where
 -- for a test of the bytes
 pub ruleset bytes = (there_any, nat_tests)
 
+-- says nothing: where it is opened, all that it names is, and an attribute cannot name if◌then◌otherwise◌
+unfoldable pub classes : Type 0
+unfolding lead with_code if◌then◌otherwise◌ digit digit_value choose
+classes = Unit {0}
+
 -- ---------------------------------------------------------------- what a class says of the byte
 
-letter_byte : (c : ℕ) (l : Letters) → lead c ≡ lead_letter l → letter_code l ≡ c
-unfolding lead if◌then◌otherwise◌ choose
-letter_byte c l = go (digit 10 c) (eqb c 83) (eqb c 78) (eqb c 76) (with_code wrap_code c all_wraps) (with_code letter_code c all_letters) refl
-  where
-    go : (p q r t : Bool) (v : Option Wraps) (o : Option Letters) → with_code letter_code c all_letters ≡ o
-        → (if p then lead_digit otherwise
-        if q then lead_S otherwise
-        if r then lead_N otherwise
-        if t then lead_L otherwise choose v lead_wrap (choose o lead_letter lead_none)) ≡ lead_letter l
-        → letter_code l ≡ c
-    go true q r t v o e h = let z : ◌≡◌ {A = ℕ} 0 1 = cc in absurd (omega arith)
-    go false true r t v o e h = let z : ◌≡◌ {A = ℕ} 0 1 = cc in absurd (omega arith)
-    go false false true t v o e h = let z : ◌≡◌ {A = ℕ} 0 1 = cc in absurd (omega arith)
-    go false false false true v o e h = let z : ◌≡◌ {A = ℕ} 0 1 = cc in absurd (omega arith)
-    go false false false false (some w) o e h = let z : ◌≡◌ {A = ℕ} 0 1 = cc in absurd (omega arith)
-    go false false false false none (some m) e h = let z : m ≡ l = cc in rw (← z) (coded letter_code c all_letters m e)
-    go false false false false none none e h = let z : ◌≡◌ {A = ℕ} 0 1 = cc in absurd (omega arith)
+-- the byte of a letter or a wrapper
+abbrev HasByte : ℕ → First → Type 0
+HasByte c (lead_letter l) = letter_code l ≡ c
+HasByte c (lead_wrap w) = wrap_code w ≡ c
+HasByte c lead_digit = Unit {0}
+HasByte c lead_S = Unit {0}
+HasByte c lead_N = Unit {0}
+HasByte c lead_L = Unit {0}
+HasByte c lead_none = Unit {0}
 
-wrap_byte : (c : ℕ) (w : Wraps) → lead c ≡ lead_wrap w → wrap_code w ≡ c
+has_byte : (c : ℕ) → HasByte c (lead c)
 unfolding lead if◌then◌otherwise◌ choose
-wrap_byte c w = go (digit 10 c) (eqb c 83) (eqb c 78) (eqb c 76) (with_code wrap_code c all_wraps) (with_code letter_code c all_letters) refl
+has_byte c = go (digit 10 c) (eqb c 83) (eqb c 78) (eqb c 76) (with_code wrap_code c all_wraps) (with_code letter_code c all_letters) refl refl
   where
-    go : (p q r t : Bool) (v : Option Wraps) (o : Option Letters) → with_code wrap_code c all_wraps ≡ v
-        → (if p then lead_digit otherwise
+    go : (p q r t : Bool) (v : Option Wraps) (o : Option Letters) → with_code wrap_code c all_wraps ≡ v → with_code letter_code c all_letters ≡ o
+        → HasByte c
+        (if p then lead_digit otherwise
         if q then lead_S otherwise
         if r then lead_N otherwise
-        if t then lead_L otherwise choose v lead_wrap (choose o lead_letter lead_none)) ≡ lead_wrap w
-        → wrap_code w ≡ c
-    go true q r t v o e h = let z : ◌≡◌ {A = ℕ} 0 1 = cc in absurd (omega arith)
-    go false true r t v o e h = let z : ◌≡◌ {A = ℕ} 0 1 = cc in absurd (omega arith)
-    go false false true t v o e h = let z : ◌≡◌ {A = ℕ} 0 1 = cc in absurd (omega arith)
-    go false false false true v o e h = let z : ◌≡◌ {A = ℕ} 0 1 = cc in absurd (omega arith)
-    go false false false false (some u) o e h = let z : u ≡ w = cc in rw (← z) (coded wrap_code c all_wraps u e)
-    go false false false false none (some m) e h = let z : ◌≡◌ {A = ℕ} 0 1 = cc in absurd (omega arith)
-    go false false false false none none e h = let z : ◌≡◌ {A = ℕ} 0 1 = cc in absurd (omega arith)
+        if t then lead_L otherwise choose v lead_wrap (choose o lead_letter lead_none))
+    go true q r t v o e f = tt
+    go false true r t v o e f = tt
+    go false false true t v o e f = tt
+    go false false false true v o e f = tt
+    go false false false false (some w) o e f = coded wrap_code c all_wraps w e
+    go false false false false none (some l) e f = coded letter_code c all_letters l f
+    go false false false false none none e f = tt
 
 abbrev pub LeadIs : ℕ → Lead → Type 0
 LeadIs c Letter = (l : Letters) × ((lead c ≡ lead_letter l) × (letter_code l ≡ c))
@@ -88,8 +85,8 @@ LeadIs c L = lead c ≡ lead_L
 LeadIs c None = lead c ≡ lead_none
 
 classed : (c : ℕ) (x : First) → lead c ≡ x → LeadIs c (class x)
-classed c (lead_letter l) e = (l, (e, letter_byte c l e))
-classed c (lead_wrap w) e = (w, (e, wrap_byte c w e))
+classed c (lead_letter l) e = (l, (e, subst (HasByte c) e (has_byte c)))
+classed c (lead_wrap w) e = (w, (e, subst (HasByte c) e (has_byte c)))
 classed c lead_digit e = e
 classed c lead_S e = e
 classed c lead_N e = e

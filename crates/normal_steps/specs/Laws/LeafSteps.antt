@@ -10,11 +10,11 @@ use Rattle.grammar.specs.Text.{Text, choose}
 use Rattle.catalogue.specs.Tree.{Ty, lit, kind_code}
 use Rattle.catalogue.specs.Spelling.{name_bytes}
 use Rattle.catalogue.specs.Recogniser.{Rd, rd}
-use Rattle.normal_walk.specs.Walk.{reference, literal, lit_bytes}
+use Rattle.normal_walk.specs.Walk.{name, reference, literal, lit_bytes}
 use Rattle.normal_walk.specs.Laws.Joins.{OfRd}
 use Rattle.normal_walk.proofs.Laws.Leaves.{Literal, lit_sound}
 use Rattle.normal_walk.proofs.Laws.Sizes.{name_length}
-use Rattle.normal_nodes.specs.Nodes.{node, Notes, Got, got, bad, notes, put, go_to, settled, signed_kind, with_node, number_of, at_reference}
+use Rattle.normal_nodes.specs.Nodes.{node, Notes, Noter, Got, got, bad, notes, put, go_to, settled, signed_kind, with, with_node, number_of, at_reference}
 use Rattle.normal_nodes.specs.Laws.Nodes.{kind_below}
 use Rattle.normal_steps.specs.Limits.{most_note, out_length}
 use Rattle.normal_steps.specs.Parts.{part}
@@ -25,7 +25,7 @@ use Rattle.normal_steps.specs.States.{moved_to, written_to}
 use Rattle.normal_steps.specs.Carries.{Work, Carries, Room, Stretch, notes_node, at_literal, Passed}
 use Rattle.normal_steps.specs.Laws.Slices.{out_size}
 use Rattle.normal_steps.specs.Laws.Moves.{holds_moved}
-use Rattle.normal_steps.specs.Laws.Limits.{passed_none, passed_more, room_for, stretch_for}
+use Rattle.normal_steps.specs.Laws.Limits.{passed_none, passed_more, room_for, room_less, stretch_for}
 use Rattle.normal_steps.specs.Laws.Steps.{with_some}
 use Rattle.normal_steps.specs.declared.state.State.{State}
 
@@ -52,6 +52,19 @@ module _ {s : Text} {at from to : ℕ} (x : NameAt s at from to) where
     pub name_fits : p.out + length (name_of s from to) ≤ length ws.out
     name_fits = let z = name_size in let i = x.inside in omega (arith, out_size h)
 
+    -- as the writing tells it
+    pub name_held : {s' : Text} {ws' : Work} {r : State}
+        → ((τ : Notes) → Carries s ws (moved_to p to) τ → p.out + length (name_of s from to) + 1 ≤ 4 * to → Carries s' ws' r (put (name_of s from to) τ))
+        → Carries s' ws' r (put (name_of s from to) (go_to (drop to s) σ))
+    name_held f = let z = name_size in f _ (holds_moved h to (omega arith) x.inside) (omega (arith, h.short))
+
+    -- what follows the name
+    pub name_reads : {s' : Text} (f : Text → Noter ℕ) → s' ≡ s
+        → with (name σ.rest) (λ n r. f n (put (name_bytes n) (go_to r σ))) ≡ f (part s' from to) (put (name_of s from to) (go_to (drop to s) σ))
+    name_reads f e =
+        with_some _ (ap name (h.rest ∙ ap (λ (k : ℕ). drop k s) (sym b)) ∙ x.is)
+        ∙ ap (λ (n : Text). f n (put (name_of s from to) (go_to (drop to s) σ))) (sym (same_part from to e))
+
     module _ {r : State} (y : r ≡ written_to (moved_to p to) (p.out + length (name_of s from to))) where
       pub name_wrote : Passed to (to - at) p r
       name_wrote =
@@ -65,11 +78,11 @@ module _ {s : Text} {at from to : ℕ} (x : NameAt s at from to) where
       pub name_stretch : Stretch p.out r
       name_stretch = let z = name_size in stretch_for h name_wrote (omega arith) (omega arith)
 
-    -- as the writing tells it
-    pub name_held : {s' : Text} {ws' : Work} {r : State}
-        → ((τ : Notes) → Carries s ws (moved_to p to) τ → p.out + length (name_of s from to) + 1 ≤ 4 * to → Carries s' ws' r (put (name_of s from to) τ))
-        → Carries s' ws' r (put (name_of s from to) (go_to (drop to s) σ))
-    name_held f = let z = name_size in f _ (holds_moved h to (omega arith) x.inside) (omega (arith, h.short))
+      -- a node may be noted with its word
+      pub name_noted : {s' : Text} {ws' : Work} → s' ≡ s
+          → ((τ : Notes) → Carries s ws (moved_to p to) τ → p.out + length (name_of s from to) + 1 ≤ 4 * to → Carries s' ws' r (put (name_of s from to) τ))
+          → ((from ≤ to) × (to ≤ length s')) × (Room 1 0 r × ((τ : Notes) × Carries s' ws' r τ))
+      name_noted e f = ((omega (arith, x.some), omega (arith, x.inside, ap length e)), (room_less name_room, (_, name_held f)))
 
 -- ---------------------------------------------------------------- references
 

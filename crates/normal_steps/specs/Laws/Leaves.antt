@@ -1,5 +1,5 @@
 -- Source names, references and literals of the walk, as the code finds their parts. Assumes nothing.
-use Rattle.std.specs.Prelude.{Bool, true, false, not, ◌&&◌, List, [], ◌∷◌, ◌≡◌, ℕ, zero, suc, ◌+◌, ◌-◌, ◌≤◌, ◌<◌, min, length, take, drop, get_or, Option as Maybe, Some, None}
+use Rattle.std.specs.Prelude.{Bool, true, false, not, ◌&&◌, ◌||◌, List, [], ◌∷◌, ◌≡◌, ℕ, zero, suc, ◌+◌, ◌-◌, ◌≤◌, ◌<◌, eqb, min, length, take, drop, get_or, Option as Maybe, Some, None}
 use Rattle.std.proofs.lemmas.Bool.{false≢true, lt-leb}
 use Rattle.std.proofs.Common.{⊎_elim, sym, ◌∙◌, le-leb}
 use Rattle.std.proofs.Math.Option.{Option, none, some}
@@ -7,17 +7,18 @@ use Rattle.std.proofs.Math.Path.{refl, ap}
 use native.Mathlib.Omega.{arith}
 use Rattle.std.proofs.Math.ListN.{get_elem?, length-drop}
 use Rattle.std.proofs.Math.Seq.{drop-drop}
-use Rattle.grammar.specs.Text.{Text, if◌then◌otherwise◌, choose, starts, run, digit, number}
+use Rattle.std.proofs.lemmas.Bool.Decides.{nat_tests}
+use Rattle.grammar.specs.Text.{Text, if◌then◌otherwise◌, b, choose, same, starts, run, digit, number}
 use Rattle.grammar.specs.Grammar.{index}
 use Rattle.catalogue.specs.Bytes.{all}
 use Rattle.catalogue.specs.Tree.{Kind, Ty, lit, kind_code}
-use Rattle.catalogue.specs.Class.{word_byte, reserved, listed, name_ok, lit_ok}
+use Rattle.catalogue.specs.Class.{word_byte, reserved, listed, name_ok, lit_ok, numeral}
 use Rattle.catalogue.specs.Recogniser.{Rd, rd, stop, if_next, cut, read_name, with_code, all_kinds}
 use Rattle.normal_walk.specs.Walk.{keep, name, canonical, reference, value as value_at, literal as literal_at}
 use Rattle.normal_steps.specs.Parts.{part}
 use Rattle.normal_steps.specs.Laws.Parts.{run_is, past_is}
 use Rattle.grammar.specs.Laws.Places.{rest_some, rest_none, starts_inside}
-use Rattle.normal_steps.specs.Laws.Tests.{next_here, next_not, first_zero, lt_or_le}
+use Rattle.normal_steps.specs.Laws.Tests.{next_here, next_not, first_zero, lt_or_le, same_byte}
 use Rattle.normal_steps.specs.Answers.{RefAt, most_index, Value, ValueIs, LitIs, valid_by}
 use Rattle.normal_steps.specs.Laws.Leads.{coded}
 use Rattle.normal_steps.specs.declared.marks.Valued.{Valued}
@@ -83,8 +84,8 @@ module _ (s : Text) (at from : ℕ) (e : from ≡ at + length (run (digit 10) (d
     unfolding cut if◌then◌otherwise◌
     name_by to t l =
         let n : size ≡ to - from = omega arith in
-        name_is
-        ∙ rw (le-leb size (length (drop from s)) (omega (arith, length-drop from s)), drop-drop size from s, ← t) (ap (λ (k : ℕ). keep (name_ok (take k (drop from s))) (rd (take k (drop from s)) (drop to s))) n)
+        let f : ℕ → Rd Text = λ k. keep (name_ok (take k (drop from s))) (rd (take k (drop from s)) (drop to s)) in
+        name_is ∙ rw (le-leb size (length (drop from s)) (omega (arith, length-drop from s)), drop-drop size from s, ← t) (ap f n)
 
 -- ---------------------------------------------------------------- references
 
@@ -183,6 +184,16 @@ module _ (s : Text) (kind : ℕ) (g : Bool) (from to : ℕ) (e : to ≡ from + l
     pub value_right : valid_by kind g (part s from to) ≡ true → Value (value_at (with_code kind_code kind all_kinds) g (drop from s)) s (to + 1) kind g from
     unfolding valid_by
     value_right = right_by (with_code kind_code kind all_kinds) refl
+
+-- the values of the kinds, tested by the byte of the kind
+pub valid_is : (c : ℕ) (g : Bool) (v : Text) → valid_by c g v
+    ≡ ((eqb c 98 && (not g && (same v (48 ∷ []) || same v (49 ∷ []))))
+    || (((eqb c 105 || eqb c 108) && (numeral v && not (g && same v (48 ∷ [])))) || ((eqb c 106 || eqb c 109) && (not g && numeral v))))
+unfolding valid_by with_code choose if◌then◌otherwise◌ lit_ok b
+valid_is c g v = grind (arith, nat_tests)
+
+-- for a test of a value
+pub ruleset values = (valid_is, same_byte, nat_tests)
 
 -- behind the byte of the kind
 module _ (s : Text) (at : ℕ) where

@@ -1,5 +1,5 @@
 -- Tests of bytes at a place, and of parts. Assumes nothing.
-use Rattle.std.specs.Prelude.{Bool, true, false, not, ◌&&◌, ◌⊎◌, ◌≡◌, ℕ, ◌+◌, ◌≤◌, ◌<◌, eqb, ltb, length, map, drop, get_or}
+use Rattle.std.specs.Prelude.{Bool, true, false, not, ◌&&◌, ◌||◌, ◌⊎◌, ◌≡◌, ℕ, ◌+◌, ◌≤◌, ◌<◌, eqb, ltb, length, map, drop, get_or}
 use mathlib.Core.List.{List, [], ◌∷◌}
 use Rattle.std.specs.Cmp.Lexicographic.{pointwise}
 use Rattle.std.specs.List.{list_any, list_all}
@@ -7,11 +7,12 @@ use denote.Ref.{Bor}
 use Rattle.std.proofs.Common.{ne_eqb, inl, inr, ap, ◌∙◌, arith, ltb-true, ltb-false, drop-drop}
 use Rattle.std.proofs.Math.Path.{refl, sym}
 use Prim.Native.String.{String}
-use Rattle.grammar.specs.Text.{Text, if◌then◌otherwise◌, b, same, starts, digit}
+use Rattle.std.proofs.lemmas.Bool.Decides.{nat_tests}
+use Rattle.grammar.specs.Text.{Text, if◌then◌otherwise◌, b, same, starts, between, digit, digit_value}
 use Rattle.grammar.specs.Laws.Places.{starts_byte}
 use Rattle.grammar.specs.Laws.NameSteps.{starts_one}
 use Rattle.catalogue.specs.Bytes.{all, first, and_left, and_right, eqb_yes}
-use Rattle.catalogue.specs.Class.{listed, leading_zero, numeral}
+use Rattle.catalogue.specs.Class.{word_byte, listed, leading_zero, numeral}
 use Rattle.catalogue.specs.Recogniser.{if_next}
 use Rattle.catalogue.proofs.Laws.ReadsBack.{next_no}
 
@@ -42,6 +43,19 @@ lt_or_le m n = go (ltb m n) refl
     go : (q : Bool) → ltb m n ≡ q → (m < n) ⊎ (n ≤ m)
     go true e = inl (ltb-true m n e)
     go false e = inr (ltb-false m n e)
+
+-- ---------------------------------------------------------------- bytes by their ranges
+
+pub digit_is : (c : ℕ) → digit 10 c ≡ between 48 57 c
+unfolding if◌then◌otherwise◌ digit digit_value
+digit_is c = grind (arith, nat_tests)
+
+pub word_byte_is : (c : ℕ) → word_byte c ≡ (between 97 122 c || (between 65 90 c || (between 48 57 c || eqb c 95)))
+unfolding if◌then◌otherwise◌ digit digit_value word_byte
+word_byte_is c = grind (arith, nat_tests)
+
+-- for a test of a byte
+pub ruleset ranges = (word_byte_is, nat_tests)
 
 -- ---------------------------------------------------------------- digits
 

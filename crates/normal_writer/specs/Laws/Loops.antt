@@ -1,5 +1,5 @@
 -- A loop of a member as far as it went. Assumes nothing.
-use Rattle.std.specs.Prelude.{◌≡◌, ℕ, ◌+◌, ◌≤◌, ◌<◌, Option}
+use Rattle.std.specs.Prelude.{◌≡◌, ℕ, ◌+◌, ◌-◌, ◌≤◌, ◌<◌, length, Option}
 use Rattle.std.proofs.Common.{◌∙◌, arith}
 use Rattle.normal_nodes.specs.Nodes.{Got}
 use Rattle.normal_steps.specs.States.{moved_to}
@@ -18,6 +18,9 @@ gone w to = record w { state = moved_to w.state to }
 
 abbrev pub moved : Writer → Writer
 moved w = gone w (w.state.at + 1)
+
+abbrev pub bytes_left : Writer → ℕ
+bytes_left w = length w.s.now - w.state.at
 
 -- G is what the rest may answer, F the whole: what the rest answers, the whole answers
 pub record SoFar (F : Writer → Option ℕ → Type 0) (w₀ : Writer) (G : Writer → Option ℕ → Type 0) (w : Writer) (t : ℕ) : Type 0 where

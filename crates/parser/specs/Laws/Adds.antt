@@ -1,62 +1,43 @@
 -- Laws of Adds.antt. Assumes nothing.
 use Rattle.std.specs.Prelude.{[], ◌++◌, ◌≡◌, refl, ℕ, ◌≤◌, min, length, take, drop}
-use Rattle.std.proofs.Common.{append_assoc, append-nil, sym, ap, ◌∙◌, subst, arith}
+use Rattle.std.proofs.Common.{append_assoc, append-nil, ap, ◌∙◌, subst, arith}
 use Rattle.grammar.specs.Text.{Text}
 use Rattle.grammar.specs.Limits.{most_length, kept_bytes}
 use Rattle.grammar.specs.Reader.{State, Reader}
 use Rattle.grammar.specs.Laws.Agree.{moved}
 use Rattle.store.specs.Stack.{Stack}
 use Rattle.store.specs.Laws.Tails.{put_tail, chain, whole, weaken}
-use Rattle.grammar.specs.declared.state.Parser.{Parser}
-use Rattle.grammar.specs.declared.state.Read.{Read}
-use Rattle.grammar.specs.States.{raised_to, moved_to}
-use Rattle.parser.specs.Holds.{Memory, mem, window, Holds, Ready, Reads, Refines, Stands, Puts}
+use Rattle.grammar.specs.States.{Progress, Read, raised_to, moved_to}
+use Rattle.parser.specs.Holds.{Halves, Memory, mem, window, Holds, Reads, Refines, Stands, Puts}
 use Rattle.parser.specs.Laws.Holds.{by_state, holds_text, holds_moved, sooner}
 use Rattle.parser.specs.Adds.{Adds}
 
-pub adds_none : {text : Text} {p : Parser} → Stack text p.top → Adds text text p p []
+pub adds_none : {text : Text} {p : Progress} → Stack text p.top → Adds text text p p []
 adds_none {text} {p} c = record { same = refl; stack = c; tail = rw append-nil (whole kept_bytes (take p.top text)) }
 
-pub adds_more : {text text' text'' : Text} {p p' p'' : Parser} {t u : Text} → Adds text text' p p' t → Puts text' text'' p' p'' u → Adds text text'' p p'' (t ++ u)
+pub adds_more : {text text' text'' : Text} {p p' p'' : Progress} {t u : Text} → Adds text text' p p' t → Puts text' text'' p' p'' u → Adds text text'' p p'' (t ++ u)
 adds_more {p'' = p''} {t = t} {u = u} a h = record {
-  same = h.same ∙ ap (λ (q : Parser). raised_to q p''.top) a.same;
+  same = h.same ∙ ap (λ (q : Progress). raised_to q p''.top) a.same;
   stack = h.put.stack;
   tail = rw (← append_assoc) (put_tail u a.stack (omega arith) h.put a.tail);
 }
 
-pub adds_adds : {text text' text'' : Text} {p p' p'' : Parser} {t u : Text} → Adds text text' p p' t → Adds text' text'' p' p'' u → Adds text text'' p p'' (t ++ u)
+pub adds_adds : {text text' text'' : Text} {p p' p'' : Progress} {t u : Text} → Adds text text' p p' t → Adds text' text'' p' p'' u → Adds text text'' p p'' (t ++ u)
 adds_adds {p'' = p''} {t = t} {u = u} a b = record {
-  same = b.same ∙ ap (λ (q : Parser). raised_to q p''.top) a.same;
+  same = b.same ∙ ap (λ (q : Progress). raised_to q p''.top) a.same;
   stack = b.stack;
   tail = rw (← append_assoc) (chain u a.tail b.tail);
 }
 
-pub adds_one : {text text' : Text} {p p' : Parser} {t : Text} → Stack text p.top → Puts text text' p p' t → Adds text text' p p' t
-adds_one {text} {p = p} {t = t} c h = record {
-  same = h.same;
-  stack = h.put.stack;
-  tail = put_tail t c (omega arith) h.put (whole kept_bytes (take p.top text));
-}
-
--- by an equation of the text
-pub adds_by : {text text' : Text} {p p' : Parser} {t u : Text} → u ≡ t → Adds text text' p p' t → Adds text text' p p' u
-adds_by e a = rw e a
-
 -- the same from another place
-pub adds_moved : {text text' : Text} {p p' : Parser} {t : Text} (at : ℕ) → Adds text text' p p' t → Adds text text' (moved_to p at) (moved_to p' at) t
-adds_moved at a = record { same = ap (λ (q : Parser). moved_to q at) a.same; stack = a.stack; tail = a.tail }
+pub adds_moved : {text text' : Text} {p p' : Progress} {t : Text} (at : ℕ) → Adds text text' p p' t → Adds text text' (moved_to p at) (moved_to p' at) t
+adds_moved at a = record { same = ap (λ (q : Progress). moved_to q at) a.same; stack = a.stack; tail = a.tail }
 
 -- a text put by a state that a method handed back
-pub puts_from : {text text' : Text} {p q r : Parser} {t : Text} → q ≡ p → Puts text text' q r t → Puts text text' p r t
-puts_from {text} {text'} {p} {q} {r} {t} e h = subst (λ (x : Parser). Puts text text' x r t) e h
+pub puts_from : {text text' : Text} {p q r : Progress} {t : Text} → q ≡ p → Puts text text' q r t → Puts text text' p r t
+puts_from {text} {text'} {p} {q} {r} {t} e h = subst (λ (x : Progress). Puts text text' x r t) e h
 
-pub stack_by : {text : Text} {p q : Parser} → q ≡ p → Stack text p.top → Stack text q.top
-stack_by {text} {p} {q} e c = subst (λ (x : Parser). Stack text x.top) (sym e) c
-
-pub puts_at : {text text' : Text} {p q r : Parser} {t : Text} → q ≡ p → Puts text text' q r t → r.at ≡ p.at
-puts_at e h = ap (λ (x : Parser). x.at) h.same ∙ ap (λ (x : Parser). x.at) e
-
-module _ {s text text' store ends : Text} {p p' : Parser} {t : Text} {σ : State} (a : Adds text text' p p' t) (h : Holds s (mem text store ends) p σ) where
+module _ {s text text' : Text} {store ends : Halves} {p p' : Progress} {t : Text} {σ : State} (a : Adds text text' p p' t) (h : Holds s (mem text store ends) p σ) where
   pub holds_adds : Holds s (mem text' store ends) p' σ
   holds_adds = by_state a.same (holds_text h p'.top a.stack)
 
@@ -65,34 +46,31 @@ module _ {s text text' store ends : Text} {p p' : Parser} {t : Text} {σ : State
     holds = holds_adds;
     tail = a.tail;
     size = e;
-    level = ap (λ (q : Parser). q.depth) a.same;
-    more = omega (arith, l, ap (λ (q : Parser). q.at) a.same);
+    level = ap (λ (q : Progress). q.depth) a.same;
+    more = omega (arith, l, ap (λ (q : Progress). q.at) a.same);
     least = omega arith;
     most = omega arith;
   }
 
 -- behind a text that stands on the stack
 pub stands_more :
-    {k d : ℕ} {s base : Text} {from : ℕ} {text text' store ends : Text} {p p' : Parser} {n : ℕ} {t u : Text} {σ : State} →
+    {k d : ℕ} {s base : Text} {from : ℕ} {text text' : Text} {store ends : Halves} {p p' : Progress} {n : ℕ} {t u : Text} {σ : State} →
     Adds text text' p p' u → Stands k d s base from (mem text store ends) p n t σ →
     Stands k d s base from (mem text' store ends) p' (min (length (t ++ u)) most_length) (t ++ u) σ
 stands_more {t = t} {u = u} a h = record {
   holds = by_state a.same (holds_text h.holds _ a.stack);
   tail = rw (← append_assoc) (chain u h.tail (weaken h.most a.tail));
   size = refl;
-  level = ap (λ (q : Parser). q.depth) a.same ∙ h.level;
-  more = omega (arith, ap (λ (q : Parser). q.at) a.same, h.more);
+  level = ap (λ (q : Progress). q.depth) a.same ∙ h.level;
+  more = omega (arith, ap (λ (q : Progress). q.at) a.same, h.more);
   least = h.least;
   most = h.most;
 }
 
 -- a reading of the code from another place, seen from where the state came from
 pub reads_moved :
-    {f : Reader Text} {k at from : ℕ} {s : Text} {m m' : Memory} {p q : Parser} {r : Read} {σ : State} →
+    {f : Reader Text} {k at from : ℕ} {s : Text} {m m' : Memory} {p q : Progress} {r : Read} {σ : State} →
     q ≡ moved_to p at → Reads f k q.at s m m' q r → Holds s m p σ → at ≤ length s → from ≤ at →
     Refines k p.depth s (window m p) from m' r (f (moved (drop at s) σ))
 reads_moved {f = f} {k = k} {at = at} {s = s} {m = m} {m' = m'} {p = p} {q = q} {r = r} {σ = σ} e h g l u =
-    sooner u (subst (λ (x : Parser). Reads f k x.at s m m' x r) e h (moved (drop at s) σ) (holds_moved g at l))
-
-pub ready_moved : {s : Text} {m : Memory} {p q : Parser} {σ : State} (at : ℕ) → q ≡ moved_to p at → Holds s m p σ → at ≤ length s → Ready s m q
-ready_moved {s} {σ = σ} at e h l = (moved (drop at s) σ, by_state e (holds_moved h at l))
+    sooner u (subst (λ (x : Progress). Reads f k x.at s m m' x r) e h (moved (drop at s) σ) (holds_moved g at l))

@@ -11,11 +11,8 @@ use Rattle.grammar.specs.Grammar.{qualifier}
 use Rattle.grammar.specs.Laws.Agree.{moved}
 use Rattle.store.specs.Stack.{Stack, Tail, Put, Cut}
 use Rattle.store.specs.Laws.Tails.{put_tail, weaken}
-use Rattle.grammar.specs.declared.state.Parser.{Parser}
-use Rattle.grammar.specs.declared.state.Read.{Read}
-use Rattle.grammar.specs.declared.state.Read.TheVariants.{Text as read, Refused}
-use Rattle.grammar.specs.States.{moved_to, raised_to, deeper, at_depth, cv_to, templated_to}
-use Rattle.parser.specs.Holds.{Memory, mem, part, Holds, Wrote, Stands, Refines, reads, refuses, Puts, Cuts, given_of}
+use Rattle.grammar.specs.States.{Progress, Read, read, Refused, moved_to, raised_to, deeper, at_depth, cv_to, templated_to}
+use Rattle.parser.specs.Holds.{Halves, Memory, mem, part, Holds, Wrote, Stands, Refines, reads, refuses, Puts, Cuts, given_of}
 use Rattle.grammar.specs.declared.refusal.Refusal.{Refusal}
 use Rattle.grammar.specs.declared.refusal.Refusal.TheVariants.{LongText}
 
@@ -32,10 +29,10 @@ abbrev pub with_templated : Bool → State → State
 with_templated q σ = record { rest = σ.rest; subs = σ.subs; args = σ.args; depth = σ.depth; cv = σ.cv; templated = q }
 
 -- what a method hands back holds what its equation says
-pub by_state : {s : Text} {m : Memory} {p q : Parser} {σ : State} → q ≡ p → Holds s m p σ → Holds s m q σ
-by_state {s} {m} {p} {q} {σ} e h = subst (λ (r : Parser). Holds s m r σ) (sym e) h
+pub by_state : {s : Text} {m : Memory} {p q : Progress} {σ : State} → q ≡ p → Holds s m p σ → Holds s m q σ
+by_state {s} {m} {p} {q} {σ} e h = subst (λ (r : Progress). Holds s m r σ) (sym e) h
 
-module _ {s : Text} {m : Memory} {p : Parser} {σ : State} (h : Holds s m p σ) where
+module _ {s : Text} {m : Memory} {p : Progress} {σ : State} (h : Holds s m p σ) where
   pub holds_moved : (at : ℕ) → at ≤ length s → Holds s m (moved_to p at) (moved (drop at s) σ)
   holds_moved at l = record {
     source = h.source;
@@ -112,7 +109,7 @@ module _ {s : Text} {m : Memory} {p : Parser} {σ : State} (h : Holds s m p σ) 
   }
 
 -- another text on the stack
-pub holds_text : {s text text' store ends : Text} {p : Parser} {σ : State} → Holds s (mem text store ends) p σ → (top : ℕ) → Stack text' top → Holds s (mem text' store ends) (raised_to p top) σ
+pub holds_text : {s text text' : Text} {store ends : Halves} {p : Progress} {σ : State} → Holds s (mem text store ends) p σ → (top : ℕ) → Stack text' top → Holds s (mem text' store ends) (raised_to p top) σ
 holds_text h top c = record {
   source = h.source;
   place = h.place;
@@ -128,13 +125,13 @@ holds_text h top c = record {
 }
 
 -- the state with the top that `put`, or `cut`, hands back
-pub puts_by : {text text' : Text} {p r : Parser} {top : ℕ} {t : Text} → r ≡ raised_to p top → Put text text' p.top top t → Puts text text' p r t
-puts_by {text} {text'} {p} {r} {top} {t} e h = subst (λ (q : Parser). Puts text text' p q t) (sym e) (record { same = refl; put = h })
+pub puts_by : {text text' : Text} {p r : Progress} {top : ℕ} {t : Text} → r ≡ raised_to p top → Put text text' p.top top t → Puts text text' p r t
+puts_by {text} {text'} {p} {r} {top} {t} e h = subst (λ (q : Progress). Puts text text' p q t) (sym e) (record { same = refl; put = h })
 
-pub cuts_by : {text text' : Text} {p r : Parser} {top k n : ℕ} → r ≡ raised_to p top → Cut text text' p.top top k n → Cuts text text' p r k n
-cuts_by {text} {text'} {p} {r} {top} {k} {n} e h = subst (λ (q : Parser). Cuts text text' p q k n) (sym e) (record { same = refl; cut = h })
+pub cuts_by : {text text' : Text} {p r : Progress} {top k n : ℕ} → r ≡ raised_to p top → Cut text text' p.top top k n → Cuts text text' p r k n
+cuts_by {text} {text'} {p} {r} {top} {k} {n} e h = subst (λ (q : Progress). Cuts text text' p q k n) (sym e) (record { same = refl; cut = h })
 
-module _ {s text text' store ends : Text} {p p' : Parser} {t : Text} (u : Puts text text' p p' t) where
+module _ {s text text' : Text} {store ends : Halves} {p p' : Progress} {t : Text} (u : Puts text text' p p' t) where
   pub holds_puts : {σ : State} → Holds s (mem text store ends) p σ → Holds s (mem text' store ends) p' σ
   holds_puts h = by_state u.same (holds_text h p'.top u.put.stack)
 
@@ -148,17 +145,17 @@ module _ {k d : ℕ} {s base : Text} {from : ℕ} {m : Memory} where
   pub by : {r : Read} {f g : Result Text} → f ≡ g → Refines k d s base from m r g → Refines k d s base from m r f
   by {r} e h = subst (λ (x : Result Text). Refines k d s base from m r x) (sym e) h
 
-  pub answers : {p : Parser} {n : ℕ} {t : Text} {σ : State} {f : Result Text} → f ≡ ok t σ → Wrote k d s base from m p n t σ → Refines k d s base from m (read p n) f
+  pub answers : {p : Progress} {n : ℕ} {t : Text} {σ : State} {f : Result Text} → f ≡ ok t σ → Wrote k d s base from m p n t σ → Refines k d s base from m (read p n) f
   answers e w = by e (reads w)
 
 -- what an answer with a text says
-pub record Got (k d : ℕ) (s base : Text) (from : ℕ) (m : Memory) (p : Parser) (n : ℕ) (f : Result Text) : Type 0 where
+pub record Got (k d : ℕ) (s base : Text) (from : ℕ) (m : Memory) (p : Progress) (n : ℕ) (f : Result Text) : Type 0 where
   pub said : Text
   pub state : State
   pub wrote : Wrote k d s base from m p n said state
   pub is : f ≡ ok said state
 
-pub got : {k d : ℕ} {s base : Text} {from : ℕ} {m : Memory} {r : Read} {f : Result Text} {p : Parser} {n : ℕ} → r ≡ read p n → Refines k d s base from m r f → Got k d s base from m p n f
+pub got : {k d : ℕ} {s base : Text} {from : ℕ} {m : Memory} {r : Read} {f : Result Text} {p : Progress} {n : ℕ} → r ≡ read p n → Refines k d s base from m r f → Got k d s base from m p n f
 got {k} {d} {s} {base} {from} {m} {r} {f} {p} {n} e h = told (subst (λ (x : Read). Refines k d s base from m x f) e h)
   where
     told : {f : Result Text} → Refines k d s base from m (read p n) f → Got k d s base from m p n f
@@ -175,7 +172,7 @@ refused_on {k} {d} {k'} {d'} {s} {base} {s'} {base'} {from} {from'} {m} {m'} {r}
 
 -- ---------------------------------------------------------------- texts returned
 
-module _ {k d : ℕ} {s base : Text} {from : ℕ} {m : Memory} {p : Parser} {n : ℕ} {t : Text} {σ : State} where
+module _ {k d : ℕ} {s base : Text} {from : ℕ} {m : Memory} {p : Progress} {n : ℕ} {t : Text} {σ : State} where
   pub stands : Wrote k d s base from m p n t σ → most_entry_bytes ≤ k → k ≤ kept_bytes → Stands k d s base from m p n t σ
   stands w l u = record {
     holds = w.holds;

@@ -1,21 +1,21 @@
 -- Laws of Leaves.antt. Assumes nothing.
-use Rattle.std.specs.Prelude.{Bool, true, false, ◌&&◌, ◌||◌, ◌⊎◌, ◌≡◌, refl, length}
-use Rattle.std.proofs.Math.Bool.{and-true, and-false}
-use Rattle.std.proofs.Common.{inl, inr, ◌∙◌, arith, length-drop, drop-drop, take-suc, get_or-drop}
-use mathlib.Core.List.{List, [], ◌∷◌, ◌++◌, append-nil}
+use Rattle.std.specs.Prelude.{nat_eq, Bool, true, false, ◌&&◌, ◌||◌, not, ◌⊎◌, ◌≡◌, refl, length}
+use Rattle.std.proofs.Math.Bool.{and-false}
+use Rattle.std.proofs.Common.{inl, inr, ◌∙◌, arith, length-take}
+use Rattle.store.specs.Laws.Lists.{drop_take}
+use mathlib.Core.List.{List, [], ◌∷◌}
 use Rattle.std.proofs.Math.Option.{none, some}
-use Rattle.std.proofs.Math.Path.{sym, ap}
+use Rattle.std.proofs.Math.Path.{sym, ap, subst}
 use Prim.Native.Nat.{ℕ, zero, suc, ◌+◌, ◌-◌, ◌≤◌, ◌<◌}
 use borrow.Author.Tests.{ne_eqb}
 use Rattle.std.proofs.Math.Dec.{eqb}
 use Rattle.std.proofs.Math.ListN.{take, drop, get_or}
-use Rattle.std.proofs.Math.Seq.{append_snoc}
-use Rattle.grammar.specs.Text.{Text, b, if◌then◌otherwise◌, choose, starts, holds, after_last, digit}
+use Rattle.grammar.specs.Text.{Text, b, if◌then◌otherwise◌, choose, starts, holds, run, after_last, digit}
 use Rattle.grammar.specs.Grammar.{last, class_of, skipped, open_after, structor_ahead, std_ahead}
-use Rattle.grammar.specs.Laws.Text.{starts_nothing}
 use Rattle.grammar.specs.Laws.Places.{rest_some, rest_none}
-use Rattle.grammar.specs.Laws.Runs.{run_more}
-use Rattle.parser.specs.Leaves.{qualifies, unargued, class_in, Classed, behind_colons, Sought}
+use Rattle.grammar.specs.Laws.Text.{starts_nothing}
+use Rattle.std.specs.Cmp.Lexicographic.{pointwise}
+use Rattle.parser.specs.Leaves.{qualifies, unargued, class_in, Classed}
 
 pub class_of_is : (ts : List Text) → class_of ts ≡ choose (last ts) class_in []
 unfolding class_of class_in
@@ -85,90 +85,73 @@ std_short (x ∷ []) h = refl
 std_short (x ∷ y ∷ []) h = refl
 std_short (x ∷ y ∷ z ∷ t) h = absurd (omega arith)
 
-module _ (s : Text) (i : ℕ) where
-  pub rest_two : i + 1 < length s → drop i s ≡ get_or s i 0 ∷ get_or s (i + 1) 0 ∷ drop (i + 1 + 1) s
-  rest_two h = rest_some s i (omega arith) ∙ ap (λ (t : Text). get_or s i 0 ∷ t) (rest_some s (i + 1) h)
+pub structor_is : (t : Text) → 2 ≤ length t → structor_ahead t ≡ (holds (get_or t 0 0) (b "CD") && (digit 10 (get_or t 1 0) || eqb (get_or t 1 0) 67))
+unfolding structor_ahead
+structor_is [] h = absurd (omega arith)
+structor_is (x ∷ []) h = absurd (omega arith)
+structor_is (x ∷ y ∷ t) h = refl
 
-  pub rest_three : i + 1 + 1 < length s → drop i s ≡ get_or s i 0 ∷ get_or s (i + 1) 0 ∷ get_or s (i + 1 + 1) 0 ∷ drop (i + 1 + 1 + 1) s
-  rest_three h = rest_two (omega arith) ∙ ap (λ (t : Text). get_or s i 0 ∷ get_or s (i + 1) 0 ∷ t) (rest_some s (i + 1 + 1) h)
+pub std_is : (t : Text) → 3 ≤ length t → std_ahead t ≡ (starts t (83 ∷ 116 ∷ []) && (digit 10 (get_or t 2 0) || holds (get_or t 2 0) (b "CD")))
+unfolding std_ahead starts b
+std_is [] h = absurd (omega arith)
+std_is (x ∷ []) h = absurd (omega arith)
+std_is (x ∷ y ∷ []) h = absurd (omega arith)
+std_is (x ∷ y ∷ z ∷ t) h = refl
 
-module _ (s : Text) (i : ℕ) (l : i + 1 < length s) where
-  pub structor_at : (q : Bool) → holds (get_or s i 0) (b "CD") ≡ q → structor_ahead (drop i s) ≡ (q && (digit 10 (get_or s (i + 1) 0) || eqb (get_or s (i + 1) 0) 67))
-  unfolding structor_ahead
-  structor_at q e = rw (rest_two s i l, e)
+-- ---------------------------------------------------------------- the class of a constructor
 
-module _ (s : Text) (i : ℕ) (l : i + 1 + 1 < length s) where
-  pub std_other : (get_or s i 0 ≡ 83 → ⊥) → std_ahead (drop i s) ≡ false
-  unfolding std_ahead starts b
-  std_other d = rw (rest_three s i l, ne_eqb _ _ d)
+abbrev pub colons : Text
+colons = 58 ∷ 58 ∷ []
 
-  pub std_second : get_or s i 0 ≡ 83 → (get_or s (i + 1) 0 ≡ 116 → ⊥) → std_ahead (drop i s) ≡ false
-  unfolding std_ahead starts b
-  std_second e d = rw (rest_three s i l, e, ne_eqb _ _ d)
+-- the last :: of a text, if there is one, by the two bytes at each place
+abbrev pub Colons : Text → ℕ → Bool → Type 0
+Colons t i q = pointwise nat_eq (take 2 (drop i t)) colons ≡ q
 
-  pub std_third : get_or s i 0 ≡ 83 → get_or s (i + 1) 0 ≡ 116 → std_ahead (drop i s) ≡ (digit 10 (get_or s (i + 1 + 1) 0) || holds (get_or s (i + 1 + 1) 0) (b "CD"))
-  unfolding std_ahead starts b
-  std_third e f = rw (rest_three s i l, e, f)
+begins : (t : Text) {q : Bool} → Colons t 0 q → starts t colons ≡ q
+unfolding starts
+begins [] e = e
+begins (x ∷ []) e = e
+begins (x ∷ y ∷ t) e = ap (λ (q : Bool). eqb x 58 && (eqb y 58 && q)) (starts_nothing t) ∙ e
 
-behind_last : (found : Text) (x : ℕ) (t : Text) → after_last (b "::") found (x ∷ t) ≡ behind_colons x found t
-unfolding after_last behind_colons starts b if◌then◌otherwise◌
-behind_last found x [] = rw (and-false (eqb x 58))
-behind_last found x (y ∷ t) =
-    behind_last (if eqb x 58 && (eqb y 58 && starts t []) then t otherwise found) y t
-    ∙ rw (starts_nothing t, and-true (eqb y 58))
+after_none : (found t : Text) → ((i : ℕ) → i + 2 ≤ length t → Colons t i false) → after_last colons found t ≡ found
+unfolding after_last if◌then◌otherwise◌
+after_none found [] n = refl
+after_none found (x ∷ []) n = rw (begins (x ∷ []) (and-false (eqb x 58))) refl
+after_none found (x ∷ y ∷ t) n = rw (begins (x ∷ y ∷ t) (n 0 (omega arith))) (after_none found (y ∷ t) (λ i l. n (suc i) (omega arith)))
 
-behind_any : (found t : Text) → after_last (b "::") found t ≡ behind_colons 0 found t
-unfolding after_last behind_colons if◌then◌otherwise◌
-behind_any found [] = refl
-behind_any found (x ∷ t) = behind_last found x t
+after_one : (found t : Text) (i : ℕ) → i < length t → Colons t i true → ((j : ℕ) → i < j → j + 2 ≤ length t → Colons t j false) → after_last colons found t ≡ drop (i + 2) t
+unfolding after_last if◌then◌otherwise◌
+after_one found [] i l e n = absurd (omega arith)
+after_one found (x ∷ t) zero l e n = rw (begins (x ∷ t) e) (after_none (drop 1 t) t (λ j m. n (suc j) (omega arith) (omega arith)))
+after_one found (x ∷ t) (suc i) l e n =
+    after_one (if starts (x ∷ t) colons then drop 1 t otherwise found) t i (omega arith) e (λ j m k. n (suc j) (omega arith) (omega arith))
+    ∙ ap (λ (j : ℕ). drop j (x ∷ t)) {x = suc (i + 2)} {y = suc i + 2} (omega arith)
 
-pub sought_first : (w : Text) (start : ℕ) → start ≤ length w → Sought w start start start 0
-unfolding class_in
-sought_first w start h = record {
-  order = (omega arith, omega arith, h);
-  is = behind_any _ _;
-  seen = ap (λ (n : ℕ). take n (drop start w) ++ unargued (drop start w)) {x = 0} {y = start - start} (omega arith);
-}
+pub run_front : (p : ℕ → Bool) (t : Text) → take (length (run p t)) t ≡ run p t
+unfolding run if◌then◌otherwise◌
+run_front p [] = refl
+run_front p (x ∷ t) = go (p x) (run_front p t)
+  where
+    go : (q : Bool) → take (length (run p t)) t ≡ run p t → take (length (if q then x ∷ run p t otherwise [])) (x ∷ t) ≡ (if q then x ∷ run p t otherwise [])
+    go true e = ap (λ (u : Text). x ∷ u) e
+    go false e = refl
 
-module _ {w : Text} {start from end last : ℕ} (h : Sought w start from end last) where
-  pub sought_more : end < length w → (get_or w end 0 ≡ 60 → ⊥) → Sought w start (if eqb last 58 && eqb (get_or w end 0) 58 then end + 1 otherwise from) (end + 1) (get_or w end 0)
-  unfolding behind_colons if◌then◌otherwise◌
-  sought_more l d = go (eqb last 58 && eqb c 58) (h.is ∙ ap (behind_colons last (unargued (drop from w))) one)
-    where
-      c : ℕ
-      c = get_or w end 0
+module _ (t : Text) {to : ℕ} (e : to ≡ 0 + length (unargued t)) (l : to ≤ length t) where
+  classed : {from : ℕ} → from ≤ to → after_last colons (take to t) (take to t) ≡ drop from (take to t) → Classed t (record { from = from; to = to })
+  unfolding class_in b
+  classed {from} i h =
+      let f : take to t ≡ unargued t = ap (λ (n : ℕ). take n t) {x = to} {y = length (unargued t)} (omega arith) ∙ run_front (λ x. not (eqb x 60)) t in
+      record { is = sym (drop_take from to t) ∙ sym h ∙ ap (λ (w : Text). after_last colons w w) f; inside = (i, l) }
 
-      one : unargued (drop end w) ≡ c ∷ unargued (drop (end + 1) w)
-      one = run_more _ w end l (rw (ne_eqb c 60 d))
+  -- by the places that were passed over from the end, of those from i on
+  at : (i : ℕ) → ((k : ℕ) → k + 2 + i ≤ length (take to t) → Colons (take to t) (length (take to t) - 2 - k) false) → (j : ℕ) → i ≤ j → j + 2 ≤ length (take to t) → Colons (take to t) j false
+  at i n j m o =
+      subst (λ (x : ℕ). Colons (take to t) x false) {x = length (take to t) - 2 - (length (take to t) - 2 - j)} {y = j} (omega arith) (n (length (take to t) - 2 - j) (omega arith))
 
-      next : take (end + 1 - from) (drop from w) ≡ take (end - from) (drop from w) ++ (c ∷ [])
-      next =
-          ap (λ (n : ℕ). take n (drop from w)) {x = end + 1 - from} {y = suc (end - from)} (omega (arith, h.order))
-          ∙ take-suc (drop from w) (end - from) 0 (simp length-drop (omega (arith, h.order)))
-          ∙ ap (λ (x : ℕ). take (end - from) (drop from w) ++ (x ∷ [])) (get_or-drop from w (end - from) 0 ∙ ap (λ (n : ℕ). get_or w n 0) (omega (arith, h.order)))
+  pub classed_whole : ((k : ℕ) → k + 2 + 0 ≤ length (take to t) → Colons (take to t) (length (take to t) - 2 - k) false) → Classed t (record { from = 0; to = to })
+  classed_whole n = classed (omega arith) (after_none (take to t) (take to t) (λ j m. at 0 n j (omega arith) m))
 
-      go : (q : Bool) → class_in (drop start w) ≡ behind_colons c (if q then unargued (drop (end + 1) w) otherwise unargued (drop from w)) (unargued (drop (end + 1) w)) → Sought w start (if q then end + 1 otherwise from) (end + 1) c
-      go true e = record {
-        order = (omega (arith, h.order), omega arith, omega arith);
-        is = e;
-        seen = ap (λ (n : ℕ). take n (drop (end + 1) w) ++ unargued (drop (end + 1) w)) {x = 0} {y = end + 1 - (end + 1)} (omega arith);
-      }
-      go false e = record {
-        order = (h.order.0, omega (arith, h.order), omega arith);
-        is = e;
-        seen =
-            h.seen
-            ∙ ap (λ (t : Text). take (end - from) (drop from w) ++ t) one
-            ∙ sym (append_snoc (take (end - from) (drop from w)) c (unargued (drop (end + 1) w)))
-            ∙ ap (λ (t : Text). t ++ unargued (drop (end + 1) w)) (sym next);
-      }
-
-  pub sought_last : (top n : ℕ) → length w ≡ top → start + n ≡ top → unargued (drop end w) ≡ [] → Classed (drop start w) n (record { back = top - from; n = end - from })
-  unfolding behind_colons
-  sought_last top n z f e = record {
-    is =
-        ap (λ (m : ℕ). take (end - from) (drop m (drop start w))) {x = n - (top - from)} {y = from - start} (omega (arith, h.order))
-        ∙ ap (take (end - from)) (drop-drop (from - start) start w ∙ ap (λ (m : ℕ). drop m w) {x = start + (from - start)} {y = from} (omega (arith, h.order)))
-        ∙ sym (h.is ∙ ap (behind_colons last (unargued (drop from w))) e ∙ h.seen ∙ ap (λ (t : Text). take (end - from) (drop from w) ++ t) e ∙ append-nil _);
-    inside = (omega (arith, h.order), omega (arith, h.order));
-  }
+  pub classed_behind :
+      (i : ℕ) → i + 2 ≤ length (take to t) → Colons (take to t) i true → ((k : ℕ) → k + 2 + (i + 1) ≤ length (take to t) → Colons (take to t) (length (take to t) - 2 - k) false) →
+      Classed t (record { from = i + 2; to = to })
+  classed_behind i m c n = classed (omega (arith, length-take to t)) (after_one (take to t) (take to t) i (omega arith) c (λ j o p. at (i + 1) n j (omega arith) p))

@@ -1,19 +1,40 @@
 -- Laws of References.antt. Assumes nothing.
-use Rattle.std.specs.Prelude.{Bool, true, false, [], ◌∷◌, ◌++◌, ◌≡◌, ℕ, ◌+◌, ◌^◌, ◌≤◌, ◌<◌, ltb, length, drop, get_or}
+use Rattle.std.specs.Prelude.{Bool, true, false, List, [], ◌∷◌, ◌++◌, ◌≡◌, ℕ, ◌+◌, ◌^◌, ◌≤◌, ◌<◌, min, ltb, length, drop, get_or, Option as Returned, Some, None, Result as Answer, Ok, Err, ok_or}
 use Rattle.std.proofs.Math.Option.{Option, none, some}
 use Rattle.std.proofs.Math.Path.{refl, ap}
-use Rattle.std.proofs.Common.{sym, ◌∙◌, arith, lt-ltb, le-ltb}
+use Rattle.std.proofs.Common.{sym, ◌∙◌, arith, lt-ltb, le-ltb, ⊎_elim, eq-or-lt_of_le}
+use native.Mathlib.Nat.{min-le_left}
 use Rattle.std.proofs.Math.ListN.{get_elem?}
 use Rattle.grammar.specs.Text.{Text, b, if◌then◌otherwise◌, choose, starts, run, past, digit, number, decimal}
 use Rattle.grammar.specs.Tables.{abbreviations}
-use Rattle.grammar.specs.Reader.{State, Result, ok, refused, Reader, onto, refuse, unfit, give, go_to, find, word_for, by_code, every, need, eat}
+use Rattle.grammar.specs.Limits.{kept_bytes}
+use Rattle.grammar.specs.Numbers.{most}
+use Rattle.grammar.specs.Reader.{State, ok, refused, Reader, onto, refuse, unfit, give, go_to, find, word_for, by_code, every, need, eat}
 use Rattle.grammar.specs.Grammar.{⟨template-param⟩, ⟨substitution⟩, index, template_param, substitution, production, reading}
 use Rattle.grammar.specs.Laws.Agree.{moved}
 use Rattle.grammar.specs.Laws.Fuel.{reading_is}
 use Rattle.grammar.specs.Laws.Finds.{all_of, by_word}
-use Rattle.grammar.specs.Laws.Places.{rest_some, rest_none}
+use Rattle.grammar.specs.Laws.Places.{rest_some, rest_none, starts_inside}
 use Rattle.grammar.specs.Laws.Runs.{every_at, need_here, need_not}
-use Rattle.parser.specs.References.{referred, entry_of, entry_at}
+use Rattle.grammar.specs.declared.refusal.Refusal.{Refusal}
+use Rattle.grammar.specs.declared.refusal.Refusal.TheVariants.{NoRule}
+use Rattle.parser.specs.declared.demangler.Demangler.{Demangler}
+use Rattle.parser.specs.Demanglers.{Held, Prepared, Leaf}
+use Rattle.parser.specs.Holds.{refuses}
+use Rattle.parser.specs.References.{referred, entry_at, digits_at, behind_digits, index_of, Indexes, indexes, unended}
+use Rattle.parser.specs.Laws.Holds.{by}
+use Rattle.parser.specs.Laws.Halves.{none_given}
+use Rattle.parser.specs.Laws.Demanglers.{Passed, held_at, prepared_at, others_by, leaf_reads, leaf_moved}
+
+-- what a value, or the lack of one, is returned for
+module _ {A : Type 0} where
+  pub given_some : {x : A} (o : Returned A) (e : Refusal) → Ok x ≡ ok_or o e → o ≡ Some x
+  given_some (Some y) e h = cc
+  given_some None e h = let z : ◌≡◌ {A = ℕ} 0 1 = cc in absurd (omega arith)
+
+  pub given_none : {r : Refusal} (o : Returned A) (e : Refusal) → Err r ≡ ok_or o e → (o ≡ None) × (r ≡ e)
+  given_none (Some y) e h = let z : ◌≡◌ {A = ℕ} 0 1 = cc in absurd (omega arith)
+  given_none None e h = (refl, cc)
 
 pub index_none : (base : ℕ) (t : Text) → length t ≡ 0 → index base t ≡ 0
 unfolding index
@@ -25,31 +46,63 @@ unfolding index
 index_some base [] e = absurd (e refl)
 index_some base (x ∷ t) e = refl
 
-module _ (base : ℕ) (f : Text → Reader Text) (s : Text) (at : ℕ) (σ : State) (e : σ.rest ≡ drop at s) (next : ℕ) (n : next ≡ at + length (run (digit base) (drop at s))) where
-  by_digits : referred base f σ ≡ onto (λ _. f (run (digit base) (drop at s))) (need "_" (moved (drop next s) σ))
+module _ (base : ℕ) (f : Text → Reader Text) (s : Text) (at : ℕ) (σ : State) (e : σ.rest ≡ drop at s) where
+  abbrev digits : Text
+  digits = run (digit base) (drop at s)
+
+  by_digits : referred base f σ ≡ onto (λ _. f digits) (need "_" (moved (drop (at + length digits) s) σ))
   unfolding onto
-  by_digits =
-      ap (onto (λ d. λ (u : State). onto (λ _. f d) (need "_" u))) (every_at (digit base) s at σ e)
-      ∙ ap (λ (i : ℕ). onto (λ _. f (run (digit base) (drop at s))) (need "_" (moved (drop i s) σ))) (sym n)
+  by_digits = ap (onto (λ d. λ (u : State). onto (λ _. f d) (need "_" u))) (every_at (digit base) s at σ e)
 
-  referred_open : starts (drop next s) (95 ∷ []) ≡ false → referred base f σ ≡ refused 4
+  referred_open : starts (drop (at + length digits) s) (95 ∷ []) ≡ false → referred base f σ ≡ refused 4
   unfolding onto b
-  referred_open h = by_digits ∙ ap (onto (λ _. f (run (digit base) (drop at s)))) (need_not "_" s next (moved (drop next s) σ) refl h)
+  referred_open h = by_digits ∙ ap (onto (λ _. f digits)) (need_not "_" s (at + length digits) (moved (drop (at + length digits) s) σ) refl h)
 
-  referred_is : starts (drop next s) (95 ∷ []) ≡ true → referred base f σ ≡ f (run (digit base) (drop at s)) (moved (drop (next + 1) s) σ)
+  referred_is : starts (drop (at + length digits) s) (95 ∷ []) ≡ true → referred base f σ ≡ f digits (moved (drop (at + length digits + 1) s) σ)
   unfolding onto b
-  referred_is h = by_digits ∙ ap (onto (λ _. f (run (digit base) (drop at s)))) (need_here "_" s next (moved (drop next s) σ) refl h)
+  referred_is h = by_digits ∙ ap (onto (λ _. f digits)) (need_here "_" s (at + length digits) (moved (drop (at + length digits) s) σ) refl h)
 
-module _ (s : Text) (at : ℕ) (σ : State) (e : σ.rest ≡ drop at s) {next : ℕ} (n : next ≡ at + length (run (digit 36) (drop at s))) where
-  pub entry_open : starts (drop next s) (95 ∷ []) ≡ false → entry_at σ ≡ refused 4
+-- ---------------------------------------------------------------- an index passed over
+
+module _ {base : ℕ} {d d' : Demangler} where
+  pub index_prepared : {o : Returned ℕ} → Indexes base d d' (Ok o) → Prepared d → Prepared d'
+  index_prepared (indexes i n e) = prepared_at e (omega (arith, starts_inside d.s.now (behind_digits base d) 95 n))
+
+  module _ (f : Text → Reader Text) {k : ℕ} where
+    -- no underscore
+    pub index_refused : {e : Refusal} → Indexes base d d' (Err e) → Leaf (referred base f) k d.state.at d d' (Err e)
+    index_refused (unended n e) = leaf_reads (others_by d e) (λ σ h. by (referred_open base f d.s.now d.state.at σ h.rest n) refuses)
+
+    -- what is read by an index, and behind it
+    pub index_read :
+        {o : Returned ℕ} {g : Reader Text} {d'' : Demangler} {r : Answer ℕ Refusal} → Indexes base d d' (Ok o) →
+        ((t : Text) → index_of o ≡ min (index base t) (most + 1) → (σ : State) → Held d' σ → f t σ ≡ g σ) →
+        Leaf g k d'.state.at d' d'' r → Leaf (referred base f) k d.state.at d d'' r
+    index_read (indexes i n e) u p =
+        let l : behind_digits base d + 1 ≤ length d.s.now = omega (arith, starts_inside d.s.now (behind_digits base d) 95 n) in
+        leaf_moved e l (omega arith)
+        (λ σ h. referred_is base f d.s.now d.state.at σ h.rest n ∙ u (digits_at base d) i (moved (drop (behind_digits base d + 1) d.s.now) σ) (held_at e l h))
+        p
+
+-- an index that is told up to a number that no table reaches
+entry_same : (l : List Text) (i k : ℕ) (σ : State) → length l ≤ most → k ≡ min i most → choose (get_elem? l i) give (refuse 7) σ ≡ choose (get_elem? l k) give (refuse 7) σ
+entry_same l i k σ h e =
+    ⊎_elim
+    (λ (j : min i most ≡ i). ap (λ (x : ℕ). choose (get_elem? l x) give (refuse 7) σ) {x = i} {y = k} (omega (arith, e, j)))
+    (λ (j : min i most < i). none_given l i (refuse 7) σ (omega (arith, j)) ∙ sym (none_given l k (refuse 7) σ (omega (arith, e, j))))
+    (eq-or-lt_of_le (min-le_left i most))
+
+module _ {d d' : Demangler} where
+  pub entry_refused : {e : Refusal} → Indexes 36 d d' (Err e) → Leaf entry_at kept_bytes d.state.at d d' (Err e)
   unfolding entry_at
-  entry_open h = referred_open 36 entry_of s at σ e next n h
+  entry_refused i = index_refused _ i
 
-  pub entry_is : (k : ℕ) → index 36 (run (digit 36) (drop at s)) ≡ k → starts (drop next s) (95 ∷ []) ≡ true
-      → entry_at σ ≡ choose (get_elem? σ.subs k) give (refuse 7) (moved (drop (next + 1) s) σ)
+  pub entry_read :
+      {o : Returned ℕ} {k : ℕ} {d'' : Demangler} {r : Answer ℕ Refusal} → Indexes 36 d d' (Ok o) → k ≡ min (index_of o) most →
+      Leaf (λ σ. choose (get_elem? σ.subs k) give (refuse 7) σ) kept_bytes d'.state.at d' d'' r → Leaf entry_at kept_bytes d.state.at d d'' r
   unfolding entry_at onto
-  entry_is k i h =
-      referred_is 36 entry_of s at σ e next n h ∙ ap (λ (j : ℕ). choose (get_elem? σ.subs j) give (refuse 7) (moved (drop (next + 1) s) σ)) i
+  entry_read {k = k} i e p =
+      index_read _ i (λ t j σ h. entry_same σ.subs (index 36 t) k σ (omega (arith, h.subs.count_is, h.subs.most)) (omega (arith, e, j))) p
 
 -- a word's text given behind it
 abbrev worded : Text → Text → Reader Text
@@ -95,34 +148,41 @@ module _ (s : Text) (at : ℕ) (σ : State) (e : σ.rest ≡ drop at s) where
 abbrev argument_of : Text → Reader Text
 argument_of d σ = onto (λ l. if ltb (index 10 d) (2 ^ 64) then choose (get_elem? l (index 10 d)) give (give (b "T" ++ decimal 20 (index 10 d))) otherwise unfit) (ok σ.args σ)
 
-module _ (s : Text) (at : ℕ) (σ : State) (e : σ.rest ≡ drop at s) where
-  pub param_none : starts (drop at s) (84 ∷ []) ≡ false → reading ⟨template-param⟩ σ ≡ refused 4
-  unfolding production template_param onto b
-  param_none h = reading_is ⟨template-param⟩ σ ∙ ap (onto (λ _. referred 10 argument_of)) (need_not "T" s at σ e h)
+abbrev param_of : Bool → ℕ → Reader Text
+param_of q i σ = if◌then◌otherwise◌ {A = Reader Text} q (choose (get_elem? σ.args i) give (give (84 ∷ decimal 20 i))) unfit σ
 
-  module _ (h : starts (drop at s) (84 ∷ []) ≡ true) {next : ℕ} (n : next ≡ at + 1 + length (run (digit 10) (drop (at + 1) s))) where
-    behind_T : reading ⟨template-param⟩ σ ≡ referred 10 argument_of (moved (drop (at + 1) s) σ)
-    unfolding production template_param onto b
-    behind_T = reading_is ⟨template-param⟩ σ ∙ ap (onto (λ _. referred 10 argument_of)) (need_here "T" s at σ e h)
+module _ (t : Text) (σ : State) {i : ℕ} (e : i ≡ min (index 10 t) (most + 1)) where
+  argument_is : i ≤ most → argument_of t σ ≡ choose (get_elem? σ.args i) give (give (84 ∷ decimal 20 i)) σ
+  unfolding onto b if◌then◌otherwise◌
+  argument_is l =
+      let j : index 10 t ≡ i = omega (arith, e) in
+      ap (λ (x : ℕ). param_of (ltb x (2 ^ 64)) x σ) j ∙ ap (λ (q : Bool). param_of q i σ) (lt-ltb i (2 ^ 64) (omega arith))
 
-    pub param_open : starts (drop next s) (95 ∷ []) ≡ false → reading ⟨template-param⟩ σ ≡ refused 4
-    param_open g = behind_T ∙ referred_open 10 argument_of s (at + 1) (moved (drop (at + 1) s) σ) refl next n g
+  argument_past : most < i → argument_of t σ ≡ refused 4
+  unfolding onto b if◌then◌otherwise◌
+  argument_past l = ap (λ (q : Bool). param_of q (index 10 t) σ) (le-ltb (index 10 t) (2 ^ 64) (omega (arith, e)))
 
-    module _ (g : starts (drop next s) (95 ∷ []) ≡ true) (i : ℕ) (f : index 10 (run (digit 10) (drop (at + 1) s)) ≡ i) where
-      abbrev told : Bool → Result Text
-      told q = if◌then◌otherwise◌ {A = Reader Text} q (choose (get_elem? σ.args i) give (give (84 ∷ decimal 20 i))) unfit (moved (drop (next + 1) s) σ)
+pub param_none : (s : Text) (at : ℕ) (σ : State) → σ.rest ≡ drop at s → starts (drop at s) (84 ∷ []) ≡ false → reading ⟨template-param⟩ σ ≡ refused 4
+unfolding production template_param onto b
+param_none s at σ e h = reading_is ⟨template-param⟩ σ ∙ ap (onto (λ _. referred 10 argument_of)) (need_not "T" s at σ e h)
 
-      by_index : reading ⟨template-param⟩ σ ≡ told (ltb i (2 ^ 64))
-      unfolding onto b
-      by_index =
-          behind_T
-          ∙ referred_is 10 argument_of s (at + 1) (moved (drop (at + 1) s) σ) refl next n g
-          ∙ ap (λ (j : ℕ). if◌then◌otherwise◌ {A = Reader Text} (ltb j (2 ^ 64)) (choose (get_elem? σ.args j) give (give (84 ∷ decimal 20 j))) unfit (moved (drop (next + 1) s) σ)) f
+param_T : (s : Text) (at : ℕ) (σ : State) → σ.rest ≡ drop at s → starts (drop at s) (84 ∷ []) ≡ true → reading ⟨template-param⟩ σ ≡ referred 10 argument_of (moved (drop (at + 1) s) σ)
+unfolding production template_param onto b
+param_T s at σ e h = reading_is ⟨template-param⟩ σ ∙ ap (onto (λ _. referred 10 argument_of)) (need_here "T" s at σ e h)
 
-      pub param_past : 18446744073709551616 ≤ i → reading ⟨template-param⟩ σ ≡ refused 4
-      unfolding if◌then◌otherwise◌
-      param_past l = by_index ∙ ap told (le-ltb i (2 ^ 64) l)
+-- behind T
+module _ {d d₁ : Demangler} (p : Passed 84 d d₁) where
+  param_behind : {d'' : Demangler} {r : Answer ℕ Refusal} → Leaf (referred 10 argument_of) kept_bytes d₁.state.at d₁ d'' r → Leaf (reading ⟨template-param⟩) kept_bytes (d.state.at + 1) d d'' r
+  param_behind h = leaf_moved p.is (omega (arith, p.past.inside)) (omega arith) (λ σ g. param_T d.s.now d.state.at σ g.rest p.past.ahead) h
 
-      pub param_given : i < 18446744073709551616 → reading ⟨template-param⟩ σ ≡ choose (get_elem? σ.args i) give (give (84 ∷ decimal 20 i)) (moved (drop (next + 1) s) σ)
-      unfolding if◌then◌otherwise◌
-      param_given l = by_index ∙ ap told (lt-ltb i (2 ^ 64) l)
+  pub param_unended : {d' : Demangler} {e : Refusal} → Indexes 10 d₁ d' (Err e) → Leaf (reading ⟨template-param⟩) kept_bytes (d.state.at + 1) d d' (Err e)
+  param_unended i = param_behind (index_refused _ i)
+
+  module _ {d' : Demangler} {o : Returned ℕ} (i : Indexes 10 d₁ d' (Ok o)) where
+    pub param_past : most < index_of o → Leaf (reading ⟨template-param⟩) kept_bytes (d.state.at + 1) d d' (Err NoRule)
+    param_past l = param_behind (index_read _ i (λ t e σ h. argument_past t σ e l) (leaf_reads refl (λ σ h. refuses)))
+
+    pub param_read :
+        {n : ℕ} {d'' : Demangler} {r : Answer ℕ Refusal} → index_of o ≡ n → (n ≡ most + 1 → ⊥) →
+        Leaf (λ σ. choose (get_elem? σ.args n) give (give (84 ∷ decimal 20 n)) σ) kept_bytes d'.state.at d' d'' r → Leaf (reading ⟨template-param⟩) kept_bytes (d.state.at + 1) d d'' r
+    param_read {n} e l h = param_behind (index_read _ i (λ t j σ g. argument_is t σ {i = n} (sym e ∙ j) (omega (arith, e, j, l))) h)

@@ -1,5 +1,5 @@
 -- Laws of Source.antt. Assumes nothing.
-use Rattle.std.specs.Prelude.{Bool, true, false, ◌&&◌, [], ◌∷◌, ◌++◌, ◌≡◌, ℕ, zero, suc, ◌+◌, ◌-◌, ◌≤◌, ◌<◌, length, take, drop}
+use Rattle.std.specs.Prelude.{Bool, true, false, ◌&&◌, [], ◌∷◌, ◌++◌, ◌≡◌, ℕ, zero, suc, ◌+◌, ◌-◌, ◌≤◌, ◌<◌, length, take, drop, Option, Some, None}
 use Rattle.std.proofs.Common.{append_assoc, append-nil, sym, ap₂, ◌∙◌, add-one, arith, leb-true, leb-false, length-append, length-drop, drop-drop}
 use Rattle.std.proofs.Math.Path.{refl, ap}
 use Rattle.std.proofs.lemmas.Bool.{lt-leb}
@@ -11,8 +11,7 @@ use Rattle.grammar.specs.Reader.{State, Result, ok, refused, Reader, onto, unfit
 use Rattle.grammar.specs.Grammar.{⟨source-name⟩, source_name, production, reading}
 use Rattle.grammar.specs.Laws.Agree.{moved}
 use Rattle.grammar.specs.Laws.Fuel.{reading_is}
-use Rattle.parser.specs.declared.names.Found.{Found}
-use Rattle.parser.specs.declared.names.Found.TheVariants.{Part, Nothing}
+use Rattle.grammar.specs.declared.part.Part.{Part}
 use Rattle.parser.specs.Holds.{part}
 use Rattle.grammar.specs.Laws.Runs.{every_at, case_here, case_not, run_within}
 use Rattle.parser.specs.Source.{behind_number, identified, closers}
@@ -72,9 +71,9 @@ tag x σ = onto (with_tag x) (reading ⟨source-name⟩ σ)
 abbrev behind_name : Text → Reader Text
 behind_name x = cases (("B" ⇒ tag x) ∷ []) (give x)
 
-unfoldable named_by : Text → State → Found → Result Text
-named_by s σ (Part from to) = behind_name (part s from to) (moved (drop to s) σ)
-named_by s σ Nothing = refused 4
+unfoldable named_by : Text → State → Option Part → Result Text
+named_by s σ (Some q) = behind_name (part s q.from q.to) (moved (drop q.to s) σ)
+named_by s σ None = refused 4
 
 module _ (s : Text) (at : ℕ) (σ : State) (e : σ.rest ≡ drop at s) where
   abbrev sized : Text → Text → Reader Text
@@ -97,7 +96,7 @@ module _ (s : Text) (at : ℕ) (σ : State) (e : σ.rest ≡ drop at s) where
       n : ℕ
       n = number 10 0 d
 
-      go : (q : Bool) → (if q then (λ (u : State). onto (λ _. behind_name (take n (drop from s))) (go_to (drop n (drop from s)) u)) otherwise unfit) (moved (drop from s) σ) ≡ named_by s σ (if q then Part from (from + n) otherwise Nothing)
+      go : (q : Bool) → (if q then (λ (u : State). onto (λ _. behind_name (take n (drop from s))) (go_to (drop n (drop from s)) u)) otherwise unfit) (moved (drop from s) σ) ≡ named_by s σ (if q then Some (record { from = from; to = from + n }) otherwise None)
       go true = ap₂ (λ (x t : Text). behind_name x (moved t σ)) (ap (λ (k : ℕ). take k (drop from s)) {x = n} {y = from + n - from} (omega arith)) (drop-drop n from s)
       go false = refl
 
@@ -107,9 +106,9 @@ pub record Located (s : Text) (at from to : ℕ) : Type 0 where
   pub some : from < to
   pub inside : to ≤ length s
 
-pub identified_in : (s : Text) (at from to : ℕ) → at ≤ length s → identified s at ≡ Part from to → Located s at from to
+pub identified_in : (s : Text) (at : ℕ) (part : Part) → at ≤ length s → identified s at ≡ Some part → Located s at part.from part.to
 unfolding identified if◌then◌otherwise◌
-identified_in s at from to l = go (leb 1 n) (leb n (length (drop start s))) refl refl
+identified_in s at part l = go (leb 1 n) (leb n (length (drop start s))) refl refl
   where
     start : ℕ
     start = at + length (run (digit 10) (drop at s))
@@ -117,10 +116,11 @@ identified_in s at from to l = go (leb 1 n) (leb n (length (drop start s))) refl
     n : ℕ
     n = number 10 0 (run (digit 10) (drop at s))
 
-    go : (q r : Bool) → leb 1 n ≡ q → leb n (length (drop start s)) ≡ r → (if q && r then Part start (start + n) otherwise Nothing) ≡ Part from to → Located s at from to
+    go : (q r : Bool) → leb 1 n ≡ q → leb n (length (drop start s)) ≡ r → (if q && r then Some (record { from = start; to = start + n }) otherwise None) ≡ Some part → Located s at part.from part.to
     go true true e f h =
-        let i : start ≡ from = cc in
-        let j : start + n ≡ to = cc in
+        let m : ◌≡◌ {A = Part} (record { from = start; to = start + n }) part = cc in
+        let i : start ≡ part.from = ap (λ (x : Part). x.from) m in
+        let j : start + n ≡ part.to = ap (λ (x : Part). x.to) m in
         let x = leb-true 1 n e in
         let y = leb-true n (length (drop start s)) f in
         let z : start ≤ length s = run_within (digit 10) s at l in
@@ -129,17 +129,23 @@ identified_in s at from to l = go (leb 1 n) (leb n (length (drop start s))) refl
     go false r e f h = let z : ◌≡◌ {A = ℕ} 0 1 = cc in absurd (omega arith)
 
 -- the reading of a source name, with the text so far and the tags that are open
-settled : (s : Text) (σ : State) (f : Found) → onto (tagged [] 0) (named_by s σ f) ≡ named_by s σ f
+settled : (s : Text) (σ : State) (f : Option Part) → onto (tagged [] 0) (named_by s σ f) ≡ named_by s σ f
 unfolding named_by onto b
-settled s σ (Part from to) = go (starts (drop to s) (b "B")) refl
+settled s σ (Some q) = go (starts (drop to s) (b "B")) refl
   where
+    from : ℕ
+    from = q.from
+
+    to : ℕ
+    to = q.to
+
     x : Text
     x = part s from to
 
     go : (q : Bool) → starts (drop to s) (b "B") ≡ q → onto (tagged [] 0) (behind_name x (moved (drop to s) σ)) ≡ behind_name x (moved (drop to s) σ)
     go true e = let c = case_here "B" s to (moved (drop to s) σ) refl (tag x) (give x) e in ap (onto (tagged [] 0)) c ∙ unwrapped_tag x (reading ⟨source-name⟩ (moved (drop (to + 1) s) σ)) ∙ sym c
     go false e = let c = case_not "B" s to (moved (drop to s) σ) refl (tag x) (give x) e in ap (onto (tagged [] 0)) c ∙ unwrapped x (moved (drop to s) σ) ∙ sym c
-settled s σ Nothing = refl
+settled s σ None = refl
 
 pub tags_start : (σ : State) → reading ⟨source-name⟩ σ ≡ onto (tagged [] 0) (reading ⟨source-name⟩ σ)
 tags_start σ =
@@ -147,11 +153,11 @@ tags_start σ =
     e ∙ sym (ap (onto (tagged [] 0)) e ∙ settled σ.rest σ (identified σ.rest 0))
 
 module _ (pre : Text) (k : ℕ) (s : Text) (at : ℕ) (σ : State) (e : σ.rest ≡ drop at s) where
-  pub tags_refused : identified s at ≡ Nothing → onto (tagged pre k) (reading ⟨source-name⟩ σ) ≡ refused 4
+  pub tags_refused : identified s at ≡ None → onto (tagged pre k) (reading ⟨source-name⟩ σ) ≡ refused 4
   unfolding named_by onto
   tags_refused h = ap (onto (tagged pre k)) (source_is s at σ e ∙ ap (named_by s σ) h)
 
-  module _ {from to : ℕ} (h : identified s at ≡ Part from to) where
+  module _ {from to : ℕ} (h : identified s at ≡ Some (record { from = from; to = to })) where
     pub tags_end : starts (drop to s) (66 ∷ []) ≡ false
         → onto (tagged pre k) (reading ⟨source-name⟩ σ) ≡ give ((pre ++ part s from to) ++ closers k) (moved (drop to s) σ)
     unfolding named_by b

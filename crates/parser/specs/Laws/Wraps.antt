@@ -1,59 +1,57 @@
 -- Laws of texts that take the place of others on the stack, of slots, and of words told. Assumes nothing.
-use Rattle.std.specs.Prelude.{Bool, true, false, ◌||◌, ◌≡◌, [], ◌∷◌, ◌++◌, ℕ, ◌+◌, ◌-◌, ◌*◌, ◌≤◌, min, eqb, length, take, drop}
+use Rattle.std.specs.Prelude.{Option as Returned, Some, None, IfSome, Ok, Err, ok_or, Bool, true, false, ◌||◌, ◌≡◌, [], ◌∷◌, ◌++◌, ℕ, ◌+◌, ◌-◌, ◌*◌, ◌≤◌, min, eqb, length, take, drop}
 use Rattle.std.proofs.Math.Path.{refl, ap, subst}
 use Rattle.std.proofs.Common.{sym, ap₂, ◌∙◌, append_assoc, append-nil, arith, eq-eqb, ne_eqb, eqb-true, length-append, length-drop, take-take, take_at, drop_at, drop-drop}
+use Rattle.std.specs.Borrow.{Bor}
 use Rattle.std.proofs.Math.Option.{Option, none, some}
 use Rattle.std.proofs.lemmas.Bool.{eqb-false}
 use Rattle.std.proofs.lemmas.List.{drop-append-le}
 use Rattle.grammar.specs.Text.{Text, if◌then◌otherwise◌, choose, holds}
-use Rattle.grammar.specs.Reader.{State, Reader}
+use Rattle.grammar.specs.Words.{word_of, longest_word}
+use Rattle.grammar.specs.declared.refusal.Refusal.{Refusal}
+use Rattle.grammar.specs.Reader.{State}
 use Rattle.grammar.specs.Grammar.{at_slots}
 use Rattle.grammar.specs.Limits.{most_entry_bytes, most_length, kept_bytes}
 use Rattle.store.specs.Stack.{Stack, Tail, Put, Cut, slots_in, newest, below_newest}
 use Rattle.store.specs.Laws.Lists.{part_of}
 use Rattle.store.specs.Laws.Slots.{length_at_slots}
 use Rattle.store.specs.Laws.Tails.{size, top_size, newest_is, replaced, weaken}
-use Rattle.grammar.specs.declared.state.Parser.{Parser}
-use Rattle.grammar.specs.declared.state.Read.{Read}
-use Rattle.parser.specs.Holds.{Memory, mem, Holds, Stands, Reads, Puts, Cuts}
+use Rattle.grammar.specs.States.{Progress}
+use Rattle.parser.specs.Holds.{Halves, Memory, mem, Holds, Stands, Puts, Cuts}
 use Rattle.parser.specs.Laws.Holds.{by_state, holds_text, holds_puts, tail_puts}
 use Rattle.parser.specs.Laws.Halves.{newest_part}
 
 -- ---------------------------------------------------------------- states
 
-pub holds_cuts : {s text text' store ends : Text} {p p' : Parser} {k n : ℕ} {σ : State} → Cuts text text' p p' k n → Holds s (mem text store ends) p σ → Holds s (mem text' store ends) p' σ
+pub holds_cuts : {s text text' : Text} {store ends : Halves} {p p' : Progress} {k n : ℕ} {σ : State} → Cuts text text' p p' k n → Holds s (mem text store ends) p σ → Holds s (mem text' store ends) p' σ
 holds_cuts {p' = p'} u h = by_state u.same (holds_text h p'.top u.cut.stack)
 
--- a reading from the state that a method hands back
-pub reads_at : {f : Reader Text} {k : ℕ} {s : Text} {m m' : Memory} {p q : Parser} {r : Read} → q ≡ p → Reads f k q.at s m m' q r → Reads f k p.at s m m' p r
-reads_at {f} {k} {s} {m} {m'} {p} {q} {r} e h = subst (λ (x : Parser). Reads f k x.at s m m' x r) e h
-
 -- so many bytes are there after a text was put
-pub puts_least : {text text' : Text} {p p' : Parser} {t : Text} → Stack text p.top → Puts text text' p p' t → min p.top kept_bytes + length t ≤ p'.top
+pub puts_least : {text text' : Text} {p p' : Progress} {t : Text} → Stack text p.top → Puts text text' p p' t → min p.top kept_bytes + length t ≤ p'.top
 puts_least {text} {text'} {p} {p'} {t} c u =
     let e = ap length u.put.is in
     let x = length-append (drop u.put.lost (take p.top text)) t in
     let y = length-drop u.put.lost (take p.top text) in
     omega (arith, top_size c, top_size u.put.stack, u.put.most)
 
-pub puts_top : {text text' : Text} {p p' : Parser} {t : Text} (n : ℕ) → Stack text p.top → Puts text text' p p' t → n ≤ p.top → n ≤ kept_bytes → n + length t ≤ p'.top
+pub puts_top : {text text' : Text} {p p' : Progress} {t : Text} (n : ℕ) → Stack text p.top → Puts text text' p p' t → n ≤ p.top → n ≤ kept_bytes → n + length t ≤ p'.top
 puts_top n c u l m = omega (arith, puts_least c u)
 
 -- ---------------------------------------------------------------- a text more on the stack, and one in place of another
 
-module _ {k d : ℕ} {s base : Text} {from : ℕ} {text text₁ store ends : Text} {p p₁ : Parser} {n : ℕ} {t : Text} {σ : State} (h : Stands k d s base from (mem text store ends) p n t σ) where
+module _ {k d : ℕ} {s base : Text} {from : ℕ} {text text₁ : Text} {store ends : Halves} {p p₁ : Progress} {n : ℕ} {t : Text} {σ : State} (h : Stands k d s base from (mem text store ends) p n t σ) where
   pub stands_puts : {r : Text} {n₁ : ℕ} → Puts text text₁ p p₁ r → n₁ ≡ min (length (t ++ r)) most_length → Stands k d s base from (mem text₁ store ends) p₁ n₁ (t ++ r) σ
   stands_puts u e = record {
     holds = holds_puts u h.holds;
     tail = tail_puts u base t h.holds h.most h.tail;
     size = e;
-    level = ap (λ (q : Parser). q.depth) u.same ∙ h.level;
-    more = omega (arith, ap (λ (q : Parser). q.at) u.same, h.more);
+    level = ap (λ (q : Progress). q.depth) u.same ∙ h.level;
+    more = omega (arith, ap (λ (q : Progress). q.at) u.same, h.more);
     least = h.least;
     most = h.most;
   }
 
-  pub stands_replaced : {text₂ : Text} {p₂ : Parser} {r : Text} {n₁ : ℕ} → Puts text text₁ p p₁ r → Cuts text₁ text₂ p₁ p₂ n n₁
+  pub stands_replaced : {text₂ : Text} {p₂ : Progress} {r : Text} {n₁ : ℕ} → Puts text text₁ p p₁ r → Cuts text₁ text₂ p₁ p₂ n n₁
       → length t ≡ n → length r ≡ n₁ → n ≤ n₁ → n ≤ most_entry_bytes → n₁ ≤ most_length → Stands k d s base from (mem text₂ store ends) p₂ n₁ r σ
   stands_replaced {text₂} {p₂} {r} {n₁} u v e f i j l =
       let w : Tail k (take p.top text) (base ++ (t ++ [])) = rw append-nil h.tail in
@@ -62,15 +60,15 @@ module _ {k d : ℕ} {s base : Text} {from : ℕ} {text text₁ store ends : Tex
         holds = holds_cuts v (holds_puts u h.holds);
         tail = replaced base t [] r w h.holds.text u.put x h.most (omega (arith, h.least)) (omega arith);
         size = omega arith;
-        level = ap (λ (q : Parser). q.depth) v.same ∙ ap (λ (q : Parser). q.depth) u.same ∙ h.level;
-        more = omega (arith, ap (λ (q : Parser). q.at) v.same, ap (λ (q : Parser). q.at) u.same, h.more);
+        level = ap (λ (q : Progress). q.depth) v.same ∙ ap (λ (q : Progress). q.depth) u.same ∙ h.level;
+        more = omega (arith, ap (λ (q : Progress). q.at) v.same, ap (λ (q : Progress). q.at) u.same, h.more);
         least = h.least;
         most = h.most;
       }
 
 -- the newest bytes, as the stack's functions take them
 pub newest_text :
-    {k d : ℕ} {s base : Text} {from : ℕ} {m : Memory} {p : Parser} {n : ℕ} {t : Text} {σ : State} →
+    {k d : ℕ} {s base : Text} {from : ℕ} {m : Memory} {p : Progress} {n : ℕ} {t : Text} {σ : State} →
     Stands k d s base from m p n t σ → length t ≤ most_entry_bytes → newest m.text p.top n ≡ t
 newest_text {base = base} {m = m} {p = p} {n = n} {t = t} h l =
     let z : length (take p.top m.text) ≡ p.top = top_size h.holds.text in
@@ -81,7 +79,7 @@ newest_size {text} {top} n h l = omega (arith, length-drop (top - n) (take top t
 
 -- the newest text's front and end
 pub below_text :
-    {k d : ℕ} {s base : Text} {from : ℕ} {m : Memory} {p : Parser} {n : ℕ} (x y : Text) {σ : State} →
+    {k d : ℕ} {s base : Text} {from : ℕ} {m : Memory} {p : Progress} {n : ℕ} (x y : Text) {σ : State} →
     Stands k d s base from m p n (x ++ y) σ → length (x ++ y) ≤ most_entry_bytes → below_newest m.text p.top (length y) (length x) ≡ x
 below_text {m = m} {p = p} {n = n} x y h l =
     let e : n ≡ length x + length y = omega (arith, h.size, length-append x y) in
@@ -93,7 +91,7 @@ below_text {m = m} {p = p} {n = n} x y h l =
     ∙ take_at x y (length x) refl
 
 pub end_text :
-    {k d : ℕ} {s base : Text} {from : ℕ} {m : Memory} {p : Parser} {n : ℕ} (x y : Text) {σ : State} →
+    {k d : ℕ} {s base : Text} {from : ℕ} {m : Memory} {p : Progress} {n : ℕ} (x y : Text) {σ : State} →
     Stands k d s base from m p n (x ++ y) σ → length (x ++ y) ≤ most_entry_bytes → newest m.text p.top (length y) ≡ y
 end_text {m = m} {p = p} {n = n} x y h l =
     let e : n ≡ length x + length y = omega (arith, h.size, length-append x y) in
@@ -122,7 +120,7 @@ put_tail_more {k} {text} {text'} {full} {top} t c l p h =
     }
 
 -- the front of the newest text once more behind it and w, and away from where it was
-module _ {k d : ℕ} {s base : Text} {from : ℕ} {text text₁ store ends : Text} {p p₁ : Parser} {n c m : ℕ} (x y w : Text) {σ : State} (h : Stands k d s base from (mem text store ends) p n (x ++ y) σ)
+module _ {k d : ℕ} {s base : Text} {from : ℕ} {text text₁ : Text} {store ends : Halves} {p p₁ : Progress} {n c m : ℕ} (x y w : Text) {σ : State} (h : Stands k d s base from (mem text store ends) p n (x ++ y) σ)
     (e : length x ≡ c) (f : length y ≡ m) (g : length w ≡ 1) (i : c + m ≤ most_entry_bytes) (u : Puts text text₁ p p₁ w) where
   spaced : Tail (k + 1) (take p₁.top text₁) (base ++ (x ++ (y ++ w)))
   spaced = rw g at (simp append_assoc at (put_tail_more w h.holds.text h.most u.put h.tail))
@@ -139,7 +137,7 @@ module _ {k d : ℕ} {s base : Text} {from : ℕ} {text text₁ store ends : Tex
       ∙ ap (take c) q.1
       ∙ take_at x (y ++ w) c e
 
-  pub stands_turned : {text₂ text₃ : Text} {p₂ p₃ : Parser} → Puts text₁ text₂ p₁ p₂ (take c (drop (p₁.top - (c + m + 1)) text₁)) → Cuts text₂ text₃ p₂ p₃ c (m + 1 + c) → Stands k d s base from (mem text₃ store ends) p₃ (m + 1 + c) (y ++ w ++ x) σ
+  pub stands_turned : {text₂ text₃ : Text} {p₂ p₃ : Progress} → Puts text₁ text₂ p₁ p₂ (take c (drop (p₁.top - (c + m + 1)) text₁)) → Cuts text₂ text₃ p₂ p₃ c (m + 1 + c) → Stands k d s base from (mem text₃ store ends) p₃ (m + 1 + c) (y ++ w ++ x) σ
   stands_turned {text₂} {text₃} {p₂} {p₃} v o =
       let a : Puts text₁ text₂ p₁ p₂ x = rw front at v in
       let z : length (y ++ w ++ x) ≡ m + 1 + c = simp length-append (omega arith) in
@@ -151,8 +149,8 @@ module _ {k d : ℕ} {s base : Text} {from : ℕ} {text text₁ store ends : Tex
             weaken {j = k} {k = j} (omega (arith, h.most))
             (replaced base x (y ++ w) x (weaken {j = j} {k = k + 1} (omega arith) spaced) u.put.stack a.put r (omega arith) (simp length-append (omega (arith, h.least))) (omega arith));
         size = omega arith;
-        level = ap (λ (q : Parser). q.depth) o.same ∙ ap (λ (q : Parser). q.depth) a.same ∙ ap (λ (q : Parser). q.depth) u.same ∙ h.level;
-        more = omega (arith, ap (λ (q : Parser). q.at) o.same, ap (λ (q : Parser). q.at) a.same, ap (λ (q : Parser). q.at) u.same, h.more);
+        level = ap (λ (q : Progress). q.depth) o.same ∙ ap (λ (q : Progress). q.depth) a.same ∙ ap (λ (q : Progress). q.depth) u.same ∙ h.level;
+        more = omega (arith, ap (λ (q : Progress). q.at) o.same, ap (λ (q : Progress). q.at) a.same, ap (λ (q : Progress). q.at) u.same, h.more);
         least = h.least;
         most = h.most;
       }
@@ -205,3 +203,16 @@ some_is e = ap (λ (o : Option Text). choose o (λ z. z) []) e
 pub some_not : {A : Type 0} {x : A} → some x ≡ none → ⊥
 unfolding choose
 some_not {A} e = absurd (omega (arith, ap {B = ℕ} (λ (o : Option A). choose o (λ _. 1) 0) e))
+
+-- the word that `ok_or` hands on, and what it makes of none
+module _ {f : Option Text} where
+  pub spelled_some : {w : Bor Text} (o : Returned (Bor Text)) (e : Refusal) → Ok w ≡ ok_or o e → (word_of o ≡ f) × IfSome o (λ v. length v.now ≤ longest_word)
+      → (f ≡ some w.now) × (length w.now ≤ longest_word)
+  spelled_some {w} (Some v) e i (j, l) =
+      let h : v ≡ w = cc in
+      (sym j ∙ ap (λ (x : Bor Text). some x.now) h, subst (λ (x : Bor Text). length x.now ≤ longest_word) h l)
+  spelled_some None e i j = let z : ◌≡◌ {A = ℕ} 0 1 = cc in absurd (omega arith)
+
+  pub spelled_none : {r e : Refusal} (o : Returned (Bor Text)) → Err r ≡ ok_or o e → (word_of o ≡ f) × IfSome o (λ v. length v.now ≤ longest_word) → (f ≡ none) × (r ≡ e)
+  spelled_none (Some v) i j = let z : ◌≡◌ {A = ℕ} 0 1 = cc in absurd (omega arith)
+  spelled_none None i (j, l) = (sym j, cc)

@@ -7,16 +7,12 @@ use Rattle.grammar.specs.Limits.{most_entry_bytes, most_length}
 use Rattle.grammar.specs.Reader.{State, Result, ok, refused, Reader, onto, unfit, see, set_args, set_templated, push_sub}
 use Rattle.grammar.specs.Grammar.{reading, ⟨template-args⟩, last, onto_last}
 use Rattle.grammar.specs.Grammar as g
-use Rattle.parser.specs.Holds.{Memory, mem, Wrote, Pushes, pushed, keep}
+use Rattle.parser.specs.Holds.{Halves, Memory, mem, Wrote, Pushes, pushed, keep}
 use Rattle.parser.specs.Laws.Holds.{with_templated, holds_templated}
 use Rattle.parser.specs.Halves.{with_args}
-use Rattle.grammar.specs.States.{subs_to, args_to, templated_to}
-use Rattle.grammar.specs.declared.state.Parser.{Parser}
-use Rattle.grammar.specs.declared.state.Read.{Read}
-use Rattle.grammar.specs.declared.state.Read.TheVariants.{Text as read}
+use Rattle.grammar.specs.States.{subs_to, args_to, templated_to, Progress, Read, read}
 use Rattle.reader.specs.declared.lists.Parts.{Parts}
-use Rattle.reader.specs.declared.lists.Prefix.TheVariants as prefix_as
-use Rattle.reader.specs.Lists.{Parted, Parting, parted}
+use Rattle.reader.specs.Lists.{Reached, Parted, Parting, parted}
 use Rattle.reader.specs.Laws.Standing.{parted_kept, stands_sized, stands_at, stands_joined}
 use Rattle.reader.specs.Laws.Joined.{parts_by, answer_by, alike_append, shown_is}
 
@@ -81,7 +77,7 @@ count_args a (t ∷ []) = refl
 count_args a (t ∷ u ∷ ts) = omega (arith, count_args a (u ∷ ts))
 
 pub argued_parts :
-    {s base text store ends : Text} {from : ℕ} {m' : Memory} {p r p' : Parser} {q : Parts} {m : ℕ} {ps : g.Parts} {a : Text} {σ τ : State} →
+    {s base text : Text} {store ends : Halves} {from : ℕ} {m' : Memory} {p r p' : Progress} {q : Parts} {m : ℕ} {ps : g.Parts} {a : Text} {σ τ : State} →
     Parted (keep p.depth) p.depth s base from (mem text store ends) p q ps σ → r ≡ args_to p 0 0 →
     Wrote (keep (r.depth + 1)) r.depth s (take r.top text) (r.at + 1) m' p' m a τ → 0 < length ps.texts →
     (n l : ℕ) → n ≡ min (q.n + m) most_length → l ≡ min (q.last + m) most_length →
@@ -89,7 +85,7 @@ pub argued_parts :
 argued_parts {s} {base} {text} {store} {ends} {from} {m'} {p} {r} {p'} {q} {m} {ps} {a} {σ} {τ} h e w z n l f g =
     let c = h.stands in
     let v : Wrote (keep (p.depth + 1)) p.depth s (take p.top text) (p.at + 1) m' p' m a τ =
-    subst (λ (x : Parser). Wrote (keep (x.depth + 1)) x.depth s (take x.top text) (x.at + 1) m' p' m a τ) e w in
+    subst (λ (x : Progress). Wrote (keep (x.depth + 1)) x.depth s (take x.top text) (x.at + 1) m' p' m a τ) e w in
     let y = stands_joined {to = p.at + 1} c (stands_at (keep p.depth) (p.at + 1) v (omega arith) (omega arith) c.least c.most) (omega arith) (omega arith) in
     record {
       shown = h.shown ++ a;
@@ -105,15 +101,15 @@ argued_parts {s} {base} {text} {store} {ends} {from} {m'} {p} {r} {p'} {q} {m} {
     }
 
 pub args_pushed :
-    {k d n i : ℕ} {s base : Text} {from : ℕ} {m m' : Memory} {p next v : Parser} {q : Parts} (ps : g.Parts) (a : Text) {τ : State} {r : Read} {f : Result (Unit {0})} {c e : ℕ} {z : Bool} →
+    {k d n i : ℕ} {s base : Text} {from : ℕ} {m m' : Memory} {p next v : Progress} {q : Parts} (ps : g.Parts) (a : Text) {τ : State} {r : Read} {f : Result (Unit {0})} {c e : ℕ} {z : Bool} →
     r ≡ read next i → m'.text ≡ m.text → v ≡ templated_to next z → z ≡ starts (drop next.at s) (69 ∷ []) → Parted k d s base from m p q (argued ps a) τ → Pushes s m' n (subs_to p c e) r f →
-    Parting k d s base from m' (prefix_as.Parts v q) (onto (Ended ps a) f)
+    Parting k d s base from m' (Reached v q) (onto (Ended ps a) f)
 unfolding onto b
 args_pushed {k} {d} {n} {i} {s} {base} {from} {m} {m'} {p} {next} {v} {q} ps a {τ} {r} {f} {c} {e} {z} x t y j h u =
     told (subst (λ (o : Read). Pushes s m' n (subs_to p c e) o f) x u) y j
   where
-    told : {next : Parser} {i : ℕ} {f : Result (Unit {0})} → Pushes s m' n (subs_to p c e) (read next i) f → v ≡ templated_to next z → z ≡ starts (drop next.at s) (69 ∷ []) → Parting k d s base from m' (prefix_as.Parts v q) (onto (Ended ps a) f)
+    told : {next : Progress} {i : ℕ} {f : Result (Unit {0})} → Pushes s m' n (subs_to p c e) (read next i) f → v ≡ templated_to next z → z ≡ starts (drop next.at s) (69 ∷ []) → Parting k d s base from m' (Reached v q) (onto (Ended ps a) f)
     told (pushed {σ = o} w) y j =
         let l : starts o.rest (69 ∷ []) ≡ z = ap (λ (r : Text). starts r (69 ∷ [])) w.rest ∙ sym j in
         parts_by (ended_is ps a o ∙ ap (λ (x : Bool). ok (argued ps a) (with_templated x o)) l)
-        (answer_by (ap (λ (x : Parser). prefix_as.Parts x q) y) (parted {ps = argued ps a} (parted_kept h (holds_templated w z) (ap (take p.top) t) refl h.stands.more)))
+        (answer_by (ap (λ (x : Progress). Reached x q) y) (parted {ps = argued ps a} (parted_kept h (holds_templated w z) (ap (take p.top) t) refl h.stands.more)))

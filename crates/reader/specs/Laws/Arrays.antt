@@ -1,21 +1,18 @@
 -- Laws of array types, and of the byte ahead. Assumes nothing.
 use Rattle.std.specs.Prelude.{◌≡◌, ℕ, ◌+◌, ◌-◌, ◌<◌, ◌≤◌, Bool, true, false, not, [], ◌∷◌, ◌++◌, length, take, drop, ◌==◌, ◌≢◌}
 use Rattle.std.proofs.Math.Path.{refl, ap}
-use Rattle.std.proofs.Common.{sym, ◌∙◌, subst, arith, ne_eqb, length-append}
+use Rattle.std.proofs.Common.{sym, ◌∙◌, subst, arith, ne_eqb, length-append, length-take-le, length-drop}
 use Rattle.grammar.specs.Text.{Text, b, holds, starts, run, if◌then◌otherwise◌}
 use Rattle.grammar.specs.Limits.{most_text_bytes}
 use Rattle.grammar.specs.Reader.{State, refused, Reader, onto, every, need, give}
 use Rattle.grammar.specs.Grammar.{reading, ⟨type⟩}
 use Rattle.grammar.specs.Grammar as g
 use Rattle.grammar.specs.Laws.Agree.{moved}
-use Rattle.grammar.specs.declared.state.Parser.{Parser}
-use Rattle.grammar.specs.declared.state.Peeked.{Peeked}
-use Rattle.grammar.specs.declared.state.Peeked.TheVariants as peeked_as
-use Rattle.grammar.specs.declared.state.Read.{Read}
-use Rattle.grammar.specs.States.{peeked}
-use Rattle.parser.specs.Holds.{Memory, mem, part, Holds, Stands, Refines, Puts, given_of}
+use Rattle.grammar.specs.States.{Progress, Read, peeked}
+use Rattle.std.specs.Prelude as peeked_as
+use Rattle.parser.specs.Holds.{Halves, Memory, mem, part, Holds, Stands, Refines, Puts, given_of}
 use Rattle.parser.specs.Laws.Holds.{given_refines}
-use Rattle.parser.specs.Laws.Literals.{stands_size, length_part}
+use Rattle.parser.specs.Laws.Literals.{stands_size}
 use Rattle.parser.specs.Laws.Wraps.{stands_puts}
 use Rattle.grammar.specs.Laws.Runs.{every_at, need_here, need_not}
 use Rattle.reader.specs.Laws.Items.{peek_end, byte_there, byte_within}
@@ -71,11 +68,11 @@ module _ (s : Text) (at : ℕ) (σ : State) (e : σ.rest ≡ drop at s) {to : �
       ∙ ap (onto (typed (run bound (drop at s)))) (need_here "_" s to (moved (drop to s) σ) refl l)
       ∙ ap (λ (n : Text). onto (sized n) (reading ⟨type⟩ (moved (drop (to + 1) s) σ))) is_part
 
-pub part_size : {s : Text} {m : Memory} {p : Parser} {σ : State} → Holds s m p σ → (to : ℕ) → to ≤ length s → length (part s p.at to) ≡ to - p.at
-part_size {s} {p = p} h to l = length_part s p.at to l
+pub part_size : {s : Text} {m : Memory} {p : Progress} {σ : State} → Holds s m p σ → (to : ℕ) → to ≤ length s → length (part s p.at to) ≡ to - p.at
+part_size {s} {p = p} h to l = length-take-le (to - p.at) (drop p.at s) (omega (arith, length-drop p.at s))
 
 pub array_given :
-    {k d : ℕ} {s base : Text} {from : ℕ} {text text₁ text₂ text₃ store ends : Text} {p p₁ p₂ p₃ : Parser} {n : ℕ} {t : Text} {σ : State} {j : ℕ} {r : Read} (v : Text) →
+    {k d : ℕ} {s base : Text} {from : ℕ} {text text₁ text₂ text₃ : Text} {store ends : Halves} {p p₁ p₂ p₃ : Progress} {n : ℕ} {t : Text} {σ : State} {j : ℕ} {r : Read} (v : Text) →
     Stands k d s base from (mem text store ends) p n t σ → length t ≤ most_text_bytes → length v ≤ most_text_bytes →
     Puts text text₁ p p₁ (32 ∷ 91 ∷ []) → Puts text₁ text₂ p₁ p₂ v → Puts text₂ text₃ p₂ p₃ (93 ∷ []) →
     j ≡ n + 3 + length v → r ≡ given_of p₃ j →
@@ -88,18 +85,18 @@ array_given {k} {d} {s} {base} {from} {text} {text₁} {text₂} {text₃} {stor
 
 -- ---------------------------------------------------------------- the byte ahead
 
-module _ {s : Text} {m : Memory} {p : Parser} {σ : State} (h : Holds s m p σ) {r : Peeked} (e : r ≡ peeked (drop p.at s)) where
-  pub byte_at : {c : ℕ} → r ≡ peeked_as.Byte c → σ.rest ≡ c ∷ drop (p.at + 1) s
+module _ {s : Text} {m : Memory} {p : Progress} {σ : State} (h : Holds s m p σ) {r : peeked_as.Option ℕ} (e : r ≡ peeked (drop p.at s)) where
+  pub byte_at : {c : ℕ} → r ≡ peeked_as.Some c → σ.rest ≡ c ∷ drop (p.at + 1) s
   byte_at f = h.rest ∙ byte_there s p.at (sym e ∙ f)
 
-  pub byte_inside : {c : ℕ} → r ≡ peeked_as.Byte c → p.at < length s
+  pub byte_inside : {c : ℕ} → r ≡ peeked_as.Some c → p.at < length s
   byte_inside f = byte_within s p.at (sym e ∙ f)
 
-  pub no_byte : r ≡ peeked_as.End → σ.rest ≡ []
+  pub no_byte : r ≡ peeked_as.None → σ.rest ≡ []
   no_byte f = h.rest ∙ peek_end (drop p.at s) (sym e ∙ f)
 
   -- a byte that is known
-  pub byte_is : {c : ℕ} (k : ℕ) → r ≡ peeked_as.Byte c → c ≡ k → σ.rest ≡ k ∷ drop (p.at + 1) s
+  pub byte_is : {c : ℕ} (k : ℕ) → r ≡ peeked_as.Some c → c ≡ k → σ.rest ≡ k ∷ drop (p.at + 1) s
   byte_is k f g = byte_at f ∙ ap (λ (x : ℕ). x ∷ drop (p.at + 1) s) g
 
 pub no_name_code : (c : ℕ) → (c ≢ 78) → (c ≢ 83) → (c ≢ 76) → (c ≢ 90) → holds c (b "NSLZ") ≡ false

@@ -12,42 +12,41 @@ use Rattle.grammar.specs.Laws.Agree.{moved}
 use Rattle.grammar.specs.Laws.Steps.{at_level}
 use Rattle.store.specs.Stack.{Tail}
 use Rattle.store.specs.Laws.Tails.{whole, both, weaken, put_tail, size, top_size}
-use Rattle.parser.specs.Holds.{Memory, mem, Holds, Stands, Puts, keep}
+use Rattle.parser.specs.Holds.{Halves, Memory, mem, Holds, Stands, Puts, keep}
 use Rattle.parser.specs.Laws.Holds.{holds_depth, holds_moved}
-use Rattle.grammar.specs.States.{moved_to, deeper, at_depth}
-use Rattle.grammar.specs.declared.state.Parser.{Parser}
+use Rattle.grammar.specs.States.{moved_to, deeper, at_depth, Progress}
 use Rattle.reader.specs.Laws.Standing.{stands_least}
 use Rattle.reader.specs.Laws.Closes.{closed_yes, behind_is, then_ok}
 
 pub bracket_stands :
-    {s text text' store ends : List ℕ} {m'' : Memory} (p : Parser) {q r o last mv next : Parser} {at end n : ℕ} {t : Text} {ρ τ : State} →
+    {s text text' : List ℕ} {store ends : Halves} {m'' : Memory} (p : Progress) {q r o last mv next : Progress} {at end n : ℕ} {t : Text} {ρ τ : State} →
     r ≡ deeper q → q ≡ moved_to p at → p.depth < most_open → Holds s (mem text store ends) r ρ → Puts text text' r o (60 ∷ []) →
     Stands (keep o.depth) o.depth s (take o.top text') o.at m'' last n t τ →
     mv ≡ moved_to last end → next ≡ at_depth mv p.depth → last.at ≤ end → end ≤ length s →
     Stands (keep (p.depth + 1)) p.depth s (take p.top text) at m'' next (min (length (60 ∷ t)) most_length) (60 ∷ t) (at_level p.depth (moved (drop end s) τ))
 bracket_stands {s} {text} {text'} {store} {ends} {m''} p {q} {r} {o} {last} {mv} {next} {at} {end} {n} {t} {ρ} {τ} e f d h u w g i l k =
     let x : r ≡ deeper (moved_to p at) = e ∙ ap deeper f in
-    let y : o.depth ≡ p.depth + 1 = ap (λ (z : Parser). z.depth) u.same ∙ ap (λ (z : Parser). z.depth) x in
+    let y : o.depth ≡ p.depth + 1 = ap (λ (z : Progress). z.depth) u.same ∙ ap (λ (z : Progress). z.depth) x in
     let a : Tail (keep o.depth) (take o.top text') (take r.top text ++ (60 ∷ [])) =
     weaken (omega (arith, y)) (put_tail (60 ∷ []) h.text (omega arith) u.put (whole kept_bytes (take r.top text))) in
     let v : Tail (keep o.depth) (take last.top m''.text) (take r.top text ++ (60 ∷ t)) = both (take r.top text) (60 ∷ []) t a w.tail in
     let v' : Tail (keep (p.depth + 1)) (take last.top m''.text) (take r.top text ++ (60 ∷ t)) =
     subst (λ (z : ℕ). Tail (keep z) (take last.top m''.text) (take r.top text ++ (60 ∷ t))) y v in
     let v'' : Tail (keep (p.depth + 1)) (take last.top m''.text) (take p.top text ++ (60 ∷ t)) =
-    subst (λ (z : ℕ). Tail (keep (p.depth + 1)) (take last.top m''.text) (take z text ++ (60 ∷ t))) (ap (λ (z : Parser). z.top) x) v' in
-    let j : next ≡ at_depth (moved_to last end) p.depth = i ∙ ap (λ (z : Parser). at_depth z p.depth) g in
-    subst (λ (z : Parser). Stands (keep (p.depth + 1)) p.depth s (take p.top text) at m'' z (min (length (60 ∷ t)) most_length) (60 ∷ t) (at_level p.depth (moved (drop end s) τ))) (sym j) (record {
+    subst (λ (z : ℕ). Tail (keep (p.depth + 1)) (take last.top m''.text) (take z text ++ (60 ∷ t))) (ap (λ (z : Progress). z.top) x) v' in
+    let j : next ≡ at_depth (moved_to last end) p.depth = i ∙ ap (λ (z : Progress). at_depth z p.depth) g in
+    subst (λ (z : Progress). Stands (keep (p.depth + 1)) p.depth s (take p.top text) at m'' z (min (length (60 ∷ t)) most_length) (60 ∷ t) (at_level p.depth (moved (drop end s) τ))) (sym j) (record {
       holds = holds_depth (holds_moved w.holds end k) p.depth (omega arith);
       tail = v'';
       size = refl;
       level = refl;
-      more = omega (arith, w.more, ap (λ (z : Parser). z.at) u.same, ap (λ (z : Parser). z.at) x);
+      more = omega (arith, w.more, ap (λ (z : Progress). z.at) u.same, ap (λ (z : Progress). z.at) x);
       least = omega arith;
       most = omega arith;
     })
 
-pub stands_top : {k d : ℕ} {s base : Text} {from : ℕ} {m : Memory} {p : Parser} {n : ℕ} {t : Text} {σ : State} → Stands k d s base from m p n t σ → 1 ≤ length t → 1 ≤ p.top
-stands_top h l = omega (arith, stands_least h, h.size, l)
+pub stands_some : {k d : ℕ} {s base : Text} {from : ℕ} {m : Memory} {p : Progress} {n : ℕ} {t : Text} {σ : State} → Stands k d s base from m p n t σ → 1 ≤ length t → 1 ≤ p.top
+stands_some h l = omega (arith, stands_least h, h.size, l)
 
 -- ---------------------------------------------------------------- the closing >
 
@@ -57,10 +56,10 @@ ends_last c x [] = refl
 ends_last c x (y ∷ t) = ends_last c y t
 
 pub stands_last :
-    {k d : ℕ} {s base : Text} {from : ℕ} {m : Memory} {p : Parser} {n x : ℕ} {t : Text} {σ : State} →
+    {k d : ℕ} {s base : Text} {from : ℕ} {m : Memory} {p : Progress} {n x : ℕ} {t : Text} {σ : State} →
     Stands k d s base from m p n (x ∷ t) σ → slice_index m.text (p.top - 1) ≡ slice_index (x ∷ t) (length t)
 stands_last {base = base} {m = m} {p = p} {x = x} {t = t} h =
-    let l : 1 ≤ p.top = stands_top h (omega arith) in
+    let l : 1 ≤ p.top = stands_some h (omega arith) in
     sym (get_or-take p.top m.text (p.top - 1) 0 (omega arith))
     ∙ ap (λ (w : Text). slice_index w (p.top - 1)) h.tail.is
     ∙ get_or-drop h.tail.lost (base ++ (x ∷ t)) (p.top - 1) 0

@@ -1,7 +1,7 @@
 -- Lists up to an E, and template arguments, one step at a time. Assumes nothing.
 use Rattle.std.specs.Prelude.{◌≡◌, ℕ, ◌+◌, ◌<◌, ◌≤◌, Bool, true, false, List, [], ◌∷◌, length, drop, refl}
 use Rattle.std.proofs.Math.Option.{Option, none, some}
-use Rattle.std.proofs.Common.{sym, ◌∙◌, subst, arith, drop-drop}
+use Rattle.std.proofs.Common.{sym, ◌∙◌, subst, drop-drop}
 use Rattle.std.proofs.Math.Path.{ap}
 use Prim.Native.Char.{code}
 use Rattle.grammar.specs.Text.{Text, b, choose, join, starts}
@@ -16,28 +16,20 @@ use Rattle.grammar.specs.Loops.{argument}
 use Rattle.grammar.specs.Laws.Loops.{closed, up_to_E_is}
 use Rattle.grammar.specs.Laws.Steps.{at_level, entered_in, entered_8, need_yes, need_no, from_text, same_from}
 use Rattle.grammar.specs.Laws.NameSteps.{starts_one, arg_L, arg_X, arg_J, arg_type}
-use Rattle.parser.specs.Holds.{Memory, Holds, Stands, Refines, Reads, refuses, keep}
-use Rattle.parser.specs.Laws.Holds.{by, by_state, holds_entered, holds_moved}
-use Rattle.grammar.specs.Laws.States.{stayed_out}
+use Rattle.parser.specs.Holds.{Memory, Holds, Stands, Refines, refuses}
+use Rattle.parser.specs.Laws.Holds.{by_state, holds_entered, holds_moved}
 use Rattle.parser.specs.Leaves.{left_at, Skips, Skipped_inside}
-use Rattle.grammar.specs.States.{moved_to, deeper}
-use Rattle.grammar.specs.States.{entered as entered_from}
-use Rattle.parser.specs.declared.leaf.Skipped.{Skipped}
-use Rattle.parser.specs.declared.leaf.Skipped.TheVariants as skipped_as
-use Rattle.grammar.specs.declared.state.Parser.{Parser}
-use Rattle.grammar.specs.declared.state.Read.{Read}
-use Rattle.grammar.specs.declared.state.Read.TheVariants.{Refused}
+use Rattle.grammar.specs.States.{moved_to, deeper, Progress, Read}
+use Rattle.std.specs.Prelude as returned
 use Rattle.reader.specs.declared.lists.Kind.TheVariants.{Types, Arguments}
-use Rattle.reader.specs.declared.lists.Texts.{Texts}
-use Rattle.reader.specs.declared.lists.Texts.TheVariants as items_as
-use Rattle.reader.specs.Lists.{Lists, listed, unlisted, refused_of}
+use Rattle.reader.specs.Lists.{Texts, Listed, Unlisted, Lists, listed, unlisted, refused_of}
 use Rattle.reader.specs.Laws.Items.{looped}
 use Rattle.grammar.specs.Refusals.{refusal_number}
 use Rattle.grammar.specs.declared.refusal.Refusal.{Refusal}
 
 -- ---------------------------------------------------------------- what a list says
 
-pub record GotList (k d : ℕ) (s base : Text) (from : ℕ) (m : Memory) (p : Parser) (n count : ℕ) (f : Result (List Text)) : Type 0 where
+pub record GotList (k d : ℕ) (s base : Text) (from : ℕ) (m : Memory) (p : Progress) (n count : ℕ) (f : Result (List Text)) : Type 0 where
   pub texts : List Text
   pub state : State
   pub stands : Stands k d s base from m p n (join (b ", ") texts) state
@@ -45,21 +37,21 @@ pub record GotList (k d : ℕ) (s base : Text) (from : ℕ) (m : Memory) (p : Pa
   pub is : f ≡ ok texts state
 
 pub got_list :
-    {k d : ℕ} {s base : Text} {from : ℕ} {m : Memory} {r : Texts} {f : Result (List Text)} {p : Parser} {n count : ℕ} →
-    r ≡ items_as.Listed p n count → Lists k d s base from m r f → GotList k d s base from m p n count f
+    {k d : ℕ} {s base : Text} {from : ℕ} {m : Memory} {r : Texts} {f : Result (List Text)} {p : Progress} {n count : ℕ} →
+    r ≡ Listed p n count → Lists k d s base from m r f → GotList k d s base from m p n count f
 got_list {k} {d} {s} {base} {from} {m} {r} {f} {p} {n} {count} e h = told (subst (λ (x : Texts). Lists k d s base from m x f) e h)
   where
-    told : {f : Result (List Text)} → Lists k d s base from m (items_as.Listed p n count) f → GotList k d s base from m p n count f
+    told : {f : Result (List Text)} → Lists k d s base from m (Listed p n count) f → GotList k d s base from m p n count f
     told (listed {ts = ts} {σ = σ} w c) = record { texts = ts; state = σ; stands = w; count_is = c; is = refl }
 
-pub list_refused : {k d : ℕ} {s base : Text} {from : ℕ} {m : Memory} {r : Texts} {f : Result (List Text)} {j : Refusal} → r ≡ items_as.Refused j → Lists k d s base from m r f → f ≡ refused (refusal_number j)
+pub list_refused : {k d : ℕ} {s base : Text} {from : ℕ} {m : Memory} {r : Texts} {f : Result (List Text)} {j : Refusal} → r ≡ Unlisted j → Lists k d s base from m r f → f ≡ refused (refusal_number j)
 list_refused {k} {d} {s} {base} {from} {m} {r} {f} {j} e h = told (subst (λ (x : Texts). Lists k d s base from m x f) e h)
   where
-    told : {f : Result (List Text)} → Lists k d s base from m (items_as.Refused j) f → f ≡ refused (refusal_number j)
+    told : {f : Result (List Text)} → Lists k d s base from m (Unlisted j) f → f ≡ refused (refusal_number j)
     told unlisted = refl
 
 -- the answer of a list that is none
-pub refuses_list : {k d : ℕ} {s base : Text} {from : ℕ} {m : Memory} {r : Read} {list : Texts} {j : Refusal} → list ≡ items_as.Refused j → r ≡ refused_of list → Refines k d s base from m r (refused (refusal_number j))
+pub refuses_list : {k d : ℕ} {s base : Text} {from : ℕ} {m : Memory} {r : Read} {list : Texts} {j : Refusal} → list ≡ Unlisted j → r ≡ refused_of list → Refines k d s base from m r (refused (refusal_number j))
 refuses_list {k} {d} {s} {base} {from} {m} {r} {list} {j} e f = subst (λ (x : Read). Refines k d s base from m x (refused (refusal_number j))) (sym (f ∙ ap refused_of e)) refuses
 
 -- ---------------------------------------------------------------- up to an E
@@ -81,9 +73,6 @@ module _ {A : Type 0} {f : Result A} where
   closed_yes {ts} {τ} e h = ap (onto closed) e ∙ ap (onto (λ _. return ts)) (need_yes "E" τ h)
 
 -- ---------------------------------------------------------------- what stands ahead
-
-pub ahead_is : (t u w : Text) {q r : Bool} → t ≡ u → r ≡ starts u w → r ≡ q → starts t w ≡ q
-ahead_is t u w e f g = ap (λ (x : Text). starts x w) e ∙ sym f ∙ g
 
 pub behind_is : (s : Text) (at : ℕ) (σ : State) → σ.rest ≡ drop at s → moved (drop 1 σ.rest) σ ≡ moved (drop (at + 1) s) σ
 behind_is s at σ e = ap (λ (t : Text). moved t σ) (ap (drop 1) e ∙ drop-drop 1 at s)
@@ -128,11 +117,11 @@ module _ {A B : Type 0} where
 
 -- ---------------------------------------------------------------- skipped expressions
 
-pub skips_to : {s : Text} {at e : ℕ} {r : Skipped} → Skips s at r → r ≡ skipped_as.To e → (skipped (drop at s) 1 ≡ some (drop e s)) × ((at ≤ e) × (e ≤ length s))
+pub skips_to : {s : Text} {at e : ℕ} {r : returned.Option ℕ} → Skips s at r → r ≡ returned.Some e → (skipped (drop at s) 1 ≡ some (drop e s)) × ((at ≤ e) × (e ≤ length s))
 unfolding left_at
-skips_to {s} {at} {e} {r} h f = (sym h.is ∙ ap (left_at s) f, subst (λ (x : Skipped). Skipped_inside s at x) f h.inside)
+skips_to {s} {at} {e} {r} h f = (sym h.is ∙ ap (left_at s) f, subst (λ (x : returned.Option ℕ). Skipped_inside s at x) f h.inside)
 
-pub skips_none : {s : Text} {at : ℕ} {r : Skipped} → Skips s at r → r ≡ skipped_as.End → skipped (drop at s) 1 ≡ none
+pub skips_none : {s : Text} {at : ℕ} {r : returned.Option ℕ} → Skips s at r → r ≡ returned.None → skipped (drop at s) 1 ≡ none
 unfolding left_at
 skips_none {s} {at} {r} h f = sym h.is ∙ ap (left_at s) f
 
@@ -161,15 +150,7 @@ module _ (s : Text) (at : ℕ) (σ : State) (e : σ.rest ≡ drop at s) where
       ∙ entered_in bracketed (moved (drop (at + 1) s) σ) d
       ∙ ap (λ (x : Result (List Text)). onto (λ t u. ok t (at_level σ.depth u)) (onto (λ ts. give (g.angled ts)) x)) (up_arguments (at_level (σ.depth + 1) (moved (drop (at + 1) s) σ)))
 
-pub args_deep :
-    {s : Text} {m m' : Memory} {p q : Parser} {r : Read} {j : Refusal} → starts (drop p.at s) (73 ∷ []) ≡ true → q ≡ moved_to p (p.at + 1) → r ≡ entered_from q → r ≡ Refused j →
-    Reads (reading ⟨template-args⟩) (keep (p.depth + 1)) (p.at + 1) s m m' p r
-args_deep {s} {m} {m'} {p} {q} {r} k e f i =
-    let o = stayed_out q f i in
-    subst (λ (x : Read). Reads (reading ⟨template-args⟩) (keep (p.depth + 1)) (p.at + 1) s m m' p x) (sym o.1)
-    (λ σ h. by (args_8 s p.at σ h.rest (ahead_is _ _ _ h.rest refl k) (omega (arith, h.depth, o.0, ap (λ (z : Parser). z.depth) e))) refuses)
-
 pub args_open :
-    {s : Text} {m : Memory} {p q r : Parser} {at : ℕ} {σ : State} → r ≡ deeper q → q ≡ moved_to p at → p.depth < most_open → at ≤ length s → Holds s m p σ →
+    {s : Text} {m : Memory} {p q r : Progress} {at : ℕ} {σ : State} → r ≡ deeper q → q ≡ moved_to p at → p.depth < most_open → at ≤ length s → Holds s m p σ →
     Holds s m r (at_level (σ.depth + 1) (moved (drop at s) σ))
 args_open {at = at} e f d l h = by_state (e ∙ ap deeper f) (holds_entered (holds_moved h at l) d)

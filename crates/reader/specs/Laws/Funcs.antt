@@ -1,5 +1,5 @@
 -- Laws of Funcs.antt. Assumes nothing.
-use Rattle.std.specs.Prelude.{◌≡◌, ℕ, ◌+◌, ◌≤◌, min, Bool, true, false, T, List, [], ◌∷◌, ◌++◌, length, take}
+use Rattle.std.specs.Prelude.{◌≡◌, ℕ, ◌+◌, ◌≤◌, min, Bool, true, false, T, List, [], ◌∷◌, ◌++◌, length, take, nat_eq}
 use Rattle.std.proofs.Common.{append_assoc, append-nil, sym, ◌∙◌, subst, arith, length-append}
 use Rattle.std.proofs.Math.Path.{refl, ap}
 use Rattle.grammar.specs.Text.{Text, b, if◌then◌otherwise◌, same, join}
@@ -11,11 +11,14 @@ use Rattle.grammar.specs.Limits.{most_open, most_text_bytes, most_entry_bytes, m
 use Rattle.grammar.specs.Laws.Loops.{closed}
 use Rattle.store.specs.Stack.{Tail, Cut, newest}
 use Rattle.store.specs.Laws.Tails.{dropped}
-use Rattle.parser.specs.Holds.{Memory, mem, window, Wrote, Stands, Refines, Puts, Cuts, keep}
+use Rattle.parser.specs.Holds.{Halves, Memory, mem, window, Wrote, Stands, Refines, Puts, Cuts, keep}
 use Rattle.parser.specs.Laws.Holds.{stands}
 use Rattle.parser.specs.Laws.Wraps.{holds_cuts, end_text}
-use Rattle.grammar.specs.declared.state.Parser.{Parser}
-use Rattle.grammar.specs.declared.state.Read.{Read}
+use Rattle.grammar.specs.States.{Progress, Read}
+use Rattle.std.specs.Cmp.Lexicographic.{pointwise}
+use Rattle.store.specs.Laws.Lists.{same_texts}
+use Rattle.store.specs.declared.stack.Stack.{Stack}
+use Rattle.parser.specs.declared.demangler.Demangler.{Demangler}
 use Rattle.reader.specs.declared.lists.Kind.TheVariants.{Types}
 use Rattle.reader.specs.Laws.Standing.{stands_behind}
 use Rattle.reader.specs.Laws.Items.{looped}
@@ -39,14 +42,14 @@ module _ (σ : State) where
 -- ---------------------------------------------------------------- the stack
 
 pub func_stands :
-    {d : ℕ} {s base : Text} {from : ℕ} {text text' store ends : Text} {m : Memory} {q o last : Parser} {r n : ℕ} {t u : Text} {τ ρ : State} →
+    {d : ℕ} {s base : Text} {from : ℕ} {text text' : Text} {store ends : Halves} {m : Memory} {q o last : Progress} {r n : ℕ} {t u : Text} {τ ρ : State} →
     Wrote (keep (d + 1)) d s base from (mem text store ends) q r t τ → Puts text text' q o opening → d ≤ most_open →
     Stands (keep (o.depth + 1)) o.depth s (window (mem text' store ends) o) o.at m last n u ρ →
     Stands (keep (d + 1)) d s base from m last (min (r + (5 + n)) most_length) (t ++ (opening ++ u)) ρ
-func_stands w v l z = stands_behind (stands w (omega arith) (omega arith)) v z (omega (arith, ap (λ (y : Parser). y.depth) v.same, w.level)) (omega (arith, ap (λ (y : Parser). y.at) v.same, w.more))
+func_stands w v l z = stands_behind (stands w (omega arith) (omega arith)) v z (omega (arith, ap (λ (y : Progress). y.depth) v.same, w.level)) (omega (arith, ap (λ (y : Progress). y.at) v.same, w.more))
 
 pub func_ended :
-    {d : ℕ} {s base : Text} {from : ℕ} {m m' : Memory} {p : Parser} {r n count : ℕ} {x : Read} {σ : State} (t : Text) (ts : List Text) →
+    {d : ℕ} {s base : Text} {from : ℕ} {m m' : Memory} {p : Progress} {r n count : ℕ} {x : Read} {σ : State} (t : Text) (ts : List Text) →
     FuncEnd m m' p r n count x → Stands (keep (d + 1)) d s base from m p (min (r + (5 + n)) most_length) (t ++ (opening ++ join (b ", ") ts)) σ →
     r ≡ length t → n ≡ min (length (join (b ", ") ts)) most_length → count ≡ length ts →
     Refines (keep d) d s base from m' x (recorded (function_text t ts) σ)
@@ -99,7 +102,7 @@ not_only (t ∷ []) h = go (same t (b "void")) refl
 not_only (t ∷ u ∷ ts) h = refl
 
 -- the newest text has four bytes, and it goes
-module _ {k d : ℕ} {s base : Text} {from : ℕ} {text store ends : Text} {p : Parser} {n : ℕ} {σ : State} (t u : Text)
+module _ {k d : ℕ} {s base : Text} {from : ℕ} {text : Text} {store ends : Halves} {p : Progress} {n : ℕ} {σ : State} (t u : Text)
     (h : Stands k d s base from (mem text store ends) p n (t ++ (opening ++ u)) σ) (l : length t ≤ most_text_bytes) (e : length u ≡ 4) where
   apart : Stands k d s base from (mem text store ends) p n ((t ++ opening) ++ u) σ
   apart = subst (λ (y : Text). Stands k d s base from (mem text store ends) p n y σ) (sym (append_assoc t opening u)) h
@@ -107,7 +110,7 @@ module _ {k d : ℕ} {s base : Text} {from : ℕ} {text store ends : Text} {p : 
   pub newest_four : newest text p.top 4 ≡ u
   newest_four = ap (newest text p.top) (sym e) ∙ end_text (t ++ opening) u apart (omega (arith, length-append (t ++ opening) u, length-append t opening))
 
-  pub stands_without : (j : ℕ) {text' : Text} {p' : Parser} → most_entry_bytes ≤ j → j + 4 ≤ k → Cuts text text' p p' 4 0
+  pub stands_without : (j : ℕ) {text' : Text} {p' : Progress} → most_entry_bytes ≤ j → j + 4 ≤ k → Cuts text text' p p' 4 0
       → Stands j d s base from (mem text' store ends) p' (length t + 5) (t ++ opening) σ
   stands_without j {text'} {p'} i o c =
       let a : Text = base ++ (t ++ opening) in
@@ -118,8 +121,18 @@ module _ {k d : ℕ} {s base : Text} {from : ℕ} {text store ends : Text} {p : 
         holds = holds_cuts c h.holds;
         tail = subst (Tail j (take p'.top text')) (append-nil a) (dropped a u [] w h.holds.text (omega arith) (omega arith) x);
         size = omega (arith, length-append t opening);
-        level = ap (λ (q : Parser). q.depth) c.same ∙ h.level;
-        more = omega (arith, ap (λ (q : Parser). q.at) c.same, h.more);
+        level = ap (λ (q : Progress). q.depth) c.same ∙ h.level;
+        more = omega (arith, ap (λ (q : Progress). q.at) c.same, h.more);
         least = i;
         most = omega (arith, h.most);
       }
+
+-- ---------------------------------------------------------------- a demangler
+
+-- an entry made behind another stack
+pub recorded_behind : (d d' : Demangler) (x : Stack) → d' ≡ record d { stack = x; subs = d'.subs } → d' ≡ record d { stack = d'.stack; subs = d'.subs }
+recorded_behind d d' x e = e ∙ ap (λ (y : Stack). record d { stack = y; subs = d'.subs }) (sym (ap (λ (z : Demangler). z.stack) e))
+
+-- what a test of two texts tells
+pub told : {r q : Bool} {t v w u : Text} → r ≡ pointwise nat_eq t u → t ≡ v → u ≡ w → r ≡ q → same v w ≡ q
+told {t = t} {v = v} {w = w} {u = u} e i f g = ap (λ (x : Text). same x w) (sym i) ∙ sym (same_texts t w) ∙ ap (pointwise nat_eq t) (sym f) ∙ sym e ∙ g

@@ -1,14 +1,17 @@
 -- Laws of names and types with template arguments. Assumes nothing.
-use Rattle.std.specs.Prelude.{◌≡◌, ℕ, Bool, true, false, ◌++◌, take, refl}
-use Rattle.std.proofs.Common.{sym, ap, subst, arith}
+use Rattle.std.specs.Prelude.{◌≡◌, ℕ, Bool, true, false, ◌++◌, refl}
+use Rattle.std.proofs.Common.{ap, subst, sym, arith}
 use Rattle.grammar.specs.Text.{Text}
 use Rattle.grammar.specs.Reader.{State, onto, set_args, set_templated, recorded}
 use Rattle.grammar.specs.Grammar.{reading, ⟨template-args⟩, name_args, name_instance, type_instance, std_ahead}
-use Rattle.grammar.specs.declared.state.Parser.{Parser}
-use Rattle.grammar.specs.States.{args_to, templated_to}
-use Rattle.parser.specs.Holds.{Memory, Holds, Stands}
-use Rattle.parser.specs.Laws.Holds.{by_state, holds_templated}
-use Rattle.reader.specs.Instances.{instance_of, at_S_of, bare, marked, Passes}
+use Rattle.store.specs.Laws.Entries.{entries_sized, no_entries}
+use Rattle.store.specs.declared.table.Table.{Table}
+use Rattle.parser.specs.declared.demangler.Demangler.{Demangler}
+use Rattle.parser.specs.Demanglers.{state_of, memory_of, Held}
+use Rattle.parser.specs.Holds.{Holds, Stands, window}
+use Rattle.parser.specs.Laws.Halves.{holds_args}
+use Rattle.parser.specs.Laws.Holds.{holds_templated}
+use Rattle.reader.specs.Instances.{instance_of, at_S_of, bare, marked}
 use Rattle.reader.specs.Laws.Opens.{at_S, s_name_is, s_type_is}
 use Rattle.reader.specs.Laws.Standing.{stands_kept}
 
@@ -21,34 +24,29 @@ pub at_S_is : (q : Bool) (σ : State) → at_S_of q σ ≡ at_S (instance_of q) 
 at_S_is true σ = s_name_is σ
 at_S_is false σ = s_type_is σ
 
+-- ---------------------------------------------------------------- other arguments, and the mark of a name that has some
+
+-- d' is d in the state that f gives, and the stack is the same
+pub record Passes (f : State → State) (d d' : Demangler) : Type 0 where
+  pub others : d' ≡ record d { state = record d.state { templated = d'.state.templated }; args = d'.args }
+  pub holds : (σ : State) → Held d σ → Holds d.s.now (memory_of d') (state_of d') (f σ)
+
 -- a text that stands goes on standing
 pub passed :
-    {k d : ℕ} {s base : Text} {from : ℕ} {m : Memory} {p r : Parser} {n : ℕ} {t : Text} {σ : State} {f : State → State} →
-    Passes f p r → Stands k d s base from m p n t σ → Stands k d s base from m r n t (f σ)
-passed {m = m} c h = stands_kept h (c.holds _ _ _ h.holds) (ap (λ (n : ℕ). take n m.text) c.top) c.depth (omega (arith, h.more, c.at))
+    {k l : ℕ} {base : Text} {from n : ℕ} {d d' : Demangler} {t : Text} {σ : State} {f : State → State} →
+    Passes f d d' → Stands k l d.s.now base from (memory_of d) (state_of d) n t σ → Stands k l d.s.now base from (memory_of d') (state_of d') n t (f σ)
+passed {d = d} {σ = σ} c h =
+    stands_kept h (c.holds σ h.holds) (ap (λ (x : Demangler). window (memory_of x) (state_of x)) c.others) (ap (λ (x : Demangler). x.state.depth) c.others)
+    (omega (arith, h.more, ap (λ (x : Demangler). x.state.at) c.others))
 
--- ---------------------------------------------------------------- the functions
+pub passes_none : (d : Demangler) {f : State → State} → ((σ : State) → f σ ≡ σ) → Passes f d d
+passes_none d e = record { others = refl; holds = λ σ h. subst (λ (x : State). Held d x) (sym (e σ)) h }
 
-pub passes_none : (p : Parser) {f : State → State} → ((σ : State) → f σ ≡ σ) → Passes f p p
-passes_none p {f} e = record {
-  at = refl;
-  depth = refl;
-  top = refl;
-  holds = λ s m σ h. subst (Holds s m p) (sym (e σ)) h;
+pub passes_bare : (d : Demangler) (x : Table) → (x.bytes ≡ d.args.bytes) × (x.ends ≡ d.args.ends) → (x.count ≡ 0) × (x.used ≡ 0) → Passes (bare true) d (record d { args = x })
+passes_bare d x e f = record {
+  others = refl;
+  holds = λ σ h. holds_args h (rw (e.0, e.1, f.0, f.1) (no_entries (entries_sized h.args)));
 }
 
-pub passes_bare : {p r : Parser} → (r ≡ args_to p 0 0) × ((s : Text) (m : Memory) (σ : State) → Holds s m p σ → Holds s m r (bare true σ)) → Passes (bare true) p r
-passes_bare (e, h) = record {
-  at = ap (λ (x : Parser). x.at) e;
-  depth = ap (λ (x : Parser). x.depth) e;
-  top = ap (λ (x : Parser). x.top) e;
-  holds = h;
-}
-
-pub passes_marked : {p r : Parser} → r ≡ templated_to p true → Passes (marked true) p r
-passes_marked e = record {
-  at = ap (λ (x : Parser). x.at) e;
-  depth = ap (λ (x : Parser). x.depth) e;
-  top = ap (λ (x : Parser). x.top) e;
-  holds = λ s m σ h. by_state e (holds_templated h true);
-}
+pub passes_marked : (d : Demangler) → Passes (marked true) d (record d { state = record d.state { templated = true } })
+passes_marked d = record { others = refl; holds = λ σ h. holds_templated h true }

@@ -9,35 +9,30 @@ use Rattle.grammar.specs.Grammar.{reading, ⟨type⟩, ⟨template-arg⟩, ended
 use Rattle.grammar.specs.Laws.Places.{starts_byte}
 use Rattle.grammar.specs.Loops.{before_E}
 use Rattle.grammar.specs.Laws.Loops.{Stepped, items_loop, args_loop}
-use Rattle.store.specs.Stack.{Stack}
-use Rattle.parser.specs.Holds.{Memory, mem, Holds, Wrote, Stands, Reads, Refines, reads, refuses, Puts, Pushes, pushed, full, window, keep}
+use Rattle.parser.specs.Holds.{Halves, Memory, mem, Holds, Wrote, Stands, Reads, Refines, reads, refuses, Puts, Pushes, pushed, full, window, keep}
 use Rattle.parser.specs.Laws.Holds.{by, holds_puts, refused_on, Got, got}
-use Rattle.grammar.specs.States.{peeked, args_to}
-use Rattle.grammar.specs.declared.state.Parser.{Parser}
-use Rattle.grammar.specs.declared.state.Peeked.TheVariants as peeked_as
-use Rattle.grammar.specs.declared.state.Read.{Read}
-use Rattle.grammar.specs.declared.state.Read.TheVariants.{Text as read, Refused}
+use Rattle.grammar.specs.States.{peeked, args_to, Progress, Read, read, Refused}
+use Rattle.std.specs.Prelude as peeked_as
 use Rattle.reader.specs.declared.lists.Kind.{Kind}
 use Rattle.reader.specs.declared.lists.Kind.TheVariants.{Parameters, Types, Arguments}
-use Rattle.reader.specs.declared.lists.Texts.{Texts}
-use Rattle.reader.specs.declared.lists.Texts.TheVariants as items_as
-use Rattle.reader.specs.Laws.Separators.{join_more, before_size, puts_some, puts_none}
-use Rattle.reader.specs.Laws.Standing.{same_sizes, stands_nothing, stands_sized, wrote_kept, wrote_behind}
-use Rattle.reader.specs.Lists.{goes_on, item_of, kept_by, stops_at, Lists, listed, unlisted, unlisted_of, before_text}
+use Rattle.reader.specs.Lists.{Texts, Unlisted, goes_on, item_of, kept_by, stops_at, Lists, listed, unlisted, unlisted_of, before_text}
+use Rattle.reader.specs.Lists as lists
+use Rattle.reader.specs.Laws.Separators.{join_more, before_size}
+use Rattle.reader.specs.Laws.Standing.{stands_nothing, stands_sized, wrote_kept, wrote_behind}
 use Rattle.grammar.specs.Refusals.{refusal_number}
 use Rattle.grammar.specs.declared.refusal.Refusal.{Refusal}
 
 -- ---------------------------------------------------------------- the next byte
 
-pub peek_byte : (t : Text) {c : ℕ} → peeked t ≡ peeked_as.Byte c → t ≡ c ∷ drop 1 t
+pub peek_byte : (t : Text) {c : ℕ} → peeked t ≡ peeked_as.Some c → t ≡ c ∷ drop 1 t
 peek_byte [] e = let z : ◌≡◌ {A = ℕ} 0 1 = cc in absurd (omega arith)
 peek_byte (x ∷ t) {c} e = let f : x ≡ c = cc in ap (λ (y : ℕ). y ∷ t) f
 
-pub peek_end : (t : Text) → peeked t ≡ peeked_as.End → t ≡ []
+pub peek_end : (t : Text) → peeked t ≡ peeked_as.None → t ≡ []
 peek_end [] e = refl
 peek_end (x ∷ t) e = let z : ◌≡◌ {A = ℕ} 0 1 = cc in absurd (omega arith)
 
-module _ (s : Text) (at : ℕ) {c : ℕ} (e : peeked (drop at s) ≡ peeked_as.Byte c) where
+module _ (s : Text) (at : ℕ) {c : ℕ} (e : peeked (drop at s) ≡ peeked_as.Some c) where
   pub byte_there : drop at s ≡ c ∷ drop (at + 1) s
   byte_there = peek_byte (drop at s) e ∙ ap (λ (t : Text). c ∷ t) (drop-drop 1 at s)
 
@@ -101,14 +96,14 @@ kept_bounds Types d h = (omega arith, omega arith)
 kept_bounds Arguments d h = (omega arith, omega arith)
 
 -- so many texts were read since the state σ₀, and stand above what stood there
-pub record Listed (kind : Kind) (s : Text) (m₀ : Memory) (p₀ : Parser) (m : Memory) (p : Parser) (n count : ℕ) (σ₀ : State) : Type 0 where
+pub record Listed (kind : Kind) (s : Text) (m₀ : Memory) (p₀ : Progress) (m : Memory) (p : Progress) (n count : ℕ) (σ₀ : State) : Type 0 where
   pub texts : List Text
   pub state : State
   pub stands : Stands (kept_by kind p₀.depth) p₀.depth s (window m₀ p₀) p₀.at m p n (join (b ", ") texts) state
   pub count_is : count ≡ length texts
   pub same : looped kind [] σ₀ ≡ looped kind texts state
 
-pub listed_start : (kind : Kind) {s : Text} {m : Memory} {p : Parser} {σ : State} → Holds s m p σ → Listed kind s m p m p 0 0 σ
+pub listed_start : (kind : Kind) {s : Text} {m : Memory} {p : Progress} {σ : State} → Holds s m p σ → Listed kind s m p m p 0 0 σ
 unfolding join
 listed_start kind {s} {m} {p} {σ} h = record {
   texts = [];
@@ -124,16 +119,16 @@ refused_is {k} {d} {s} {base} {from} {m} {r} {f} {j} e h = told (subst (λ (x : 
     told : {f : Result Text} → Refines k d s base from m (Refused j) f → f ≡ refused (refusal_number j)
     told refuses = refl
 
-module _ {kind : Kind} {s : Text} {m₀ : Memory} {p₀ : Parser} {m : Memory} {p : Parser} {n count : ℕ} {σ₀ : State} (l : Listed kind s m₀ p₀ m p n count σ₀) where
-  pub at_end : peeked (drop p.at s) ≡ peeked_as.End → goes_on kind l.state.rest ≡ false
+module _ {kind : Kind} {s : Text} {m₀ : Memory} {p₀ : Progress} {m : Memory} {p : Progress} {n count : ℕ} {σ₀ : State} (l : Listed kind s m₀ p₀ m p n count σ₀) where
+  pub at_end : peeked (drop p.at s) ≡ peeked_as.None → goes_on kind l.state.rest ≡ false
   at_end e = ends_on kind (l.stands.holds.rest ∙ peek_end (drop p.at s) e)
 
-  pub at_byte : {c : ℕ} {q : Bool} → peeked (drop p.at s) ≡ peeked_as.Byte c → stops_at kind c ≡ q → goes_on kind l.state.rest ≡ not q
+  pub at_byte : {c : ℕ} {q : Bool} → peeked (drop p.at s) ≡ peeked_as.Some c → stops_at kind c ≡ q → goes_on kind l.state.rest ≡ not q
   at_byte {c} e f = on_byte kind c (l.stands.holds.rest ∙ peek_byte (drop p.at s) e) f
 
-  pub listed_ends : goes_on kind l.state.rest ≡ false → Lists (kept_by kind p₀.depth) p₀.depth s (window m₀ p₀) p₀.at m (items_as.Listed p n count) (looped kind [] σ₀)
+  pub listed_ends : goes_on kind l.state.rest ≡ false → Lists (kept_by kind p₀.depth) p₀.depth s (window m₀ p₀) p₀.at m (lists.Listed p n count) (looped kind [] σ₀)
   listed_ends e =
-      subst (λ (x : Result (List Text)). Lists (kept_by kind p₀.depth) p₀.depth s (window m₀ p₀) p₀.at m (items_as.Listed p n count) x)
+      subst (λ (x : Result (List Text)). Lists (kept_by kind p₀.depth) p₀.depth s (window m₀ p₀) p₀.at m (lists.Listed p n count) x)
       (sym (l.same ∙ loop_stops kind l.texts l.state e)) (listed l.stands l.count_is)
 
   pub listed_refuses :
@@ -151,16 +146,16 @@ comma_size n = before_size (b ", ") refl n
 
 -- one text more, behind a comma if it is not the first
 pub listed_more :
-    {kind : Kind} {s : Text} {m₀ : Memory} {p₀ : Parser} {text text' store ends : List ℕ} {m'' : Memory} {p q p'' : Parser} {n count x n' : ℕ} {σ₀ : State}
+    {kind : Kind} {s : Text} {m₀ : Memory} {p₀ : Progress} {text text' : List ℕ} {store ends : Halves} {m'' : Memory} {p q p'' : Progress} {n count x n' : ℕ} {σ₀ : State}
     (l : Listed kind s m₀ p₀ (mem text store ends) p n count σ₀) → Puts text text' p q (before_text count) → goes_on kind l.state.rest ≡ true →
     Got (kept_by kind q.depth) q.depth s (take q.top text') (q.at + 1) m'' p'' x (item_of kind l.state) →
     n' ≡ min (n + (2 * min count 1 + x)) most_length → Listed kind s m₀ p₀ m'' p'' n' (count + 1) σ₀
 listed_more {kind} {s} {m₀} {p₀} {text} {text'} {store} {ends} {m''} {p} {q} {p''} {n} {count} {x} {n'} {σ₀} l u i h e =
-    let d : q.depth ≡ p₀.depth = ap (λ (z : Parser). z.depth) u.same ∙ l.stands.level in
+    let d : q.depth ≡ p₀.depth = ap (λ (z : Progress). z.depth) u.same ∙ l.stands.level in
     let t : Text = h.said in
     let j : Text = join (b ", ") l.texts in
     let f : join (b ", ") (l.texts ++ (t ∷ [])) ≡ j ++ (before_text count ++ t) = join_more (b ", ") count l.texts t (omega (arith, l.count_is)) in
-    let y = wrote_behind {to = p₀.at} l.stands u h.wrote (omega (arith, ap (kept_by kind) d)) (omega (arith, l.stands.more, ap (λ (z : Parser). z.at) u.same)) in
+    let y = wrote_behind {to = p₀.at} l.stands u h.wrote (omega (arith, ap (kept_by kind) d)) (omega (arith, l.stands.more, ap (λ (z : Progress). z.at) u.same)) in
     record {
       texts = l.texts ++ (t ∷ []);
       state = h.state;
@@ -169,44 +164,18 @@ listed_more {kind} {s} {m₀} {p₀} {text} {text'} {store} {ends} {m''} {p} {q}
       same = l.same ∙ loop_goes kind l.texts l.state i h.is;
     }
 
--- ---------------------------------------------------------------- the comma, and one turn of the loop
-
--- a comma was put behind n bytes, if there was a text before
-pub record Spaced (text text' : Text) (p p' : Parser) (n n' count : ℕ) : Type 0 where
-  pub puts : Puts text text' p p' (before_text count)
-  pub size : n' ≡ min (n + 2 * min count 1) most_length
-
-pub spaced_some :
-    {text text' text'' : Text} {p p' p'' : Parser} {n n' n'' count : ℕ} → 0 < count → Puts text text' p p' (44 ∷ 32 ∷ []) → n' ≡ min (n + 2) most_length →
-    text'' ≡ text' → p'' ≡ p' → n'' ≡ n' → Spaced text text'' p p'' n n'' count
-unfolding b
-spaced_some {count = count} l u e f g h = rw (f, g, h) (record { puts = puts_some (b ", ") count l u; size = omega arith })
-
-pub spaced_none :
-    {text text'' : Text} {p p'' : Parser} {n n'' count : ℕ} → count ≤ 0 → Stack text p.top → n ≤ most_length →
-    text'' ≡ text → p'' ≡ p → n'' ≡ n → Spaced text text'' p p'' n n'' count
-spaced_none {text} {p = p} {count = count} l c e f g h =
-    rw (f, g, h) (record {
-      puts = puts_none (b ", ") count l c;
-      size = omega arith;
-    })
+-- ---------------------------------------------------------------- one turn of the loop
 
 -- the loop so far
-pub record Listing (kind : Kind) (s : Text) (m₀ : Memory) (p₀ : Parser) (m : Memory) (p : Parser) (n count : ℕ) : Type 0 where
-  pub text_same : length m.text ≡ length m₀.text
-  pub store_same : length m.store ≡ length m₀.store
-  pub ends_same : length m.ends ≡ length m₀.ends
+pub record Listing (kind : Kind) (s : Text) (m₀ : Memory) (p₀ : Progress) (m : Memory) (p : Progress) (n count : ℕ) : Type 0 where
   pub far : p₀.at + count ≤ p.at
   pub inside : p.at ≤ length s
   pub short : length s ≤ most_text_bytes
   pub small : n ≤ most_length
   pub so_far : (σ₀ : State) → Holds s m₀ p₀ σ₀ → Listed kind s m₀ p₀ m p n count σ₀
 
-pub listing_start : (kind : Kind) {s : Text} {m : Memory} {p : Parser} {σ : State} → Holds s m p σ → Listing kind s m p m p 0 0
+pub listing_start : (kind : Kind) {s : Text} {m : Memory} {p : Progress} {σ : State} → Holds s m p σ → Listing kind s m p m p 0 0
 listing_start kind h = record {
-  text_same = refl;
-  store_same = refl;
-  ends_same = refl;
   far = omega arith;
   inside = h.place;
   short = h.source;
@@ -215,26 +184,22 @@ listing_start kind h = record {
 }
 
 pub listing_more :
-    {kind : Kind} {s : Text} {m₀ : Memory} {p₀ : Parser} {text text' store ends : List ℕ} {m'' : Memory} {p q p'' : Parser} {n j count x n' c : ℕ} {r : Read} {σ : State} →
-    Listing kind s m₀ p₀ (mem text store ends) p n count → Holds s m₀ p₀ σ → Spaced text text' p q n j count →
-    peeked (drop p.at s) ≡ peeked_as.Byte c → stops_at kind c ≡ false → r ≡ read p'' x →
+    {kind : Kind} {s : Text} {m₀ : Memory} {p₀ : Progress} {text text' : List ℕ} {store ends : Halves} {m'' : Memory} {p q p'' : Progress} {n count x n' c : ℕ} {r : Read} {σ : State} →
+    Listing kind s m₀ p₀ (mem text store ends) p n count → Holds s m₀ p₀ σ → Puts text text' p q (before_text count) →
+    peeked (drop p.at s) ≡ peeked_as.Some c → stops_at kind c ≡ false → r ≡ read p'' x →
     Reads (item_of kind) (kept_by kind q.depth) (q.at + 1) s (mem text' store ends) m'' q r →
-    n' ≡ min (j + x) most_length → Listing kind s m₀ p₀ m'' p'' n' (count + 1)
-listing_more {kind} {s} {m₀} {p₀} {text} {text'} {store} {ends} {m''} {p} {q} {p''} {n} {j} {count} {x} {n'} {c} {r} {σ} i h u e f g k o =
+    n' ≡ min (n + (2 * min count 1 + x)) most_length → Listing kind s m₀ p₀ m'' p'' n' (count + 1)
+listing_more {kind} {s} {m₀} {p₀} {text} {text'} {store} {ends} {m''} {p} {q} {p''} {n} {count} {x} {n'} {c} {r} {σ} i h u e f g k o =
     let l = i.so_far σ h in
-    let w = got g (k l.state (holds_puts u.puts l.stands.holds)) in
+    let w = got g (k l.state (holds_puts u l.stands.holds)) in
     let v = w.wrote.holds in
-    let z = same_sizes h v in
     record {
-      text_same = z.0;
-      store_same = z.1.0;
-      ends_same = z.1.1;
-      far = omega (arith, i.far, w.wrote.more, ap (λ (z : Parser). z.at) u.puts.same);
+      far = omega (arith, i.far, w.wrote.more, ap (λ (z : Progress). z.at) u.same);
       inside = v.place;
       short = v.source;
       small = omega (arith, o);
       so_far = λ σ₀ h₀. let l₀ = i.so_far σ₀ h₀ in
-          listed_more l₀ u.puts (at_byte l₀ e f) (got g (k l₀.state (holds_puts u.puts l₀.stands.holds))) (omega (arith, o, u.size));
+          listed_more l₀ u (at_byte l₀ e f) (got g (k l₀.state (holds_puts u l₀.stands.holds))) (omega (arith, o));
     }
 
 -- ---------------------------------------------------------------- one text of a list, by the list's kind
@@ -250,7 +215,7 @@ pub argument_refused :
 argument_refused σ e f h = by_kind σ e (refused_on _ f h)
 
 pub argument_pushed :
-    {kind : Kind} {d : ℕ} {s base : Text} {from : ℕ} {text store ends store' ends' : List ℕ} {p : Parser} {n c b : ℕ} {t : Text} {r : Read} {τ : State} (σ : State) →
+    {kind : Kind} {d : ℕ} {s base : Text} {from : ℕ} {text : List ℕ} {store ends store' ends' : Halves} {p : Progress} {n c b : ℕ} {t : Text} {r : Read} {τ : State} (σ : State) →
     kind ≡ Arguments → reading ⟨template-arg⟩ σ ≡ ok t τ → Wrote (keep d) d s base from (mem text store ends) p n t τ →
     Pushes s (mem text store' ends') n (args_to p c b) r (push_arg t τ) → Refines (kept_by kind d) d s base from (mem text store' ends') r (item_of kind σ)
 unfolding onto

@@ -15,18 +15,13 @@ use Rattle.grammar.specs.Laws.Steps.{same_from}
 use Rattle.grammar.specs.Laws.NameSteps.{unqualified_digit}
 use Rattle.store.specs.Laws.Entries.{bytes_append, bytes_one}
 use Rattle.store.specs.Stack.{Stack}
-use Rattle.parser.specs.Holds.{Memory, mem, Holds, Wrote, Refines, refuses, Puts, Pushes, pushed, full, keep}
+use Rattle.parser.specs.Holds.{Halves, Memory, mem, Holds, Wrote, Refines, refuses, Puts, Pushes, pushed, full, keep}
 use Rattle.parser.specs.Laws.Wraps.{puts_top}
-use Rattle.grammar.specs.States.{subs_to}
-use Rattle.grammar.specs.declared.state.Parser.{Parser}
-use Rattle.grammar.specs.declared.state.Read.{Read}
-use Rattle.grammar.specs.declared.state.Read.TheVariants.{Text as read, Refused}
+use Rattle.grammar.specs.States.{subs_to, Progress, Read, read, Refused}
 use Rattle.reader.specs.declared.lists.Parts.{Parts}
-use Rattle.reader.specs.declared.lists.Prefix.{Prefix}
-use Rattle.reader.specs.declared.lists.Prefix.TheVariants as prefix_as
+use Rattle.reader.specs.Lists.{Prefix, Reached, Unreached, Alike, same_text, both_long, Parted, Parting, parted, unparted, before_part, longer_of, unread_of, part_of}
 use Rattle.reader.specs.Laws.Separators.{join_more, before_size}
 use Rattle.reader.specs.Laws.Standing.{parted_kept, stands_sized, wrote_behind, wrote_least}
-use Rattle.reader.specs.Lists.{Alike, same_text, both_long, Parted, Parting, parted, unparted, before_part, longer_of, unread_of, part_of}
 use Rattle.grammar.specs.declared.refusal.Refusal.{Refusal}
 
 -- ---------------------------------------------------------------- one part more
@@ -53,7 +48,7 @@ shown_is n (same_text e) = e
 shown_is n (both_long i j) = absurd (n i j)
 
 pub parted_more :
-    {s base text text₁ store ends : Text} {from : ℕ} {m' : Memory} {p p₁ p' : Parser} {q : Parts} {m : ℕ} {ps : g.Parts} {x : Text} {σ τ : State} →
+    {s base text text₁ : Text} {store ends : Halves} {from : ℕ} {m' : Memory} {p p₁ p' : Progress} {q : Parts} {m : ℕ} {ps : g.Parts} {x : Text} {σ τ : State} →
     Parted (keep p.depth) p.depth s base from (mem text store ends) p q ps σ → Puts text text₁ p p₁ (before_part q.count) →
     Wrote (keep p₁.depth) p₁.depth s (take p₁.top text₁) (p₁.at + 1) m' p' m x τ →
     Parted (keep p.depth) p.depth s base (p.at + 1) m' p' (longer_of q m) (one_part_more ps x) τ
@@ -62,8 +57,8 @@ parted_more {s} {base} {text} {text₁} {store} {ends} {from} {m'} {p} {p₁} {p
     let z : Text = before_part q.count in
     let c = h.stands in
     let e : join (b "::") (ps.texts ++ (x ∷ [])) ≡ join (b "::") ps.texts ++ (z ++ x) = join_more (b "::") q.count ps.texts x (omega (arith, h.count)) in
-    let d : p₁.depth ≡ p.depth = ap (λ (r : Parser). r.depth) u.same in
-    let i : p₁.at ≡ p.at = ap (λ (r : Parser). r.at) u.same in
+    let d : p₁.depth ≡ p.depth = ap (λ (r : Progress). r.depth) u.same in
+    let i : p₁.at ≡ p.at = ap (λ (r : Progress). r.at) u.same in
     let y = wrote_behind {to = p.at + 1} c u w (omega arith) (omega arith) in
     record {
       shown = h.shown ++ (z ++ x);
@@ -90,25 +85,25 @@ unfolding onto
 unread_on {k} {d} {k'} {d'} {s} {base} {s'} {base'} {from} {from'} {m} {m'} {r} {v} {f} {j} h e w a =
     answer_by (w ∙ ap unread_of e) (told (subst (λ (x : Read). Refines k d s base from m x f) e a))
   where
-    told : {f : Result Text} → Refines k d s base from m (Refused j) f → Parting k' d' s' base' from' m' (prefix_as.Refused j) (onto h f)
+    told : {f : Result Text} → Refines k d s base from m (Refused j) f → Parting k' d' s' base' from' m' (Unreached j) (onto h f)
     told refuses = unparted
 
-pub unpushed_on : {k' d' n : ℕ} {s s' base' : Text} {from' : ℕ} {m m' : Memory} {p : Parser} {r : Read} {v : Prefix} {f : Result (Unit {0})} {j : Refusal} (h : Unit {0} → Reader g.Parts) → r ≡ Refused j → v ≡ unread_of r → Pushes s m n p r f → Parting k' d' s' base' from' m' v (onto h f)
+pub unpushed_on : {k' d' n : ℕ} {s s' base' : Text} {from' : ℕ} {m m' : Memory} {p : Progress} {r : Read} {v : Prefix} {f : Result (Unit {0})} {j : Refusal} (h : Unit {0} → Reader g.Parts) → r ≡ Refused j → v ≡ unread_of r → Pushes s m n p r f → Parting k' d' s' base' from' m' v (onto h f)
 unfolding onto
 unpushed_on {k'} {d'} {n} {s} {s'} {base'} {from'} {m} {m'} {p} {r} {v} {f} {j} h e w a =
     answer_by (w ∙ ap unread_of e) (told (subst (λ (x : Read). Pushes s m n p x f) e a))
   where
-    told : {f : Result (Unit {0})} → Pushes s m n p (Refused j) f → Parting k' d' s' base' from' m' (prefix_as.Refused j) (onto h f)
+    told : {f : Result (Unit {0})} → Pushes s m n p (Refused j) f → Parting k' d' s' base' from' m' (Unreached j) (onto h f)
     told full = unparted
 
 -- the parts, after they became an entry
-pub pushed_on : {k d n i : ℕ} {s base : Text} {from : ℕ} {m m' : Memory} {p p' : Parser} {q : Parts} {ps : g.Parts} {σ : State} {r : Read} {f : Result (Unit {0})} {c e : ℕ} →
+pub pushed_on : {k d n i : ℕ} {s base : Text} {from : ℕ} {m m' : Memory} {p p' : Progress} {q : Parts} {ps : g.Parts} {σ : State} {r : Read} {f : Result (Unit {0})} {c e : ℕ} →
     r ≡ read p' i → m'.text ≡ m.text → Parted k d s base from m p q ps σ → Pushes s m' n (subs_to p c e) r f →
-    Parting k d s base from m' (prefix_as.Parts p' q) (onto (λ _. λ (u : State). ok ps u) f)
+    Parting k d s base from m' (Reached p' q) (onto (λ _. λ (u : State). ok ps u) f)
 unfolding onto
 pushed_on {k} {d} {n} {i} {s} {base} {from} {m} {m'} {p} {p'} {q} {ps} {σ} {r} {f} {c} {e} a t h u = told (subst (λ (x : Read). Pushes s m' n (subs_to p c e) x f) a u)
   where
-    told : {p' : Parser} {i : ℕ} {f : Result (Unit {0})} → Pushes s m' n (subs_to p c e) (read p' i) f → Parting k d s base from m' (prefix_as.Parts p' q) (onto (λ _. λ (u : State). ok ps u) f)
+    told : {p' : Progress} {i : ℕ} {f : Result (Unit {0})} → Pushes s m' n (subs_to p c e) (read p' i) f → Parting k d s base from m' (Reached p' q) (onto (λ _. λ (u : State). ok ps u) f)
     told (pushed v) = parted {ps = ps} (parted_kept h v (ap (take p.top) t) refl h.stands.more)
 
 -- ---------------------------------------------------------------- what an entry and an answer tell of the parts
@@ -125,7 +120,7 @@ pub push_alike : {u t : Text} (σ : State) → Alike u t → push_sub u σ ≡ p
 push_alike σ (same_text e) = ap (λ (y : Text). push_sub y σ) e
 push_alike {u} {t} σ (both_long i j) = push_long u σ i ∙ sym (push_long t σ j)
 
-pub pushes_alike : {s : Text} {m : Memory} {n : ℕ} {p : Parser} {r : Read} {u t : Text} (σ : State) → Alike u t → Pushes s m n p r (push_sub u σ) → Pushes s m n p r (push_sub t σ)
+pub pushes_alike : {s : Text} {m : Memory} {n : ℕ} {p : Progress} {r : Read} {u t : Text} (σ : State) → Alike u t → Pushes s m n p r (push_sub u σ) → Pushes s m n p r (push_sub t σ)
 pushes_alike {s} {m} {n} {p} {r} σ a h = subst (λ (f : Result (Unit {0})). Pushes s m n p r f) (push_alike σ a) h
 
 -- ---------------------------------------------------------------- a new prefix
@@ -150,7 +145,7 @@ module _ (ps : g.Parts) (x : Text) (τ : State) where
 -- ---------------------------------------------------------------- how many bytes are there
 
 pub more_top :
-    {k d : ℕ} {s text text₁ : Text} {from : ℕ} {m' : Memory} {p p₁ p' : Parser} (q : Parts) {m : ℕ} {x : Text} {τ : State} →
+    {k d : ℕ} {s text text₁ : Text} {from : ℕ} {m' : Memory} {p p₁ p' : Progress} (q : Parts) {m : ℕ} {x : Text} {τ : State} →
     Stack text p.top → Puts text text₁ p p₁ (before_part q.count) → Wrote k d s (take p₁.top text₁) from m' p' m x τ → most_entry_bytes ≤ k →
     min q.n most_entry_bytes ≤ p.top → min (min (q.n + (2 * min q.count 1 + m)) most_length) most_entry_bytes ≤ p'.top
 more_top q c u w l i =
@@ -158,7 +153,7 @@ more_top q c u w l i =
     omega (arith, wrote_least u.put.stack w l (min q.n most_entry_bytes + length (before_part q.count)) (omega (arith, a)), colons_size q.count)
 
 -- the parts that a function hands back
-pub parted_as : {k d : ℕ} {s base : Text} {from : ℕ} {m : Memory} {p : Parser} {q q' : Parts} {ps : g.Parts} {σ : State} → q' ≡ q → Parted k d s base from m p q ps σ → Parted k d s base from m p q' ps σ
+pub parted_as : {k d : ℕ} {s base : Text} {from : ℕ} {m : Memory} {p : Progress} {q q' : Parts} {ps : g.Parts} {σ : State} → q' ≡ q → Parted k d s base from m p q ps σ → Parted k d s base from m p q' ps σ
 parted_as {k} {d} {s} {base} {from} {m} {p} {q} {q'} {ps} {σ} e h = subst (λ (x : Parts). Parted k d s base from m p x ps σ) (sym e) h
 
 -- ---------------------------------------------------------------- what a part is, by its first byte
@@ -186,7 +181,7 @@ digit_first [] σ r d = absurd (false≢true d)
 digit_first (c ∷ t) σ r d = same_from (reading ⟨unqualified-name⟩) (reading ⟨source-name⟩) σ r (unqualified_digit c t σ (digit_other c d) d)
 
 -- an unqualified name that begins with a digit is a source name
-pub part_digit : {s : Text} {m : Memory} {p : Parser} {σ : State} → Holds s m p σ → digit_ahead (drop p.at s) ≡ true → reading ⟨unqualified-name⟩ σ ≡ reading ⟨source-name⟩ σ
+pub part_digit : {s : Text} {m : Memory} {p : Progress} {σ : State} → Holds s m p σ → digit_ahead (drop p.at s) ≡ true → reading ⟨unqualified-name⟩ σ ≡ reading ⟨source-name⟩ σ
 part_digit {s} {p = p} {σ = σ} h e = digit_first (drop p.at s) σ h.rest e
 
 module _ (ps : g.Parts) (σ : State) where

@@ -9,11 +9,8 @@ use Rattle.grammar.specs.Reader.{State, Result, ok, Reader, onto, give, see, nee
 use Rattle.grammar.specs.Grammar.{reading, local_encoding, ⟨name⟩, ⟨type⟩}
 use Rattle.grammar.specs.Laws.Agree.{moved}
 use Rattle.grammar.specs.Loops.{before_E}
-use Rattle.grammar.specs.declared.state.Parser.{Parser}
-use Rattle.grammar.specs.declared.state.Read.{Read}
-use Rattle.grammar.specs.declared.state.Read.TheVariants.{Text as read, Refused}
-use Rattle.grammar.specs.States.{moved_to}
-use Rattle.parser.specs.Holds.{Memory, mem, window, Holds, Stands, Refines, refuses, Reads, Puts, keep, given_of}
+use Rattle.grammar.specs.States.{Progress, Read, read, Refused, moved_to}
+use Rattle.parser.specs.Holds.{Halves, Memory, mem, window, Holds, Stands, Refines, refuses, Reads, Puts, keep, given_of}
 use Rattle.parser.specs.Laws.Holds.{by, answers, Got, got, refused_on, less, sooner, given_refines, holds_puts, stands, short_enough}
 use Rattle.parser.specs.Laws.Adds.{puts_from}
 use Rattle.parser.specs.Laws.Wraps.{stands_puts}
@@ -21,9 +18,7 @@ use Rattle.parser.specs.Laws.Halves.{give_short, give_long}
 use Rattle.grammar.specs.Laws.Places.{starts_inside}
 use Rattle.grammar.specs.Laws.Runs.{need_here, need_not}
 use Rattle.reader.specs.declared.lists.Kind.TheVariants.{Types}
-use Rattle.reader.specs.declared.lists.Texts.{Texts}
-use Rattle.reader.specs.declared.lists.Texts.TheVariants as items_as
-use Rattle.reader.specs.Lists.{Lists, ReadsItems, refused_of}
+use Rattle.reader.specs.Lists.{Texts, Listed, Unlisted, Lists, ReadsItems, refused_of}
 use Rattle.reader.specs.Laws.Standing.{stands_moved, wrote_moved, joined}
 use Rattle.reader.specs.Laws.Closes.{GotList, got_list, list_refused, then_refused, refuses_list}
 use Rattle.grammar.specs.declared.refusal.Refusal.{Refusal}
@@ -73,7 +68,7 @@ module _ (n : Text) (s : Text) (at : ℕ) (σ : State) (e : σ.rest ≡ drop at 
 -- a list that was refused is the whole answer
 pub unlisted_on :
     {k d k' d' : ℕ} {s base s' base' : Text} {from from' : ℕ} {m m' : Memory} {r : Texts} {v : Read} {f : Result (List Text)} {j : Refusal} (g : List Text → Reader Text) (g' : Text → Reader Text) →
-    r ≡ items_as.Refused j → v ≡ refused_of r → Lists k d s base from m r f → Refines k' d' s' base' from' m' v (onto g' (onto g f))
+    r ≡ Unlisted j → v ≡ refused_of r → Lists k d s base from m r f → Refines k' d' s' base' from' m' v (onto g' (onto g f))
 unlisted_on g g' e i h = by (then_refused g' (then_refused g (list_refused e h))) (refuses_list e i)
 
 regroup : (t w : Text) → ((t ++ b "(") ++ w) ++ b ")" ≡ t ++ ((b "(" ++ w) ++ b ")")
@@ -81,14 +76,14 @@ regroup t w = ap (λ (x : Text). x ++ b ")") (append_assoc t (b "(") w) ∙ appe
 
 -- ---------------------------------------------------------------- answers
 
-abbrev Encoded : Text → Memory → Memory → Parser → Read → State → Type 0
+abbrev Encoded : Text → Memory → Memory → Progress → Read → State → Type 0
 Encoded s m m' p r σ = Refines (keep p.depth) p.depth s (window m p) (p.at + 1) m' r (local_encoding reading σ)
 
-module _ {s : Text} {m : Memory} {p : Parser} {σ : State} (h : Holds s m p σ) {text₁ store₁ ends₁ : Text} {r : Read} (f : Reads (reading ⟨name⟩) (keep (p.depth + 1)) (p.at + 1) s m (mem text₁ store₁ ends₁) p r) where
+module _ {s : Text} {m : Memory} {p : Progress} {σ : State} (h : Holds s m p σ) {text₁ : Text} {store₁ ends₁ : Halves} {r : Read} (f : Reads (reading ⟨name⟩) (keep (p.depth + 1)) (p.at + 1) s m (mem text₁ store₁ ends₁) p r) where
   pub fn_refused : {j : Refusal} → r ≡ Refused j → Encoded s m (mem text₁ store₁ ends₁) p r σ
   fn_refused e = by (encoding_is σ) (refused_on encoded_on e (f σ h))
 
-  module _ {named : Parser} {n : ℕ} (e : r ≡ read named n) where
+  module _ {named : Progress} {n : ℕ} (e : r ≡ read named n) where
     pub fn_got : Got (keep p.depth) p.depth s (window m p) (p.at + 1) (mem text₁ store₁ ends₁) named n (reading ⟨name⟩ σ)
     fn_got = got e (less (omega arith) (f σ h))
 
@@ -96,15 +91,15 @@ module _ {s : Text} {m : Memory} {p : Parser} {σ : State} (h : Holds s m p σ) 
     unfolding onto
     named_is = encoding_is σ ∙ ap (onto encoded_on) fn_got.is
 
-    pub fn_bare : {next : Parser} → starts (drop named.at s) (69 ∷ []) ≡ true → next ≡ moved_to named (named.at + 1) → Encoded s m (mem text₁ store₁ ends₁) p (read next n) σ
+    pub fn_bare : {next : Progress} → starts (drop named.at s) (69 ∷ []) ≡ true → next ≡ moved_to named (named.at + 1) → Encoded s m (mem text₁ store₁ ends₁) p (read next n) σ
     fn_bare {next} x z =
         let y = fn_got in
-        subst (λ (v : Parser). Encoded s m (mem text₁ store₁ ends₁) p (read v n) σ) (sym z)
+        subst (λ (v : Progress). Encoded s m (mem text₁ store₁ ends₁) p (read v n) σ) (sym z)
         (answers
         (named_is ∙ bare_is y.said s named.at y.state y.wrote.holds.rest x ∙ give_short y.said _ y.wrote.short)
         (wrote_moved (named.at + 1) y.wrote (omega arith) (omega (arith, y.wrote.more)) (omega (arith, starts_inside s named.at 69 x))))
 
-    module _ (x : starts (drop named.at s) (69 ∷ []) ≡ false) {text₂ : Text} {o : Parser} (u : Puts text₁ text₂ named o (b "(")) where
+    module _ (x : starts (drop named.at s) (69 ∷ []) ≡ false) {text₂ : Text} {o : Progress} (u : Puts text₁ text₂ named o (b "(")) where
       opened_is : local_encoding reading σ ≡ onto (closing fn_got.said) (onto listed_on (types fn_got.state))
       opened_is = named_is ∙ open_is fn_got.said s named.at fn_got.state fn_got.wrote.holds.rest x
 
@@ -117,11 +112,11 @@ module _ {s : Text} {m : Memory} {p : Parser} {σ : State} (h : Holds s m p σ) 
           let w = fn_got.wrote in
           stands_puts (stands w (omega arith) (omega (arith, h.deep))) u (omega (arith, length-append fn_got.said (b "("), w.size, w.short))
 
-      module _ {text₃ store₃ ends₃ : Text} {r₂ : Texts} (f₂ : ReadsItems Types s (mem text₂ store₁ ends₁) (mem text₃ store₃ ends₃) o r₂) where
-        pub fn_items_refused : {j : Refusal} {v : Read} → r₂ ≡ items_as.Refused j → v ≡ refused_of r₂ → Encoded s m (mem text₃ store₃ ends₃) p v σ
+      module _ {text₃ : Text} {store₃ ends₃ : Halves} {r₂ : Texts} (f₂ : ReadsItems Types s (mem text₂ store₁ ends₁) (mem text₃ store₃ ends₃) o r₂) where
+        pub fn_items_refused : {j : Refusal} {v : Read} → r₂ ≡ Unlisted j → v ≡ refused_of r₂ → Encoded s m (mem text₃ store₃ ends₃) p v σ
         fn_items_refused i g = by opened_is (unlisted_on listed_on (closing fn_got.said) i g (f₂ fn_got.state fn_items_ready))
 
-        module _ {last : Parser} {k count : ℕ} (i : r₂ ≡ items_as.Listed last k count) where
+        module _ {last : Progress} {k count : ℕ} (i : r₂ ≡ Listed last k count) where
           pub fn_listing : GotList (keep (o.depth + 1)) o.depth s (window (mem text₂ store₁ ends₁) o) o.at (mem text₃ store₃ ends₃) last k count (types fn_got.state)
           fn_listing = got_list i (f₂ fn_got.state fn_items_ready)
 
@@ -155,15 +150,15 @@ module _ {s : Text} {m : Memory} {p : Parser} {σ : State} (h : Holds s m p σ) 
                 ∙ ap (onto (λ _. give (fn_got.said ++ ((b "(" ++ words) ++ b ")")))) (need_here "E" s last.at fn_listing.state fn_listing.stands.holds.rest y)
                 ∙ ap (λ (z : Text). give z (moved (drop (last.at + 1) s) fn_listing.state)) (sym (regroup fn_got.said words))
 
-            pub fn_given : {text₄ : Text} {o₃ o₄ : Parser} {v : Read} → starts (drop last.at s) (69 ∷ []) ≡ true → o₃ ≡ moved_to last (last.at + 1)
+            pub fn_given : {text₄ : Text} {o₃ o₄ : Progress} {v : Read} → starts (drop last.at s) (69 ∷ []) ≡ true → o₃ ≡ moved_to last (last.at + 1)
                 → Puts text₃ text₄ o₃ o₄ (b ")") → v ≡ given_of o₄ (n + k + 2) → Encoded s m (mem text₄ store₃ ends₃) p v σ
             unfolding b
             fn_given {text₄} {o₃} {o₄} {v} y j q g =
                 let w = fn_got.wrote in
                 let z = fn_listing.stands in
                 let t : Text = fn_got.said in
-                let d : o.depth ≡ named.depth = ap (λ (a : Parser). a.depth) u.same in
-                let a : o.at ≡ named.at = ap (λ (a : Parser). a.at) u.same in
+                let d : o.depth ≡ named.depth = ap (λ (a : Progress). a.depth) u.same in
+                let a : o.at ≡ named.at = ap (λ (a : Progress). a.at) u.same in
                 let st = joined opened (short_enough z short) (omega (arith, d, w.level)) (omega (arith, length-append t (b "("), w.short)) in
                 let mv = stands_moved (last.at + 1) refl st (omega arith) (omega (arith, starts_inside s last.at 69 y)) in
                 subst (λ (c : Read). Encoded s m (mem text₄ store₃ ends₃) p c σ) (sym g)

@@ -15,22 +15,18 @@ use Rattle.grammar.specs.Laws.Places.{starts_byte}
 use Rattle.grammar.specs.Laws.Loops.{closed, parts_loop, up_to_E_is}
 use Rattle.parser.specs.Holds.{Memory, part, Holds, Stands, Refines, refuses, window, keep, given_of}
 use Rattle.parser.specs.Laws.Halves.{give_long}
-use Rattle.parser.specs.Laws.Holds.{by, with_cv, with_templated, holds_moved, holds_cv, holds_templated, given_refines, sooner}
+use Rattle.parser.specs.Laws.Holds.{by, with_cv, with_templated, holds_moved, holds_cv, holds_templated, given_refines}
 use Rattle.parser.specs.Leaves.{qualifies}
 use Rattle.grammar.specs.Laws.Runs.{every_at, need_here, need_not}
-use Rattle.grammar.specs.States.{peeked, moved_to, cv_to, templated_to}
-use Rattle.grammar.specs.declared.state.Parser.{Parser}
-use Rattle.grammar.specs.declared.state.Peeked.TheVariants as peeked_as
-use Rattle.grammar.specs.declared.state.Read.{Read}
+use Rattle.grammar.specs.States.{peeked, moved_to, cv_to, templated_to, Progress, Read}
+use Rattle.std.specs.Prelude as peeked_as
 use Rattle.reader.specs.declared.lists.Kind.TheVariants.{Types}
 use Rattle.reader.specs.declared.lists.Parts.{Parts}
-use Rattle.reader.specs.declared.lists.Prefix.{Prefix}
-use Rattle.reader.specs.declared.lists.Prefix.TheVariants as prefix_as
-use Rattle.reader.specs.Lists.{Alike, same_text, both_long, Parted, Parting, parted, unparted, ReadsPart, unprefixed_of}
+use Rattle.reader.specs.Lists.{Prefix, Reached, Unreached, Alike, same_text, both_long, Parted, Parting, parted, unparted, ReadsPart, unprefixed_of}
 use Rattle.reader.specs.Laws.Items.{peek_byte, peek_end, byte_within, while_stops, while_goes, ends_on, on_byte}
 use Rattle.reader.specs.Laws.Arrays.{run_front}
 use Rattle.reader.specs.Laws.Closes.{closed_no, closed_yes, then_ok, then_refused, behind_is}
-use Rattle.reader.specs.Laws.Standing.{same_sizes, stands_nothing, stands_kept, parted_kept, stands_least}
+use Rattle.reader.specs.Laws.Standing.{stands_nothing, stands_kept, parted_kept, stands_least}
 use Rattle.grammar.specs.Refusals.{refusal_number}
 use Rattle.grammar.specs.declared.refusal.Refusal.{Refusal}
 
@@ -89,7 +85,7 @@ module _ (ps : g.Parts) (σ : State) where
 
 -- ---------------------------------------------------------------- the parts so far
 
-pub record Prefixed (s : Text) (m₀ : Memory) (p₀ : Parser) (m : Memory) (p : Parser) (q : Parts) (σ₀ : State) : Type 0 where
+pub record Prefixed (s : Text) (m₀ : Memory) (p₀ : Progress) (m : Memory) (p : Progress) (q : Parts) (σ₀ : State) : Type 0 where
   pub parts : g.Parts
   pub state : State
   pub here : Parted (keep p₀.depth) p₀.depth s (window m₀ p₀) p₀.at m p q parts state
@@ -98,7 +94,7 @@ pub record Prefixed (s : Text) (m₀ : Memory) (p₀ : Parser) (m : Memory) (p :
 abbrev pub empty : Parts
 empty = record { n = 0; last = 0; count = 0; structor = false }
 
-pub prefixed_start : {s : Text} {m : Memory} {p : Parser} {σ : State} → Holds s m p σ → Prefixed s m p m p empty σ
+pub prefixed_start : {s : Text} {m : Memory} {p : Progress} {σ : State} → Holds s m p σ → Prefixed s m p m p empty σ
 unfolding join last choose
 prefixed_start {s} {m} {p} {σ} h = record {
   parts = no_parts;
@@ -115,19 +111,19 @@ prefixed_start {s} {m} {p} {σ} h = record {
   same = refl;
 }
 
-module _ {s : Text} {m₀ : Memory} {p₀ : Parser} {m : Memory} {p : Parser} {q : Parts} {σ₀ : State} (l : Prefixed s m₀ p₀ m p q σ₀) where
+module _ {s : Text} {m₀ : Memory} {p₀ : Progress} {m : Memory} {p : Progress} {q : Parts} {σ₀ : State} (l : Prefixed s m₀ p₀ m p q σ₀) where
   -- as a part's reading asks for it
   pub at_depth : Parted (keep p.depth) p.depth s (window m₀ p₀) p₀.at m p q l.parts l.state
   at_depth = subst (λ (d : ℕ). Parted (keep d) d s (window m₀ p₀) p₀.at m p q l.parts l.state) (sym l.here.stands.level) l.here
 
-  pub ends_here : peeked (drop p.at s) ≡ peeked_as.End → before_E l.state.rest ≡ false
+  pub ends_here : peeked (drop p.at s) ≡ peeked_as.None → before_E l.state.rest ≡ false
   ends_here e = ends_on Types (l.here.stands.holds.rest ∙ peek_end (drop p.at s) e)
 
-  pub byte_here : {c : ℕ} {r : Bool} → peeked (drop p.at s) ≡ peeked_as.Byte c → (c == 69) ≡ r → before_E l.state.rest ≡ not r
+  pub byte_here : {c : ℕ} {r : Bool} → peeked (drop p.at s) ≡ peeked_as.Some c → (c == 69) ≡ r → before_E l.state.rest ≡ not r
   byte_here {c} e f = on_byte Types c (l.here.stands.holds.rest ∙ peek_byte (drop p.at s) e) f
 
   -- no E is left
-  pub prefixed_4 : (x : Text) → peeked (drop p.at s) ≡ peeked_as.End → onto (named x) (onto closed (prefixes no_parts σ₀)) ≡ refused 4
+  pub prefixed_4 : (x : Text) → peeked (drop p.at s) ≡ peeked_as.None → onto (named x) (onto closed (prefixes no_parts σ₀)) ≡ refused 4
   unfolding onto starts
   prefixed_4 x e =
       ap (onto (named x)) (closed_no {f = prefixes no_parts σ₀} {ts = l.parts} {τ = l.state} (l.same ∙ prefixes_stop l.parts l.state (ends_here e))
@@ -149,21 +145,21 @@ unfolding onto set_cv set_templated if◌then◌otherwise◌
 named_is x ps τ true e = rw e
 named_is x ps τ false e = rw e
 
-abbrev last_parser : Bool → ℕ → ℕ → Parser → Parser
+abbrev last_parser : Bool → ℕ → ℕ → Progress → Progress
 last_parser true from to p = templated_to (cv_to (moved_to p (p.at + 1)) from to) false
 last_parser false from to p = cv_to (moved_to p (p.at + 1)) from to
 
-last_holds : (q : Bool) {s : Text} {m : Memory} {p : Parser} {σ : State} (from to : ℕ) → Holds s m p σ → p.at < length s → from ≤ to → to ≤ length s → Holds s m (last_parser q from to p) (last_state q (part s from to) (moved (drop (p.at + 1) s) σ))
+last_holds : (q : Bool) {s : Text} {m : Memory} {p : Progress} {σ : State} (from to : ℕ) → Holds s m p σ → p.at < length s → from ≤ to → to ≤ length s → Holds s m (last_parser q from to p) (last_state q (part s from to) (moved (drop (p.at + 1) s) σ))
 last_holds true {p = p} from to h l i j = holds_templated (holds_cv (holds_moved h (p.at + 1) (omega arith)) from to i j) false
 last_holds false {p = p} from to h l i j = holds_cv (holds_moved h (p.at + 1) (omega arith)) from to i j
 
-last_top : (q : Bool) (from to : ℕ) (p : Parser) → ((last_parser q from to p).top ≡ p.top) × (((last_parser q from to p).depth ≡ p.depth) × ((last_parser q from to p).at ≡ p.at + 1))
+last_top : (q : Bool) (from to : ℕ) (p : Progress) → ((last_parser q from to p).top ≡ p.top) × (((last_parser q from to p).depth ≡ p.depth) × ((last_parser q from to p).at ≡ p.at + 1))
 last_top true from to p = (refl, (refl, refl))
 last_top false from to p = (refl, (refl, refl))
 
-module _ {s : Text} {m₀ : Memory} {p₀ : Parser} {m : Memory} {p : Parser} {q : Parts} {σ₀ : State} (l : Prefixed s m₀ p₀ m p q σ₀) where
+module _ {s : Text} {m₀ : Memory} {p₀ : Progress} {m : Memory} {p : Progress} {q : Parts} {σ₀ : State} (l : Prefixed s m₀ p₀ m p q σ₀) where
   pub prefixed_E :
-      {r : Read} {z : Bool} {c : ℕ} (from to : ℕ) → from ≤ to → to ≤ length s → peeked (drop p.at s) ≡ peeked_as.Byte c → c ≡ 69 → q.structor ≡ z →
+      {r : Read} {z : Bool} {c : ℕ} (from to : ℕ) → from ≤ to → to ≤ length s → peeked (drop p.at s) ≡ peeked_as.Some c → c ≡ 69 → q.structor ≡ z →
       r ≡ given_of (last_parser z from to p) q.n → Refines (keep p₀.depth) p₀.depth s (window m₀ p₀) p₀.at m r (onto (named (part s from to)) (onto closed (prefixes no_parts σ₀)))
   unfolding onto
   prefixed_E {r} {z} {c} from to i j e f w g =
@@ -183,43 +179,43 @@ module _ {s : Text} {m₀ : Memory} {p₀ : Parser} {m : Memory} {p : Parser} {q
 
 -- ---------------------------------------------------------------- one part more
 
-part_refused : {k d : ℕ} {s base : Text} {from : ℕ} {m : Memory} {r : Prefix} {f : Result g.Parts} {j : Refusal} → r ≡ prefix_as.Refused j → Parting k d s base from m r f → f ≡ refused (refusal_number j)
+part_refused : {k d : ℕ} {s base : Text} {from : ℕ} {m : Memory} {r : Prefix} {f : Result g.Parts} {j : Refusal} → r ≡ Unreached j → Parting k d s base from m r f → f ≡ refused (refusal_number j)
 part_refused {k} {d} {s} {base} {from} {m} {r} {f} {j} e h = told (subst (λ (x : Prefix). Parting k d s base from m x f) e h)
   where
-    told : {f : Result g.Parts} → Parting k d s base from m (prefix_as.Refused j) f → f ≡ refused (refusal_number j)
+    told : {f : Result g.Parts} → Parting k d s base from m (Unreached j) f → f ≡ refused (refusal_number j)
     told unparted = refl
 
-pub record GotParts (k d : ℕ) (s base : Text) (from : ℕ) (m : Memory) (p : Parser) (q : Parts) (f : Result g.Parts) : Type 0 where
+pub record GotParts (k d : ℕ) (s base : Text) (from : ℕ) (m : Memory) (p : Progress) (q : Parts) (f : Result g.Parts) : Type 0 where
   pub parts : g.Parts
   pub state : State
   pub here : Parted k d s base from m p q parts state
   pub is : f ≡ ok parts state
 
 got_parts :
-    {k d : ℕ} {s base : Text} {from : ℕ} {m : Memory} {r : Prefix} {f : Result g.Parts} {p : Parser} {q : Parts} →
-    r ≡ prefix_as.Parts p q → Parting k d s base from m r f → GotParts k d s base from m p q f
+    {k d : ℕ} {s base : Text} {from : ℕ} {m : Memory} {r : Prefix} {f : Result g.Parts} {p : Progress} {q : Parts} →
+    r ≡ Reached p q → Parting k d s base from m r f → GotParts k d s base from m p q f
 got_parts {k} {d} {s} {base} {from} {m} {r} {f} {p} {q} e h = told (subst (λ (x : Prefix). Parting k d s base from m x f) e h)
   where
-    told : {f : Result g.Parts} → Parting k d s base from m (prefix_as.Parts p q) f → GotParts k d s base from m p q f
+    told : {f : Result g.Parts} → Parting k d s base from m (Reached p q) f → GotParts k d s base from m p q f
     told (parted {ps = ps} {σ = σ} w) = record { parts = ps; state = σ; here = w; is = refl }
 
-abbrev pub ReadsNext : ℕ → Text → Memory → Memory → Parser → Parts → Prefix → Type 0
+abbrev pub ReadsNext : ℕ → Text → Memory → Memory → Progress → Parts → Prefix → Type 0
 ReadsNext c s m m' p q r = (t : List ℕ) → drop p.at s ≡ c ∷ t → ReadsPart (g.prefix reading) s m m' p q r
 
-module _ {s : Text} {m₀ : Memory} {p₀ : Parser} {m m' : Memory} {p : Parser} {q : Parts} {σ₀ : State} {c : ℕ} {r : Prefix} (l : Prefixed s m₀ p₀ m p q σ₀)
-    (e : peeked (drop p.at s) ≡ peeked_as.Byte c) (n : c ≡ 69 → ⊥) (x : ReadsNext c s m m' p q r) where
+module _ {s : Text} {m₀ : Memory} {p₀ : Progress} {m m' : Memory} {p : Progress} {q : Parts} {σ₀ : State} {c : ℕ} {r : Prefix} (l : Prefixed s m₀ p₀ m p q σ₀)
+    (e : peeked (drop p.at s) ≡ peeked_as.Some c) (n : c ≡ 69 → ⊥) (x : ReadsNext c s m m' p q r) where
   told_next : Parting (keep p.depth) p.depth s (window m₀ p₀) (p.at + 1) m' r (g.prefix reading l.parts l.state)
   told_next = x (drop 1 (drop p.at s)) (peek_byte (drop p.at s) e) (window m₀ p₀) p₀.at l.parts l.state (at_depth l)
 
   pub prefixed_refuses :
-      {k d : ℕ} {s' base : Text} {from : ℕ} {m'' : Memory} {v : Read} {j : Refusal} (y : Text) → r ≡ prefix_as.Refused j → v ≡ unprefixed_of r →
+      {k d : ℕ} {s' base : Text} {from : ℕ} {m'' : Memory} {v : Read} {j : Refusal} (y : Text) → r ≡ Unreached j → v ≡ unprefixed_of r →
       Refines k d s' base from m'' v (onto (named y) (onto closed (prefixes no_parts σ₀)))
   unfolding onto
   prefixed_refuses {k} {d} {s'} {base} {from} {m''} {v} {j} y f g =
       by (ap (onto (named y)) (then_refused closed (l.same ∙ prefixes_refuse l.parts l.state (byte_here l e (ne_eqb c 69 n)) (part_refused f told_next))))
       (subst (λ (w : Read). Refines k d s' base from m'' w (refused (refusal_number j))) (sym (g ∙ ap unprefixed_of f)) refuses)
 
-  pub prefixed_more : {p' : Parser} {q' : Parts} → r ≡ prefix_as.Parts p' q' → Prefixed s m₀ p₀ m' p' q' σ₀
+  pub prefixed_more : {p' : Progress} {q' : Parts} → r ≡ Reached p' q' → Prefixed s m₀ p₀ m' p' q' σ₀
   prefixed_more {p'} {q'} f =
       let w = got_parts f told_next in
       let d : p.depth ≡ p₀.depth = l.here.stands.level in
@@ -232,41 +228,25 @@ module _ {s : Text} {m₀ : Memory} {p₀ : Parser} {m m' : Memory} {p : Parser}
         same = l.same ∙ prefixes_go l.parts l.state (byte_here l e (ne_eqb c 69 n)) w.is;
       }
 
-  pub further : {p' : Parser} {q' : Parts} → r ≡ prefix_as.Parts p' q' → p.at + 1 ≤ p'.at
+  pub further : {p' : Progress} {q' : Parts} → r ≡ Reached p' q' → p.at + 1 ≤ p'.at
   further f = (got_parts f told_next).here.stands.more
 
 -- ---------------------------------------------------------------- the loop so far
 
-pub record Prefixing (s : Text) (m₀ : Memory) (p₀ : Parser) (m : Memory) (p : Parser) (q : Parts) : Type 0 where
-  pub text_same : length m.text ≡ length m₀.text
-  pub store_same : length m.store ≡ length m₀.store
-  pub ends_same : length m.ends ≡ length m₀.ends
+pub record Prefixing (s : Text) (m₀ : Memory) (p₀ : Progress) (m : Memory) (p : Progress) (q : Parts) : Type 0 where
   pub so_far : (σ₀ : State) → Holds s m₀ p₀ σ₀ → Prefixed s m₀ p₀ m p q σ₀
 
-pub prefixing_start : {s : Text} {m : Memory} {p : Parser} → Prefixing s m p m p empty
-prefixing_start = record { text_same = refl; store_same = refl; ends_same = refl; so_far = λ σ₀ h. prefixed_start h }
+pub prefixing_start : {s : Text} {m : Memory} {p : Progress} → Prefixing s m p m p empty
+prefixing_start = record { so_far = λ σ₀ h. prefixed_start h }
 
 pub prefixing_more :
-    {s : Text} {m₀ : Memory} {p₀ : Parser} {m m' : Memory} {p p' : Parser} {q q' : Parts} {σ : State} {c : ℕ} {r : Prefix} →
-    Prefixing s m₀ p₀ m p q → Holds s m₀ p₀ σ → peeked (drop p.at s) ≡ peeked_as.Byte c → (c ≢ 69) → ReadsNext c s m m' p q r → r ≡ prefix_as.Parts p' q' →
+    {s : Text} {m₀ : Memory} {p₀ : Progress} {m m' : Memory} {p p' : Progress} {q q' : Parts} {c : ℕ} {r : Prefix} →
+    Prefixing s m₀ p₀ m p q → peeked (drop p.at s) ≡ peeked_as.Some c → (c ≢ 69) → ReadsNext c s m m' p q r → r ≡ Reached p' q' →
     Prefixing s m₀ p₀ m' p' q'
-prefixing_more {σ = σ} i h e n x f =
-    let z = same_sizes h (prefixed_more (i.so_far σ h) e n x f).here.stands.holds in
-    record {
-      text_same = z.0;
-      store_same = z.1.0;
-      ends_same = z.1.1;
-      so_far = λ σ₀ h₀. prefixed_more (i.so_far σ₀ h₀) e n x f;
-    }
+prefixing_more i e n x f = record { so_far = λ σ₀ h₀. prefixed_more (i.so_far σ₀ h₀) e n x f }
 
 -- what one part more asks for
 pub ready_for :
-    {s : Text} {m₀ : Memory} {p₀ : Parser} {m : Memory} {p : Parser} {q : Parts} {σ₀ : State} → Prefixed s m₀ p₀ m p q σ₀ →
+    {s : Text} {m₀ : Memory} {p₀ : Progress} {m : Memory} {p : Progress} {q : Parts} {σ₀ : State} → Prefixed s m₀ p₀ m p q σ₀ →
     (q.n ≤ most_length) × ((q.last ≤ q.n) × (min q.n most_entry_bytes ≤ p.top))
 ready_for l = (omega (arith, l.here.stands.size), (l.here.within, stands_least l.here.stands))
-
--- the answer behind N and the qualifiers is the whole answer
-pub from_start :
-    {s : Text} (m : Memory) (p : Parser) {m' : Memory} {p₀ : Parser} {to : ℕ} {r : Read} {f : Result Text} → p₀ ≡ moved_to p to → p.at + 1 ≤ to →
-    Refines (keep p₀.depth) p₀.depth s (window m p₀) p₀.at m' r f → Refines (keep p.depth) p.depth s (window m p) (p.at + 1) m' r f
-from_start {s} m p {m'} {p₀} {to} {r} {f} e l h = sooner l (subst (λ (x : Parser). Refines (keep x.depth) x.depth s (window m x) x.at m' r f) e h)

@@ -13,31 +13,19 @@ use Rattle.grammar.specs.Laws.Fuel.{reading_is}
 use Rattle.grammar.specs.Laws.Steps.{entered_in, entered_8}
 use Rattle.grammar.specs.Laws.Agree.{moved}
 use Rattle.store.specs.Laws.Tails.{newest_is, top_size}
-use Rattle.grammar.specs.declared.state.Parser.{Parser}
-use Rattle.grammar.specs.declared.state.Read.{Read}
-use Rattle.grammar.specs.declared.state.Read.TheVariants.{Text as read, Refused}
-use Rattle.grammar.specs.States.{moved_to, deeper, at_depth}
-use Rattle.grammar.specs.States.{entered as entered_from}
-use Rattle.grammar.specs.Laws.States.{went_in, stayed_out}
-use Rattle.parser.specs.Holds.{Memory, window, Holds, Ready, Wrote, Refines, refuses, Reads, keep}
+use Rattle.grammar.specs.States.{Progress, Read, read, Refused, moved_to, deeper, at_depth, entered as entered_from}
+use Rattle.grammar.specs.Laws.States.{stayed_out}
+use Rattle.parser.specs.Holds.{Memory, window, Holds, Wrote, Refines, refuses, Reads, keep}
 use Rattle.reader.specs.Laws.Standing.{wrote_kept}
-use Rattle.parser.specs.Laws.Holds.{at_level, by_state, holds_moved, holds_entered, holds_depth, by, answers, Got, got, refused_on}
+use Rattle.parser.specs.Laws.Holds.{at_level, holds_moved, holds_entered, holds_depth, by, answers, Got, got, refused_on}
 use Rattle.grammar.specs.declared.refusal.Refusal.{Refusal}
 
-pub at_of : {p q : Parser} → q ≡ p → q.at ≡ p.at
-at_of e = ap (λ (x : Parser). x.at) e
-
 -- ---------------------------------------------------------------- one level down
-
-pub ready_entered : {s : Text} {m : Memory} {p q : Parser} {r : Read} {n : ℕ} → r ≡ entered_from p → r ≡ read q n → Ready s m p → Ready s m q
-ready_entered {p = p} e f h =
-    let i = went_in p e f in
-    (at_level (h.0.depth + 1) h.0, by_state i.1 (holds_entered h.1 i.0))
 
 abbrev leaving : ℕ → Text → Reader Text
 leaving d t u = ok t (at_level d u)
 
-module _ (k : Production) (f : Reader Text) (opens : (σ : State) → g.production reading k σ ≡ entered f σ) {s : Text} {m : Memory} {p : Parser} where
+module _ (k : Production) (f : Reader Text) (opens : (σ : State) → g.production reading k σ ≡ entered f σ) {s : Text} {m : Memory} {p : Progress} where
   is_in : {σ : State} → Holds s m p σ → p.depth < most_open → reading k σ ≡ onto (leaving p.depth) (f (at_level (σ.depth + 1) σ))
   is_in {σ} h l =
       reading_is k σ
@@ -51,19 +39,19 @@ module _ (k : Production) (f : Reader Text) (opens : (σ : State) → g.producti
       subst (λ (x : Read). Reads (reading k) (keep (p.depth + 1)) (p.at + 1) s m m' p x) (sym o.1)
       (λ σ h. by (reading_is k σ ∙ opens σ ∙ entered_8 f σ (omega (arith, h.depth, o.0))) refuses)
 
-  module _ {m' : Memory} {q : Parser} {r : Read} (l : p.depth < most_open) (e : q ≡ deeper p) (h : Reads f (keep q.depth) (q.at + 1) s m m' q r) where
+  module _ {m' : Memory} {q : Progress} {r : Read} (l : p.depth < most_open) (e : q ≡ deeper p) (h : Reads f (keep q.depth) (q.at + 1) s m m' q r) where
     inner : Reads f (keep (p.depth + 1)) (p.at + 1) s m m' (deeper p) r
-    inner = subst (λ (x : Parser). Reads f (keep x.depth) (x.at + 1) s m m' x r) e h
+    inner = subst (λ (x : Progress). Reads f (keep x.depth) (x.at + 1) s m m' x r) e h
 
     pub still_refused : {j : Refusal} → r ≡ Refused j → Reads (reading k) (keep (p.depth + 1)) (p.at + 1) s m m' p r
     still_refused i σ v = by (is_in v l) (refused_on (leaving p.depth) i (inner _ (holds_entered v l)))
 
-    pub left_again : {x y : Parser} {n : ℕ} → r ≡ read x n → y ≡ at_depth x p.depth → Reads (reading k) (keep (p.depth + 1)) (p.at + 1) s m m' p (read y n)
+    pub left_again : {x y : Progress} {n : ℕ} → r ≡ read x n → y ≡ at_depth x p.depth → Reads (reading k) (keep (p.depth + 1)) (p.at + 1) s m m' p (read y n)
     unfolding onto
     left_again {x} {y} {n} i z σ v =
         let w = got i (inner _ (holds_entered v l)) in
         let u = w.wrote in
-        subst (λ (o : Parser). Refines (keep (p.depth + 1)) p.depth s (window m p) (p.at + 1) m' (read o n) (reading k σ)) (sym z)
+        subst (λ (o : Progress). Refines (keep (p.depth + 1)) p.depth s (window m p) (p.at + 1) m' (read o n) (reading k σ)) (sym z)
         (answers (is_in v l ∙ ap (onto (leaving p.depth)) w.is) (wrote_kept u (omega arith) (holds_depth u.holds p.depth v.deep) refl refl u.more))
 
 pub type_opens : (σ : State) → g.production reading ⟨type⟩ σ ≡ entered (g.type_inner reading) σ
@@ -76,7 +64,7 @@ name_opens σ = refl
 
 -- ---------------------------------------------------------------- a text, and what goes on with it
 
-module _ {k d : ℕ} {s base : Text} {from : ℕ} {m : Memory} {p : Parser} {n : ℕ} where
+module _ {k d : ℕ} {s base : Text} {from : ℕ} {m : Memory} {p : Progress} {n : ℕ} where
   pub on_got : {f : Result Text} (c : Text → Reader Text) (w : Got k d s base from m p n f) → onto c f ≡ c w.said w.state
   unfolding onto
   on_got c w = ap (onto c) w.is
@@ -134,8 +122,8 @@ module _ (r : Reader Text) (f : Text → Reader Text) (is : (σ : State) → r �
 -- ---------------------------------------------------------------- calls from a state that was moved
 
 pub call_moved :
-    {f : Reader Text} (k : ℕ → ℕ) {at : ℕ} {s : Text} {m m' : Memory} {p q : Parser} {r : Read} {σ : State} →
+    {f : Reader Text} (k : ℕ → ℕ) {at : ℕ} {s : Text} {m m' : Memory} {p q : Progress} {r : Read} {σ : State} →
     q ≡ moved_to p at → Reads f (k q.depth) (q.at + 1) s m m' q r → Holds s m p σ → at ≤ length s →
     Refines (k p.depth) p.depth s (window m p) (at + 1) m' r (f (moved (drop at s) σ))
 call_moved {f} k {at} {s} {m} {m'} {p} {q} {r} {σ} e h g l =
-    subst (λ (x : Parser). Reads f (k x.depth) (x.at + 1) s m m' x r) e h (moved (drop at s) σ) (holds_moved g at l)
+    subst (λ (x : Progress). Reads f (k x.depth) (x.at + 1) s m m' x r) e h (moved (drop at s) σ) (holds_moved g at l)

@@ -16,41 +16,19 @@ use Rattle.grammar.specs.Laws.Fuel.{reading_is}
 use Rattle.grammar.specs.Laws.Finds.{all_of, by_word}
 use Rattle.grammar.specs.Laws.Steps.{by_code_none}
 use Rattle.grammar.specs.Laws.NameSteps.{unqualified_L, unqualified_U, unqualified_end, unqualified_digit, unqualified_operator}
-use Rattle.grammar.specs.declared.state.Parser.{Parser}
-use Rattle.grammar.specs.declared.state.Read.{Read}
-use Rattle.grammar.specs.declared.state.Read.TheVariants.{Text as read, Refused}
-use Rattle.grammar.specs.declared.state.Peeked.{Peeked}
-use Rattle.grammar.specs.declared.state.Peeked.TheVariants as peeked_as
-use Rattle.grammar.specs.States.{moved_to, templated_to, peeked}
-use Rattle.parser.specs.Holds.{Memory, mem, window, Holds, Refines, refuses, Reads, Puts, keep, given_of}
-use Rattle.grammar.specs.Laws.States.{Past}
+use Rattle.grammar.specs.States.{Progress, Read, read, Refused, moved_to, templated_to, peeked}
+use Rattle.std.specs.Prelude as peeked_as
+use Rattle.parser.specs.Holds.{Halves, Memory, mem, window, Holds, Refines, refuses, Reads, Puts, keep, given_of}
 use Rattle.parser.specs.Laws.Holds.{by, by_state, got, refused_on, less, sooner, holds_moved}
 use Rattle.parser.specs.Laws.Adds.{puts_from, reads_moved}
 use Rattle.grammar.specs.Laws.Runs.{case_here, case_not, past_is, past_stops}
 use Rattle.grammar.specs.Laws.Places.{rest_some, rest_none}
 use Rattle.parser.specs.Laws.Halves.{wrote_one}
-use Rattle.parser.specs.Laws.Leaves.{rest_two}
 use Rattle.reader.specs.Laws.Opens.{call_moved}
 use Rattle.reader.specs.Laws.Standing.{stands_templated, given_as, fewer, word_holds, word_joined}
 use Rattle.reader.specs.Laws.Items.{peek_end, byte_there, byte_within}
 use Rattle.grammar.specs.declared.refusal.Refusal.{Refusal}
 use Rattle.grammar.specs.declared.refusal.Refusal.TheVariants.{NoRule}
-
--- ---------------------------------------------------------------- two bytes
-
--- a byte behind a byte
-module _ {s : Text} {q r : Parser} {x to : ℕ} (e : q.at ≡ to) (h : Past s q x r) where
-  behind_at : r.at ≡ to + 1
-  behind_at = ap (λ (z : Parser). z.at) h.next ∙ ap (λ (i : ℕ). i + 1) e
-
-  pub two_behind : {y : ℕ} {n : Parser} → Past s r y n → (to + 1 < length s) × (n ≡ moved_to q (to + 2))
-  two_behind {n = n} k = (
-    omega (arith, k.inside, behind_at),
-    k.next ∙ ap (λ (z : Parser). moved_to z (z.at + 1)) h.next ∙ ap (λ (i : ℕ). moved_to q i) {x = q.at + 1 + 1} {y = to + 2} (omega (arith, e)),
-  )
-
-  pub none_behind : drop r.at s ≡ [] → length s ≤ to + 1
-  none_behind k = omega (arith, length-drop r.at s, ap length k, behind_at)
 
 -- ---------------------------------------------------------------- the definition
 
@@ -95,7 +73,7 @@ unfolding production operator_name
 operator_is σ = reading_is ⟨operator-name⟩ σ
 
 two_bytes : (s : Text) (i : ℕ) → i + 1 < length s → drop i s ≡ slice_index s i ∷ slice_index s (i + 1) ∷ drop (i + 2) s
-two_bytes s i h = rest_two s i h ∙ ap (λ (n : ℕ). slice_index s i ∷ slice_index s (i + 1) ∷ drop n s) {x = i + 1 + 1} {y = i + 2} (omega arith)
+two_bytes s i h = rest_some s i (omega arith) ∙ ap (λ (t : Text). slice_index s i ∷ t) (rest_some s (i + 1) h) ∙ ap (λ (n : ℕ). slice_index s i ∷ slice_index s (i + 1) ∷ drop n s) {x = i + 1 + 1} {y = i + 2} (omega arith)
 
 module _ (s : Text) (at : ℕ) (σ : State) (e : σ.rest ≡ drop at s) where
   pub operator_short : length s ≤ at + 1 → reading ⟨operator-name⟩ σ ≡ refused 4
@@ -144,14 +122,8 @@ module _ (s : Text) (at : ℕ) (σ : State) (e : σ.rest ≡ drop at s) where
 
 -- ---------------------------------------------------------------- answers
 
-module _ {s text store ends : Text} {p q : Parser} {σ : State} (h : Holds s (mem text store ends) p σ) (l : p.at + 1 < length s) (m : q ≡ moved_to p (p.at + 2)) where
-  pub oper_word : {text' t : Text} {r : Read} → some t ≡ word_for operators (slice_index s p.at ∷ slice_index s (p.at + 1) ∷ [])
-      → Reads (give t) kept_bytes q.at s (mem text store ends) (mem text' store ends) q r
-      → Refines (keep p.depth) p.depth s (window (mem text store ends) p) (p.at + 1) (mem text' store ends) r (reading ⟨operator-name⟩ σ)
-  oper_word e g =
-      less (omega (arith, h.deep)) (by (operator_word s p.at σ h.rest l _ (sym e)) (reads_moved m g h (omega arith) (omega arith)))
-
-  module _ {text₁ : Text} {q₁ : Parser} (u : Puts text text₁ q q₁ (b "operator ")) where
+module _ {s text : Text} {store ends : Halves} {p q : Progress} {σ : State} (h : Holds s (mem text store ends) p σ) (l : p.at + 1 < length s) (m : q ≡ moved_to p (p.at + 2)) where
+  module _ {text₁ : Text} {q₁ : Progress} (u : Puts text text₁ q q₁ (b "operator ")) where
     pub oper_holds : Holds s (mem text₁ store ends) q₁ (moved (drop (p.at + 2) s) σ)
     oper_holds = word_holds m u h (omega arith)
 
@@ -160,7 +132,7 @@ module _ {s text store ends : Text} {p q : Parser} {σ : State} (h : Holds s (me
       pub oper_refused : {j : Refusal} → r ≡ Refused j → Refines (keep p.depth) p.depth s (window (mem text store ends) p) (p.at + 1) m' r (reading ⟨operator-name⟩ σ)
       oper_refused g = by (operator_cv s p.at σ h.rest l (sym e) a c) (refused_on typed_on g (f _ oper_holds))
 
-      pub oper_typed : {next q₂ : Parser} {n : ℕ} {v : Read} → r ≡ read next n → q₂ ≡ templated_to next false → v ≡ given_of q₂ (n + 9)
+      pub oper_typed : {next q₂ : Progress} {n : ℕ} {v : Read} → r ≡ read next n → q₂ ≡ templated_to next false → v ≡ given_of q₂ (n + 9)
           → Refines (keep p.depth) p.depth s (window (mem text store ends) p) (p.at + 1) m' v (reading ⟨operator-name⟩ σ)
       unfolding onto set_templated b
       oper_typed g i j =
@@ -170,14 +142,14 @@ module _ {s text store ends : Text} {p q : Parser} {σ : State} (h : Holds s (me
 
 -- ---------------------------------------------------------------- bytes that were peeked at
 
-module _ (s : Text) (p : Parser) {q : Parser} {to : ℕ} {r : Peeked} (m : q ≡ moved_to p to) (k : r ≡ peeked (drop q.at s)) where
+module _ (s : Text) (p : Progress) {q : Progress} {to : ℕ} {r : peeked_as.Option ℕ} (m : q ≡ moved_to p to) (k : r ≡ peeked (drop q.at s)) where
   peeked_at : r ≡ peeked (drop to s)
-  peeked_at = k ∙ ap (λ (x : Parser). peeked (drop x.at s)) m
+  peeked_at = k ∙ ap (λ (x : Progress). peeked (drop x.at s)) m
 
-  pub byte_at : {c : ℕ} → r ≡ peeked_as.Byte c → drop to s ≡ c ∷ drop (to + 1) s
+  pub byte_at : {c : ℕ} → r ≡ peeked_as.Some c → drop to s ≡ c ∷ drop (to + 1) s
   byte_at e = byte_there s to (sym peeked_at ∙ e)
 
-  pub end_at : r ≡ peeked_as.End → drop to s ≡ []
+  pub end_at : r ≡ peeked_as.None → drop to s ≡ []
   end_at e = peek_end (drop to s) (sym peeked_at ∙ e)
 
 -- ---------------------------------------------------------------- unqualified names
@@ -197,10 +169,10 @@ skip_L (x ∷ t) σ = skip_one (x == 76) x t σ refl (skip_L t σ)
 pub unqualified_past : (σ : State) → reading ⟨unqualified-name⟩ σ ≡ reading ⟨unqualified-name⟩ (moved (past (λ x. nat_eq x 76) σ.rest) σ)
 unqualified_past σ = skip_L σ.rest σ
 
-abbrev Unqualified : Text → Memory → Memory → Parser → Read → State → Type 0
+abbrev Unqualified : Text → Memory → Memory → Progress → Read → State → Type 0
 Unqualified s m m' p r σ = Refines (keep p.depth) p.depth s (window m p) (p.at + 1) m' r (reading ⟨unqualified-name⟩ σ)
 
-module _ {s text store ends : Text} {p q : Parser} {σ : State} {to : ℕ} (h : Holds s (mem text store ends) p σ)
+module _ {s text : Text} {store ends : Halves} {p q : Progress} {σ : State} {to : ℕ} (h : Holds s (mem text store ends) p σ)
     (n : (to ≡ p.at + length (run (λ x. nat_eq x 76) (drop p.at s))) × (to ≤ length s)) (m : q ≡ moved_to p to) where
   past_to : past (λ x. nat_eq x 76) (drop p.at s) ≡ drop to s
   past_to = past_is (λ x. nat_eq x 76) s p.at ∙ ap (λ (i : ℕ). drop i s) (sym n.0)
@@ -211,11 +183,11 @@ module _ {s text store ends : Text} {p q : Parser} {σ : State} {to : ℕ} (h : 
   pub unq_ready : Holds s (mem text store ends) q (moved (drop to s) σ)
   unq_ready = by_state m (holds_moved h to n.1)
 
-  module _ {r : Peeked} (k : r ≡ peeked (drop q.at s)) where
-    pub unq_end : {m' : Memory} → r ≡ peeked_as.End → Unqualified s (mem text store ends) m' p (Refused NoRule) σ
+  module _ {r : peeked_as.Option ℕ} (k : r ≡ peeked (drop q.at s)) where
+    pub unq_end : {m' : Memory} → r ≡ peeked_as.None → Unqualified s (mem text store ends) m' p (Refused NoRule) σ
     unq_end e = by (unq_is (end_at s p m k e) ∙ unqualified_end σ) refuses
 
-    module _ {c : ℕ} (e : r ≡ peeked_as.Byte c) where
+    module _ {c : ℕ} (e : r ≡ peeked_as.Some c) where
       here : drop to s ≡ c ∷ drop (to + 1) s
       here = byte_at s p m k e
 
@@ -235,31 +207,31 @@ module _ {s text store ends : Text} {p q : Parser} {σ : State} {to : ℕ} (h : 
       behind_two : to + 1 < length s → drop (to + 1) s ≡ slice_index s (to + 1) ∷ drop (to + 2) s
       behind_two l = rest_some s (to + 1) l ∙ ap (λ (i : ℕ). slice_index s (to + 1) ∷ drop i s) {x = to + 1 + 1} {y = to + 2} (omega arith)
 
-      module _ {q₁ : Parser} (l : to + 1 < length s) (i : q₁ ≡ moved_to q (to + 2)) where
+      module _ {q₁ : Progress} (l : to + 1 < length s) (i : q₁ ≡ moved_to q (to + 2)) where
         from_two : q₁ ≡ moved_to p (to + 2)
-        from_two = i ∙ ap (λ (z : Parser). moved_to z (to + 2)) m
+        from_two = i ∙ ap (λ (z : Progress). moved_to z (to + 2)) m
 
         pub unq_structor :
-            {text' : Text} {q₂ : Parser} {t : Text} (y : ℕ) → length t ≡ 6 → ((u : Text) (x : ℕ) → reading ⟨unqualified-name⟩ (moved (y ∷ x ∷ u) σ) ≡ give t (moved u σ)) →
+            {text' : Text} {q₂ : Progress} {t : Text} (y : ℕ) → length t ≡ 6 → ((u : Text) (x : ℕ) → reading ⟨unqualified-name⟩ (moved (y ∷ x ∷ u) σ) ≡ give t (moved u σ)) →
             c ≡ y → Puts text text' q₁ q₂ t → Unqualified s (mem text store ends) (mem text' store ends) p (read q₂ 6) σ
         unq_structor y z g f u =
             less (omega (arith, h.deep))
             (by (as_byte y f ∙ ap (λ (t : Text). reading ⟨unqualified-name⟩ (moved (y ∷ t) σ)) (behind_two l) ∙ g (drop (to + 2) s) (slice_index s (to + 1)))
             (wrote_one (holds_moved h (to + 2) (omega arith)) (puts_from from_two u) z (omega arith) (omega (arith, n.0))))
 
-      pub unq_U : {text' : Text} {q₁ : Parser} {v : Read} → c ≡ 85 → q₁ ≡ moved_to q (to + 1) → Reads unnamed_type_name kept_bytes q₁.at s (mem text store ends) (mem text' store ends) q₁ v
-          → Unqualified s (mem text store ends) (mem text' store ends) p v σ
+      pub unq_U : {m' : Memory} {q₁ : Progress} {v : Read} → c ≡ 85 → q₁ ≡ moved_to q (to + 1) → Reads unnamed_type_name kept_bytes q₁.at s (mem text store ends) m' q₁ v
+          → Unqualified s (mem text store ends) m' p v σ
       unq_U f i g =
           less (omega (arith, h.deep))
-          (by (as_byte 85 f ∙ unqualified_U (drop (to + 1) s) σ) (reads_moved (i ∙ ap (λ (z : Parser). moved_to z (to + 1)) m) g h (omega (arith, unq_inside)) (omega (arith, n.0))))
+          (by (as_byte 85 f ∙ unqualified_U (drop (to + 1) s) σ) (reads_moved (i ∙ ap (λ (z : Progress). moved_to z (to + 1)) m) g h (omega (arith, unq_inside)) (omega (arith, n.0))))
 
       none_of : (c ≢ 67) → (c ≢ 68) → (c ≢ 85) → holds c (b "CDUL") ≡ false
       unfolding holds b
       none_of x y z = rw (ne_eqb c 67 x, ne_eqb c 68 y, ne_eqb c 85 z, not_L)
 
       module _ (x : c ≡ 67 → ⊥) (y : c ≡ 68 → ⊥) (z : c ≡ 85 → ⊥) where
-        pub unq_digit : {text' : Text} {v : Read} → digit 10 c ≡ true → Reads (reading ⟨source-name⟩) kept_bytes (q.at + 1) s (mem text store ends) (mem text' store ends) q v
-            → Unqualified s (mem text store ends) (mem text' store ends) p v σ
+        pub unq_digit : {m' : Memory} {v : Read} → digit 10 c ≡ true → Reads (reading ⟨source-name⟩) kept_bytes (q.at + 1) s (mem text store ends) m' q v
+            → Unqualified s (mem text store ends) m' p v σ
         unq_digit d g =
             less (omega (arith, h.deep)) (sooner (omega (arith, n.0))
             (by (unq_is here ∙ unqualified_digit c (drop (to + 1) s) σ (none_of x y z) d ∙ ap (λ (t : Text). reading ⟨source-name⟩ (moved t σ)) (sym here))

@@ -16,18 +16,14 @@ use Rattle.grammar.specs.Laws.Places.{starts_byte}
 use Rattle.grammar.specs.Laws.Loops.{closed, items_loop, up_to_E_is}
 use Rattle.store.specs.Stack.{Tail}
 use Rattle.store.specs.Laws.Tails.{whole, both}
-use Rattle.parser.specs.Holds.{Memory, mem, Holds, Reads, Refines, reads, refuses, Puts, window, keep, given_of}
+use Rattle.parser.specs.Holds.{Halves, Memory, mem, Holds, Reads, Refines, reads, refuses, Puts, window, keep, given_of}
 use Rattle.parser.specs.Laws.Halves.{give_short, give_long}
 use Rattle.parser.specs.Laws.Holds.{by, holds_moved, holds_puts, tail_puts, got}
-use Rattle.grammar.specs.States.{peeked, moved_to}
+use Rattle.grammar.specs.States.{peeked, moved_to, Progress, Read, read, Refused}
 use Rattle.parser.specs.Laws.Adds.{puts_from}
-use Rattle.grammar.specs.declared.state.Parser.{Parser}
-use Rattle.grammar.specs.declared.state.Peeked.TheVariants as peeked_as
-use Rattle.grammar.specs.declared.state.Read.{Read}
-use Rattle.grammar.specs.declared.state.Read.TheVariants.{Text as read, Refused}
+use Rattle.std.specs.Prelude as peeked_as
 use Rattle.reader.specs.declared.lists.Kind.TheVariants.{Types}
 use Rattle.reader.specs.Laws.Separators.{join_more, before_same}
-use Rattle.reader.specs.Laws.Standing.{same_sizes}
 use Rattle.reader.specs.Lists.{before_text, ends_pack, opens_pack}
 use Rattle.reader.specs.Laws.Items.{peek_byte, peek_end, byte_within, while_stops, while_goes, ends_on, on_byte, refused_is}
 use Rattle.reader.specs.Laws.Closes.{closed_no, closed_yes, then_refused, then_ok, behind_is, arg_pack}
@@ -129,7 +125,7 @@ sizes_set outer i a (o ∷ os) h f = (get_or-set_other outer i (length os) a 0 (
 
 -- ---------------------------------------------------------------- the packs so far
 
-pub record Packed (s : Text) (m₀ : Memory) (p₀ : Parser) (m : Memory) (p : Parser) (outer : List ℕ) (level n : ℕ) (σ₀ : State) : Type 0 where
+pub record Packed (s : Text) (m₀ : Memory) (p₀ : Progress) (m : Memory) (p : Progress) (outer : List ℕ) (level n : ℕ) (σ₀ : State) : Type 0 where
   pub around : List (List Text)
   pub texts : List Text
   pub state : State
@@ -142,7 +138,7 @@ pub record Packed (s : Text) (m₀ : Memory) (p₀ : Parser) (m : Memory) (p : P
   pub sizes : Sizes outer around
   pub same : g.pack reading σ₀ ≡ outward around (rest_of texts state)
 
-packed_start : {s : Text} {m : Memory} {p : Parser} {outer : List ℕ} {σ : State} → Holds s m p σ → Packed s m p m p outer 0 0 σ
+packed_start : {s : Text} {m : Memory} {p : Progress} {outer : List ℕ} {σ : State} → Holds s m p σ → Packed s m p m p outer 0 0 σ
 unfolding join
 packed_start {s} {m} {p} {outer} {σ} h = record {
   around = [];
@@ -176,15 +172,15 @@ outer_E : (level n : ℕ) → ends_pack level n ≡ true → 0 < level → 16386
 outer_E zero n e h = absurd (omega arith)
 outer_E (suc level) n e h = ltb-true 16386 n e
 
-module _ {s : Text} {m₀ : Memory} {p₀ : Parser} {m : Memory} {p : Parser} {outer : List ℕ} {level n : ℕ} {σ₀ : State} (l : Packed s m₀ p₀ m p outer level n σ₀) where
+module _ {s : Text} {m₀ : Memory} {p₀ : Progress} {m : Memory} {p : Progress} {outer : List ℕ} {level n : ℕ} {σ₀ : State} (l : Packed s m₀ p₀ m p outer level n σ₀) where
   -- no E is left
-  pub packed_4 : peeked (drop p.at s) ≡ peeked_as.End → g.pack reading σ₀ ≡ refused 4
+  pub packed_4 : peeked (drop p.at s) ≡ peeked_as.None → g.pack reading σ₀ ≡ refused 4
   unfolding starts
   packed_4 e =
       let r : l.state.rest ≡ [] = l.holds.rest ∙ peek_end (drop p.at s) e in
       l.same ∙ goes_open l.around l.texts l.state (ends_on Types r) (ap (λ (t : Text). starts t (69 ∷ [])) r)
 
-  module _ {c : ℕ} (e : peeked (drop p.at s) ≡ peeked_as.Byte c) where
+  module _ {c : ℕ} (e : peeked (drop p.at s) ≡ peeked_as.Some c) where
     first : l.state.rest ≡ c ∷ drop 1 (drop p.at s)
     first = l.holds.rest ∙ peek_byte (drop p.at s) e
 
@@ -203,8 +199,8 @@ module _ {s : Text} {m₀ : Memory} {p₀ : Parser} {m : Memory} {p : Parser} {o
 -- ---------------------------------------------------------------- a pack opens
 
 opens_at :
-    {s : Text} {m₀ : Memory} {p₀ : Parser} {text text' store ends : List ℕ} {p q p' : Parser} {outer : List ℕ} {level n c : ℕ} {σ₀ : State} →
-    Packed s m₀ p₀ (mem text store ends) p outer level n σ₀ → peeked (drop p.at s) ≡ peeked_as.Byte c → Puts text text' p q (before_text n) →
+    {s : Text} {m₀ : Memory} {p₀ : Progress} {text text' : List ℕ} {store ends : Halves} {p q p' : Progress} {outer : List ℕ} {level n c : ℕ} {σ₀ : State} →
+    Packed s m₀ p₀ (mem text store ends) p outer level n σ₀ → peeked (drop p.at s) ≡ peeked_as.Some c → Puts text text' p q (before_text n) →
     opens_pack level c ≡ true → length outer ≡ 64 → p' ≡ moved_to q (p.at + 1) → Packed s m₀ p₀ (mem text' store ends) p' (slice_set outer level n) (level + 1) 0 σ₀
 unfolding join
 opens_at {s} {m₀} {p₀} {text} {text'} {store} {ends} {p} {q} {p'} {outer} {level} {n} {c} {σ₀} l e u o z f =
@@ -214,7 +210,7 @@ opens_at {s} {m₀} {p₀} {text} {text'} {store} {ends} {p} {q} {p'} {outer} {l
     let below : Text = under l.around in
     let is : (below ++ j) ++ before_text n ≡ (below ++ (j ++ before_text (length l.texts))) ++ [] =
     append_assoc below j (before_text n) ∙ ap (λ (x : Text). below ++ (j ++ x)) (before_same (b ", ") n (length l.texts) (some_weight l.texts l.size)) ∙ sym (append-nil _) in
-    subst (λ (x : Parser). Packed s m₀ p₀ (mem text' store ends) x (slice_set outer level n) (level + 1) 0 σ₀) (sym f) (record {
+    subst (λ (x : Progress). Packed s m₀ p₀ (mem text' store ends) x (slice_set outer level n) (level + 1) 0 σ₀) (sym f) (record {
       around = l.texts ∷ l.around;
       texts = [];
       state = moved (drop (p.at + 1) s) l.state;
@@ -222,7 +218,7 @@ opens_at {s} {m₀} {p₀} {text} {text'} {store} {ends} {p} {q} {p'} {outer} {l
       tail =
           subst (λ (x : Text). Tail (keep p₀.depth) (take q.top text') (window m₀ p₀ ++ x)) is
           (tail_puts u (window m₀ p₀) (below ++ j) l.holds (omega (arith, l.holds.deep, l.depth)) l.tail);
-      depth = ap (λ (x : Parser). x.depth) u.same ∙ l.depth;
+      depth = ap (λ (x : Progress). x.depth) u.same ∙ l.depth;
       more = omega (arith, l.more);
       level_is = omega (arith, l.level_is);
       size = omega arith;
@@ -237,14 +233,14 @@ opens_at {s} {m₀} {p₀} {text} {text'} {store} {ends} {p} {q} {p'} {outer} {l
 
 -- bytes put by a state that is further on
 puts_ahead :
-    {text text' : List ℕ} {p p' q : Parser} {t : Text} {i : ℕ} → p' ≡ moved_to p i → Puts text text' p' q t → Puts text text' p (moved_to q p.at) t × (q ≡ moved_to (moved_to q p.at) i)
+    {text text' : List ℕ} {p p' q : Progress} {t : Text} {i : ℕ} → p' ≡ moved_to p i → Puts text text' p' q t → Puts text text' p (moved_to q p.at) t × (q ≡ moved_to (moved_to q p.at) i)
 puts_ahead {text} {text'} {p} {p'} {q} {t} {i} v u =
     let w : Puts text text' (moved_to p i) q t = puts_from v u in
-    (record { same = ap (λ (z : Parser). moved_to z p.at) w.same; put = w.put }, ap (λ (j : ℕ). moved_to q j) (ap (λ (z : Parser). z.at) w.same))
+    (record { same = ap (λ (z : Progress). moved_to z p.at) w.same; put = w.put }, ap (λ (j : ℕ). moved_to q j) (ap (λ (z : Progress). z.at) w.same))
 
 pub packed_opens :
-    {s : Text} {m₀ : Memory} {p₀ : Parser} {text text' store ends : List ℕ} {p q p' : Parser} {outer : List ℕ} {level n c : ℕ} {σ₀ : State} →
-    Packed s m₀ p₀ (mem text store ends) p outer level n σ₀ → peeked (drop p.at s) ≡ peeked_as.Byte c → p' ≡ moved_to p (p.at + 1) → Puts text text' p' q (before_text n) →
+    {s : Text} {m₀ : Memory} {p₀ : Progress} {text text' : List ℕ} {store ends : Halves} {p q p' : Progress} {outer : List ℕ} {level n c : ℕ} {σ₀ : State} →
+    Packed s m₀ p₀ (mem text store ends) p outer level n σ₀ → peeked (drop p.at s) ≡ peeked_as.Some c → p' ≡ moved_to p (p.at + 1) → Puts text text' p' q (before_text n) →
     opens_pack level c ≡ true → length outer ≡ 64 → Packed s m₀ p₀ (mem text' store ends) q (slice_set outer level n) (level + 1) 0 σ₀
 packed_opens l e v u o z =
     let k = puts_ahead v u in
@@ -252,8 +248,8 @@ packed_opens l e v u o z =
 
 -- ---------------------------------------------------------------- a text more
 
-module _ {s : Text} {m₀ : Memory} {p₀ : Parser} {text text' store ends : List ℕ} {m'' : Memory} {p q : Parser} {outer : List ℕ} {level n c : ℕ} {σ₀ : State} {r : Read}
-    (l : Packed s m₀ p₀ (mem text store ends) p outer level n σ₀) (e : peeked (drop p.at s) ≡ peeked_as.Byte c) (i : c ≡ 69 → ⊥)
+module _ {s : Text} {m₀ : Memory} {p₀ : Progress} {text text' : List ℕ} {store ends : Halves} {m'' : Memory} {p q : Progress} {outer : List ℕ} {level n c : ℕ} {σ₀ : State} {r : Read}
+    (l : Packed s m₀ p₀ (mem text store ends) p outer level n σ₀) (e : peeked (drop p.at s) ≡ peeked_as.Some c) (i : c ≡ 69 → ⊥)
     (u : Puts text text' p q (before_text n)) (k : Reads (reading ⟨template-arg⟩) (keep q.depth) (q.at + 1) s (mem text' store ends) m'' q r) where
   told : Refines (keep q.depth) q.depth s (take q.top text') (q.at + 1) m'' r (reading ⟨template-arg⟩ l.state)
   told = k l.state (holds_puts u l.holds)
@@ -263,19 +259,19 @@ module _ {s : Text} {m₀ : Memory} {p₀ : Parser} {text text' store ends : Lis
       by (l.same ∙ goes_wrong l.around l.texts l.state (before l e i) (refused_is f told))
       (subst (λ (x : Read). Refines k d s' base from m x (refused (refusal_number j))) (sym f) refuses)
 
-  module _ {p'' : Parser} {x : ℕ} (f : r ≡ read p'' x) where
+  module _ {p'' : Progress} {x : ℕ} (f : r ≡ read p'' x) where
     pub text_short : x ≤ most_text_bytes
     text_short = let w = (got f told).wrote in omega (arith, w.size, w.short)
 
     pub text_further : p.at < p''.at
-    text_further = omega (arith, (got f told).wrote.more, ap (λ (z : Parser). z.at) u.same)
+    text_further = omega (arith, (got f told).wrote.more, ap (λ (z : Progress). z.at) u.same)
 
     pub packed_more : {n' : ℕ} → n' ≡ min (n + (x + 2)) most_length → Packed s m₀ p₀ m'' p'' outer level n' σ₀
     packed_more {n'} o =
         let h = got f told in
         let w = h.wrote in
         let t : Text = h.said in
-        let d : q.depth ≡ p₀.depth = ap (λ (z : Parser). z.depth) u.same ∙ l.depth in
+        let d : q.depth ≡ p₀.depth = ap (λ (z : Progress). z.depth) u.same ∙ l.depth in
         let j : Text = join (b ", ") l.texts in
         let below : Text = under l.around in
         let a : Tail (keep p₀.depth) (take q.top text') (window m₀ p₀ ++ ((below ++ j) ++ before_text n)) =
@@ -293,7 +289,7 @@ module _ {s : Text} {m₀ : Memory} {p₀ : Parser} {text text' store ends : Lis
           holds = w.holds;
           tail = subst (λ (z : Text). Tail (keep p₀.depth) (window m'' p'') (window m₀ p₀ ++ z)) is (both (window m₀ p₀) ((below ++ j) ++ before_text n) t a v);
           depth = w.level ∙ d;
-          more = omega (arith, w.more, l.more, ap (λ (z : Parser). z.at) u.same);
+          more = omega (arith, w.more, l.more, ap (λ (z : Progress). z.at) u.same);
           level_is = l.level_is;
           size = omega (arith, o, l.size, w.size, weight_more l.texts t);
           sizes = l.sizes;
@@ -302,8 +298,8 @@ module _ {s : Text} {m₀ : Memory} {p₀ : Parser} {text text' store ends : Lis
 
 -- ---------------------------------------------------------------- a pack closes
 
-module _ {s : Text} {m₀ : Memory} {p₀ : Parser} {m : Memory} {p : Parser} {outer : List ℕ} {level n c : ℕ} {σ₀ : State}
-    (l : Packed s m₀ p₀ m p outer level n σ₀) (e : peeked (drop p.at s) ≡ peeked_as.Byte c) (i : c ≡ 69) where
+module _ {s : Text} {m₀ : Memory} {p₀ : Progress} {m : Memory} {p : Progress} {outer : List ℕ} {level n c : ℕ} {σ₀ : State}
+    (l : Packed s m₀ p₀ m p outer level n σ₀) (e : peeked (drop p.at s) ≡ peeked_as.Some c) (i : c ≡ 69) where
   abbrev behind : State
   behind = moved (drop (p.at + 1) s) l.state
 
@@ -317,10 +313,10 @@ module _ {s : Text} {m₀ : Memory} {p₀ : Parser} {m : Memory} {p : Parser} {o
   shown_size : length shown ≡ weight l.texts - 2
   shown_size = join_size l.texts
 
-  pub packed_closes : {p' : Parser} {n' : ℕ} → ends_pack level n ≡ false → p' ≡ moved_to p (p.at + 1) → n' ≡ min (slice_index outer (level - 1) + (n - 2 + 2)) most_length → Packed s m₀ p₀ m p' outer (level - 1) n' σ₀
+  pub packed_closes : {p' : Progress} {n' : ℕ} → ends_pack level n ≡ false → p' ≡ moved_to p (p.at + 1) → n' ≡ min (slice_index outer (level - 1) + (n - 2 + 2)) most_length → Packed s m₀ p₀ m p' outer (level - 1) n' σ₀
   unfolding onto
   packed_closes {p'} {n'} a f o =
-      subst (λ (x : Parser). Packed s m₀ p₀ m x outer (level - 1) n' σ₀) (sym f) (go l.around l.tail l.level_is l.sizes l.same)
+      subst (λ (x : Progress). Packed s m₀ p₀ m x outer (level - 1) n' σ₀) (sym f) (go l.around l.tail l.level_is l.sizes l.same)
     where
       short : length shown ≤ most_text_bytes
       short = omega (arith, (inner_E level n a).1, l.size, shown_size)
@@ -354,11 +350,11 @@ module _ {s : Text} {m₀ : Memory} {p₀ : Parser} {m : Memory} {p : Parser} {o
       go [] k z = absurd (omega arith)
       go (y ∷ os) k z = omega (arith, ap (λ (x : ℕ). slice_index outer x) {x = level - 1} {y = length os} (omega (arith, k)), z.0)
 
-  pub packed_ends : {p' : Parser} {j : ℕ} {r : Read} → ends_pack level n ≡ true → p' ≡ moved_to p (p.at + 1) → j ≡ n - 2 → r ≡ given_of p' j →
+  pub packed_ends : {p' : Progress} {j : ℕ} {r : Read} → ends_pack level n ≡ true → p' ≡ moved_to p (p.at + 1) → j ≡ n - 2 → r ≡ given_of p' j →
       Refines (keep p₀.depth) p₀.depth s (window m₀ p₀) (p₀.at + 1) m r (g.pack reading σ₀)
   unfolding given_of if◌then◌otherwise◌
   packed_ends {p'} {j} {r} a f o k =
-      subst (λ (x : Read). Refines (keep p₀.depth) p₀.depth s (window m₀ p₀) (p₀.at + 1) m x (g.pack reading σ₀)) (sym (k ∙ ap (λ (x : Parser). given_of x j) f)) (go (nat_le j most_text_bytes) refl l.around l.tail l.level_is l.same)
+      subst (λ (x : Read). Refines (keep p₀.depth) p₀.depth s (window m₀ p₀) (p₀.at + 1) m x (g.pack reading σ₀)) (sym (k ∙ ap (λ (x : Progress). given_of x j) f)) (go (nat_le j most_text_bytes) refl l.around l.tail l.level_is l.same)
     where
       answer : Bool → Read
       answer q = if q then read (moved_to p (p.at + 1)) j otherwise Refused LongText
@@ -382,27 +378,15 @@ module _ {s : Text} {m₀ : Memory} {p₀ : Parser} {m : Memory} {p : Parser} {o
 
 -- ---------------------------------------------------------------- the loop so far
 
-pub record Packing (s : Text) (m₀ : Memory) (p₀ : Parser) (m : Memory) (p : Parser) (outer : List ℕ) (level n : ℕ) : Type 0 where
-  pub text_same : length m.text ≡ length m₀.text
-  pub store_same : length m.store ≡ length m₀.store
-  pub ends_same : length m.ends ≡ length m₀.ends
+pub record Packing (s : Text) (m₀ : Memory) (p₀ : Progress) (m : Memory) (p : Progress) (outer : List ℕ) (level n : ℕ) : Type 0 where
   pub room : length outer ≡ 64
   pub deep : level ≤ 64
   pub so_far : (σ₀ : State) → Holds s m₀ p₀ σ₀ → Packed s m₀ p₀ m p outer level n σ₀
 
 pub packing :
-    {s : Text} {m₀ : Memory} {p₀ : Parser} {m : Memory} {p : Parser} {outer : List ℕ} {level n : ℕ} {σ : State} → Holds s m₀ p₀ σ → length outer ≡ 64 → level ≤ 64 →
+    {s : Text} {m₀ : Memory} {p₀ : Progress} {m : Memory} {p : Progress} {outer : List ℕ} {level n : ℕ} → length outer ≡ 64 → level ≤ 64 →
     ((σ₀ : State) → Holds s m₀ p₀ σ₀ → Packed s m₀ p₀ m p outer level n σ₀) → Packing s m₀ p₀ m p outer level n
-packing {σ = σ} h r d f =
-    let z = same_sizes h (f σ h).holds in
-    record {
-      text_same = z.0;
-      store_same = z.1.0;
-      ends_same = z.1.1;
-      room = r;
-      deep = d;
-      so_far = f;
-    }
+packing r d f = record { room = r; deep = d; so_far = f }
 
-pub packing_start : {s : Text} {m : Memory} {p : Parser} {outer : List ℕ} {σ : State} → Holds s m p σ → length outer ≡ 64 → Packing s m p m p outer 0 0
-packing_start h z = packing h z (omega arith) (λ σ₀ h₀. packed_start h₀)
+pub packing_start : {s : Text} {m : Memory} {p : Progress} {outer : List ℕ} → length outer ≡ 64 → Packing s m p m p outer 0 0
+packing_start z = packing z (omega arith) (λ σ₀ h₀. packed_start h₀)

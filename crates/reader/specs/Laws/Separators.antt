@@ -1,15 +1,15 @@
 -- Laws of Separators.antt. Assumes nothing.
-use Rattle.std.specs.Prelude.{◌≡◌, ℕ, zero, suc, ◌*◌, ◌<◌, ◌≤◌, min, List, [], ◌∷◌, ◌++◌, length}
+use Rattle.std.specs.Prelude.{◌≡◌, ℕ, zero, suc, ◌*◌, ◌<◌, min, List, [], ◌∷◌, ◌++◌, length}
 use mathlib.Core.List.{append_assoc, append-nil}
 use Rattle.std.proofs.Math.Path.{refl, ap}
 use Rattle.std.proofs.Common.{sym, ◌∙◌, arith}
 use Rattle.grammar.specs.Text.{Text, join}
-use Rattle.store.specs.Stack.{Stack}
+use Rattle.store.specs.Stack.{Stack, Put}
 use Rattle.parser.specs.Holds.{Puts}
-use Rattle.grammar.specs.declared.state.Parser.{Parser}
+use Rattle.grammar.specs.States.{Progress}
 use Rattle.reader.specs.Separators.{before}
 
-pub puts_nothing : {text : Text} {p : Parser} → Stack text p.top → Puts text text p p []
+pub puts_nothing : {text : Text} {p : Progress} → Stack text p.top → Puts text text p p []
 puts_nothing c = record { same = refl; put = record { lost = 0; most = omega arith; is = sym (append-nil _); stack = c } }
 
 module _ (sep : Text) where
@@ -31,10 +31,6 @@ module _ (sep : Text) where
   before_size e zero = refl
   before_size e (suc n) = omega arith
 
-  pub puts_some : {text text' : Text} {p q : Parser} (n : ℕ) → 0 < n → Puts text text' p q sep → Puts text text' p q (before sep n)
-  puts_some zero l u = absurd (omega arith)
-  puts_some (suc n) l u = u
-
-  pub puts_none : {text : Text} {p : Parser} (n : ℕ) → n ≤ 0 → Stack text p.top → Puts text text p p (before sep n)
-  puts_none zero l c = puts_nothing c
-  puts_none (suc n) l c = absurd (omega arith)
+  pub put_some : {text text' : Text} {top top' : ℕ} (n : ℕ) → 0 < n → Put text text' top top' sep → Put text text' top top' (before sep n)
+  put_some zero l u = absurd (omega arith)
+  put_some (suc n) l u = u

@@ -8,6 +8,7 @@ use Rattle.grammar.specs.Text.{Text}
 use Rattle.grammar.specs.Limits.{most_entries, most_entry_bytes}
 use Rattle.grammar.specs.Reader.{bytes_of}
 use Rattle.store.specs.Table.{Front, concat, ends_from, Entries, Sized, Placed}
+use Rattle.store.specs.declared.table.Table.{Table as Code}
 use Rattle.store.specs.Laws.Fronts.{front_none, front_as, front_at, front_written, front_set}
 
 -- ---- lists of texts
@@ -141,17 +142,9 @@ module _ {l : List Text} {store ends : List ℕ} {count bytes : ℕ} (h : Entrie
         room = fits;
       }
 
--- the same slices, given in another way
-pub entries_as : {l : List Text} {store ends store' ends' : List ℕ} {count bytes : ℕ}
-    → store' ≡ store → ends' ≡ ends → Entries l store ends count bytes → Entries l store' ends' count bytes
-entries_as e f h = record {
-  store_is = front_as e h.store_is;
-  ends_is = front_as f h.ends_is;
-  count_is = h.count_is;
-  bytes_is = h.bytes_is;
-  most = h.most;
-  room = h.room;
-}
+-- what the struct of the code keeps
+pub sized_of : (t : Code) → Sized t.bytes.now t.ends.now
+sized_of t = record { store_size = t.bytes_size; ends_size = t.ends_size }
 
 -- a table of no texts, whatever the slices hold
 pub no_entries : {store ends : List ℕ} → Sized store ends → Entries [] store ends 0 0

@@ -5,7 +5,12 @@ use Rattle.std.proofs.lemmas.List.{drop-append-le}
 use Rattle.grammar.specs.Text.{Text}
 use Rattle.grammar.specs.Limits.{kept_bytes}
 use Rattle.store.specs.Stack.{Stack, Tail, Put, Cut, lent}
+use Rattle.store.specs.declared.stack.Stack.{Stack as Code}
 use Rattle.store.specs.Laws.Lists.{drop_take}
+
+-- what the struct of the code keeps
+pub stack_of : (s : Code) → Stack s.bytes.now s.top
+stack_of s = record { size = s.size; most = s.most }
 
 pub whole : (k : ℕ) (w : Text) → Tail k w w
 whole k w = record { lost = 0; most = omega arith; is = refl }

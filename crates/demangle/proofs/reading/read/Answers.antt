@@ -1,22 +1,27 @@
-use mathlib.Core.Path.{sym, ap}
-use lib.ListN.{length}
-use Rattle.grammar.specs.Reader.{Result}
-use Rattle.grammar.specs.Names.{finished, within, mangled_name}
+use Rattle.std.proofs.Common.{length, ap, arith}
+use Rattle.std.proofs.lemmas.Result.{err_from_is_err_and}
+use Rattle.grammar.specs.Text.{Text}
+use Rattle.grammar.specs.Names.{within, mangled_name}
 use Rattle.answer.specs.Laws.Told.{tells_as}
-use Rattle.demangle.specs.Laws.Tells.{tells_unread, was_read, printed_fits, printed_top}
+use Rattle.demangle.specs.Laws.Tells.{read_fits, tells_read, tells_unread}
+use Rattle.encoding.specs.Laws.Specials.{begun_by}
 use Rattle.demangle.proofs.reading.read.Goals as goal
 
-pub returns-in-Refused : goal.returns-in-Refused
-returns-in-Refused c =
-    tells_unread c.args.out.now c.mangled_name.ensures c.in-Refused.is
+pub mangled_name-requires : goal.mangled_name-requires
+mangled_name-requires c =
+    (omega (arith, c.requires.0, ap length c.new-d.ensures.symbol), begun_by c.new-d.result c.new-d.ensures.state)
+
+pub returns-in_err-n : goal.returns-in_err-n
+returns-in_err-n c =
+    let p = err_from_is_err_and c.from_residual.result c.from_residual.ensures.1 in
+    rw (p.1, p.2)
+    (tells_as (ap (λ (s : Text). within (length c.args.out.now) (mangled_name s)) c.new-d.ensures.symbol) (tells_unread c.args.out.now c.in_err-n.ensures))
 
 pub print-requires : goal.print-requires
 print-requires c =
-    let h = (was_read c.mangled_name.ensures c.in-Text.is).1.1.1 in
-    (printed_fits h, (printed_top h, h.place))
+    read_fits c.new-d.result c.new-d.ensures.state c.in_ok-n.ensures
 
-pub returns-in-Text : goal.returns-in-Text
-unfolding mangled_name
-returns-in-Text c =
-    let (t, (σ, (e, h))) = was_read c.mangled_name.ensures c.in-Text.is in
-    tells_as (ap (λ (x : Result _). within (length c.args.out.now) (finished x)) (sym e)) (c.print.ensures _ _ t σ h)
+pub returns : goal.returns
+returns c =
+    tells_as (ap (λ (s : Text). within (length c.args.out.now) (mangled_name s)) c.new-d.ensures.symbol)
+    (tells_read c.new-d.result c.new-d.ensures.state c.in_ok-n.ensures c.print.ensures)

@@ -14,9 +14,9 @@ read-requires c =
     let w = c.args.work.now in (
       omega (arith, ap length (second_lent c.args.at c.args.s.now) ∙ length-drop c.args.at c.args.s.now, c.requires.0),
       record {
-        text = length-take-le least_text w.text.now c.requires.1.text;
-        store = length-take-le least_store w.store.now c.requires.1.store;
-        ends = length-take-le least_ends w.ends.now c.requires.1.ends;
+        text_size = length-take-le least_text w.text.now c.requires.1.text;
+        store_size = length-take-le least_store w.store.now c.requires.1.store;
+        ends_size = length-take-le least_ends w.ends.now c.requires.1.ends;
       },
     )
 

@@ -1,11 +1,6 @@
-use mathlib.Core.Path.{sym, ◌∙◌}
-use Rattle.encoding.specs.Laws.Ends.{ended_end, ended_byte}
+use Rattle.std.proofs.Common.{rules, tests}
+use Rattle.encoding.specs.Laws.Ends.{ended_by}
 use Rattle.encoding.proofs.functions.ended.Goals as goal
 
-pub returns-in_default : goal.returns-in_default
-returns-in_default c =
-    sym (ended_end _ (sym c.peek.ensures ∙ c.in_default.is))
-
 pub returns : goal.returns
-returns c =
-    sym (ended_byte _ (sym c.peek.ensures ∙ c.in-Byte.is))
+returns c = ended_by _ _ _ c.peek.ensures c.is_none_or.ensures (λ x k. search (rules, tests))

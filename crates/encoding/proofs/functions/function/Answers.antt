@@ -1,74 +1,88 @@
-use mathlib.Core.Path.{subst}
-use native.Mathlib.Omega.{arith}
+use Rattle.std.proofs.Common.{length, refl, ap, ◌∙◌, arith}
+use Rattle.std.proofs.lemmas.Result.{err_from_is_err_and}
 use Rattle.grammar.specs.Text.{b}
-use Rattle.parser.specs.Laws.Holds.{holds_puts}
-use Rattle.encoding.specs.Encodings.{LoneVoid}
-use Rattle.encoding.specs.Laws.Functions.{list, list_least, void_room, items_refused, void_given, list_long, list_given}
+use Rattle.parser.specs.Laws.Demanglers.{puts_of, cuts_of, given_ok, given_err}
+use Rattle.encoding.specs.Laws.Functions.{void_from, qualified_from, list, list_least, void_room, items_refused, void_given, list_long, list_given}
 use Rattle.encoding.proofs.functions.function.Goals as goal
 
-pub items-list-requires : goal.items-list-requires
+pub returns-in_err-list : goal.returns-in_err-list
 unfolding b
-items-list-requires c =
-    (_, holds_puts c.put-open.ensures c.requires.0.1)
-
-pub returns-in_default : goal.returns-in_default
-unfolding b
-returns-in_default c base at t σ h =
-    items_refused c.put-open.ensures c.items-list.ensures c.args.from c.args.to h c.in_default.is c.refused.ensures
+returns-in_err-list c =
+    let p = err_from_is_err_and c.from_residual.result c.from_residual.ensures.1 in
+    let z = puts_of c.args.d.now c.put.new.self c.put.ensures in
+    rw (p.1, p.2) (record {
+      symbol = c.in_err-list.ensures.symbol;
+      is = λ base at t σ h. items_refused z c.in_err-list.ensures.is c.args.cv.from c.args.cv.to h refl refl;
+    })
 
 pub lone_void-requires : goal.lone_void-requires
 unfolding b
 lone_void-requires c =
-    let z = (list c.put-open.ensures c.items-list.ensures c.requires.0.1 c.in-Listed.is).stands.holds in
-    (z.text, (z.place, list_least c.put-open.ensures c.items-list.ensures c.requires.0.1 c.in-Listed.is))
+    let z = puts_of c.args.d.now c.put.new.self c.put.ensures in
+    let h = (list z c.in_ok-list.ensures.is c.requires.0.1 refl).stands.holds in
+    (omega (arith, h.place, ap (λ (x : _). length x) c.in_ok-list.ensures.symbol), list_least z c.in_ok-list.ensures.is c.requires.0.1 refl)
 
-pub cut-bare-requires : goal.cut-bare-requires
+pub cut-requires : goal.cut-requires
 unfolding b
-cut-bare-requires c =
-    let v = subst (LoneVoid _ _ _ _ _) c.if-lone_void.true c.lone_void.ensures in
-    ((list c.put-open.ensures c.items-list.ensures c.requires.0.1 c.in-Listed.is).stands.holds.text, omega (arith, void_room c.put-open.ensures c.items-list.ensures c.requires.0.1 c.in-Listed.is v))
-
-pub overflow_add-n : goal.overflow_add-n
-overflow_add-n c =
-    omega (arith, c.requires.1.0)
-
-pub qualified-requires : goal.qualified-requires
-qualified-requires c =
-    (c.put-close.ensures.put.stack, (omega (arith, c.requires.1.0), c.requires.1.1))
+cut-requires c =
+    let z = puts_of c.args.d.now c.put.new.self c.put.ensures in
+    let v = void_from c.items.new.d c.in_ok-list.ensures.symbol c.lone_void.ensures c.if-lone_void.true in
+    omega (arith, void_room z c.in_ok-list.ensures.is c.requires.0.1 refl v)
 
 pub returns-then-lone_void : goal.returns-then-lone_void
 unfolding b
-returns-then-lone_void c base at t σ h =
-    let v = subst (LoneVoid _ _ _ _ _) c.if-lone_void.true c.lone_void.ensures in
-    void_given c.put-open.ensures c.items-list.ensures c.args.from c.args.to h c.requires.1.0 c.in-Listed.is v
-    c.cut-bare.ensures c.put-close.ensures
-    c.qualified.ensures
+returns-then-lone_void c =
+    let z = puts_of c.args.d.now c.put.new.self c.put.ensures in
+    let e = c.in_ok-list.ensures.symbol in
+    let v = void_from c.items.new.d e c.lone_void.ensures c.if-lone_void.true in
+    let u = cuts_of c.items.new.d c.cut.new.self c.cut.ensures in
+    let w = puts_of (record c.items.new.d { stack = c.cut.new.self }) c.put-then-lone_void.new.self c.put-then-lone_void.ensures in
+    record {
+      symbol = c.qualified.ensures.symbol ∙ e;
+      is = λ base at t σ h.
+          void_given z c.in_ok-list.ensures.is c.args.cv.from c.args.cv.to h c.requires.1.0 refl v u w
+          (qualified_from (record c.items.new.d { stack = c.put-then-lone_void.new.self }) e c.args.cv _ c.qualified.ensures);
+    }
 
-pub returns-then-m-gt-TEXT : goal.returns-then-m-gt-TEXT
+pub returns-in_err-m : goal.returns-in_err-m
 unfolding b
-returns-then-m-gt-TEXT c base at t σ h =
-    let v = subst (LoneVoid _ _ _ _ _) c.if-lone_void.false c.lone_void.ensures in
-    list_long c.put-open.ensures c.items-list.ensures c.args.from c.args.to h c.requires.1.0 c.in-Listed.is v c.if-m-gt-TEXT.true
-
-pub put-close-requires-2 : goal.put-close-requires-2
-unfolding b
-put-close-requires-2 c =
-    ((list c.put-open.ensures c.items-list.ensures c.requires.0.1 c.in-Listed.is).stands.holds.text, omega arith)
+returns-in_err-m c =
+    let p = err_from_is_err_and c.from_residual-in_err-m.result c.from_residual-in_err-m.ensures.1 in
+    let z = puts_of c.args.d.now c.put.new.self c.put.ensures in
+    let e = c.in_ok-list.ensures.symbol in
+    let v = void_from c.items.new.d e c.lone_void.ensures c.if-lone_void.false in
+    let g = given_err c.in_ok-list.list.n c.in_err-m.ensures in
+    rw (p.1, p.2, g.1) (record {
+      symbol = e;
+      is = λ base at t σ h. list_long z c.in_ok-list.ensures.is c.args.cv.from c.args.cv.to h c.requires.1.0 refl v g.0;
+    })
 
 pub overflow_add-n-2 : goal.overflow_add-n-2
 overflow_add-n-2 c =
-    omega (arith, c.requires.1.0, c.if-m-gt-TEXT.false)
+    let g = given_ok c.in_ok-list.list.n c.in_ok-m.ensures in
+    omega (arith, c.requires.1.0, g.0, g.1)
 
 pub overflow_add-n-3 : goal.overflow_add-n-3
 overflow_add-n-3 c =
-    omega (arith, c.requires.1.0, c.if-m-gt-TEXT.false)
+    let g = given_ok c.in_ok-list.list.n c.in_ok-m.ensures in
+    omega (arith, c.requires.1.0, g.0, g.1)
 
 pub qualified-requires-2 : goal.qualified-requires-2
 qualified-requires-2 c =
-    (c.put-close-2.ensures.put.stack, (omega (arith, c.requires.1.0, c.if-m-gt-TEXT.false), c.requires.1.1))
+    let g = given_ok c.in_ok-list.list.n c.in_ok-m.ensures in
+    (omega (arith, c.requires.1.0, g.0, g.1), (c.requires.1.1.0, omega (arith, c.requires.1.1.1, ap (λ (x : _). length x) c.in_ok-list.ensures.symbol)))
 
 pub returns : goal.returns
 unfolding b
-returns c base at t σ h =
-    let v = subst (LoneVoid _ _ _ _ _) c.if-lone_void.false c.lone_void.ensures in
-    list_given c.put-open.ensures c.items-list.ensures c.args.from c.args.to h c.requires.1.0 c.in-Listed.is v c.if-m-gt-TEXT.false c.put-close-2.ensures c.qualified-2.ensures
+returns c =
+    let z = puts_of c.args.d.now c.put.new.self c.put.ensures in
+    let e = c.in_ok-list.ensures.symbol in
+    let v = void_from c.items.new.d e c.lone_void.ensures c.if-lone_void.false in
+    let g = given_ok c.in_ok-list.list.n c.in_ok-m.ensures in
+    let w = puts_of c.items.new.d c.put-2.new.self c.put-2.ensures in
+    record {
+      symbol = c.qualified-2.ensures.symbol ∙ e;
+      is = λ base at t σ h.
+          list_given z c.in_ok-list.ensures.is c.args.cv.from c.args.cv.to h c.requires.1.0 refl v g.0 w
+          (rw (← g.1) (qualified_from (record c.items.new.d { stack = c.put-2.new.self }) e c.args.cv _ c.qualified-2.ensures));
+    }

@@ -1,28 +1,38 @@
-use native.Mathlib.Omega.{arith}
-use Rattle.encoding.specs.Laws.Functions.{returned, returned_short, returned_room, type_refused, type_returned}
+use Rattle.std.proofs.Common.{length, refl, ap, ◌∙◌, arith}
+use Rattle.std.proofs.lemmas.Result.{err_from_is_err_and}
+use Rattle.parser.specs.declared.demangler.Demangler.{Demangler}
+use Rattle.parser.specs.Laws.Demanglers.{turns_held, turns_stands}
+use Rattle.reader.specs.Laws.Demanglers.{prepared_behind}
+use Rattle.encoding.specs.Encodings.{with_parameters}
+use Rattle.encoding.specs.Laws.Functions.{going_from, returned, returned_short, returned_room, type_refused, type_returned}
 use Rattle.encoding.proofs.functions.template_function.Goals as goal
 
-pub returns-in_default : goal.returns-in_default
-returns-in_default c base at t σ h =
-    type_refused c.ty-got.ensures c.args.from c.args.to h c.in_default.is
+pub returns-in_err-r : goal.returns-in_err-r
+returns-in_err-r c =
+    let p = err_from_is_err_and c.from_residual.result c.from_residual.ensures.1 in
+    let k = c.in_err-r.ensures in
+    rw (p.1, p.2) (record { symbol = k.symbol; is = λ base at t σ h. type_refused k.reads c.args.cv.from c.args.cv.to h refl })
 
-pub turned-next-requires : goal.turned-next-requires
-turned-next-requires c =
-    ((returned c.ty-got.ensures c.requires.0.1 c.in-Text.is).wrote.holds.text, (c.requires.1.0, (returned_short c.ty-got.ensures c.requires.0.1 c.in-Text.is, returned_room c.ty-got.ensures c.requires.0.1 c.in-Text.is c.args.n c.requires.1.1.0 c.requires.1.0)))
-
-pub overflow_add-r : goal.overflow_add-r
-overflow_add-r c =
-    omega (arith, returned_short c.ty-got.ensures c.requires.0.1 c.in-Text.is)
-
-pub overflow_add-r-2 : goal.overflow_add-r-2
-overflow_add-r-2 c =
-    omega (arith, c.requires.1.0, returned_short c.ty-got.ensures c.requires.0.1 c.in-Text.is)
+pub turned-requires : goal.turned-requires
+turned-requires c =
+    let k = c.in_ok-r.ensures in
+    (c.requires.1.0, (returned_short k.reads c.requires.0.1 refl, returned_room k.reads c.requires.0.1 refl c.args.n c.requires.1.1.0 c.requires.1.0))
 
 pub function-requires : goal.function-requires
 function-requires c =
-    let y = returned c.ty-got.ensures c.requires.0.1 c.in-Text.is in
-    ((y.state, c.turned-next.ensures.0 _ _ _ _ y.wrote.holds), (omega (arith, c.requires.1.0, returned_short c.ty-got.ensures c.requires.0.1 c.in-Text.is), c.requires.1.1.1))
+    let k = c.in_ok-r.ensures in
+    let y = returned k.reads c.requires.0.1 refl in
+    let e = ap (λ (x : Demangler). x.s.now) c.turned.ensures.others ∙ k.symbol in
+    let h = turns_held c.turned.ensures (prepared_behind k c.requires.0).1 in
+    ((_, h), (omega (arith, c.requires.1.0, returned_short k.reads c.requires.0.1 refl), (c.requires.1.1.1.0, omega (arith, c.requires.1.1.1.1, ap (λ (x : _). length x) e))))
 
 pub returns : goal.returns
-returns c base at t σ h =
-    type_returned c.ty-got.ensures c.args.from c.args.to h c.requires.1.0 c.in-Text.is c.turned-next.ensures.1.0 c.function.ensures
+returns c =
+    let k = c.in_ok-r.ensures in
+    let e = ap (λ (x : Demangler). x.s.now) c.turned.ensures.others ∙ k.symbol in
+    record {
+      symbol = c.function.ensures.symbol ∙ e;
+      is = λ base at t σ h.
+          type_returned k.reads c.args.cv.from c.args.cv.to h c.requires.1.0 refl (λ x y τ i j. turns_stands c.turned.ensures x y i j)
+          (going_from c.turned.new.self e c.args.cv _ with_parameters c.function.ensures);
+    }

@@ -1,68 +1,44 @@
-use mathlib.Core.Path.{sym, ap, ◌∙◌}
-use native.Mathlib.Omega.{arith}
-use lib.ListN.{length, length-drop}
-use Rattle.grammar.specs.Text.{b, starts}
-use Rattle.store.specs.Laws.Lists.{second_lent}
-use Rattle.parser.specs.Laws.Adds.{stack_by}
-use Rattle.encoding.specs.Laws.Clones.{least_text, clones_start, clone_fits, clones_more, clones_fresh, clones_alone, clones_refused, clones_got, clones_given}
+use Rattle.std.proofs.Common.{[], ◌∷◌, length, refl, ap, sym, ◌∙◌, arith}
+use Rattle.std.proofs.lemmas.Result.{err_from_is_err_and}
+use Rattle.grammar.specs.Text.{b}
+use Rattle.parser.specs.Demanglers.{state_of}
+use Rattle.parser.specs.Laws.Demanglers.{given_by}
+use Rattle.encoding.specs.Laws.Labels.{strip_starts}
+use Rattle.encoding.specs.Laws.Clones.{cloned_start, cloned_more, cloned_begun, clones_alone, clones_refused, clones_given}
 use Rattle.encoding.proofs.mangled.mangled_name.Goals as goal
 
-pub loop-text-init : goal.loop-text-init
-loop-text-init c =
-    clones_start c.args.s.now (stack_by c.new-p.ensures (least_text c.requires.1))
+pub loop-rest-init : goal.loop-rest-init
+loop-rest-init c = cloned_start c.args.d.now
 
-pub put-p-requires : goal.put-p-requires
-put-p-requires c =
-    (c.loop-text.invariant.adds.stack, omega arith)
-
-pub sum-n-requires : goal.sum-n-requires
-sum-n-requires c =
-    (omega (arith, c.loop-text.invariant.size_is), omega arith)
-
-pub overflow_add-at : goal.overflow_add-at
-overflow_add-at c =
-    omega (arith, c.loop-text.invariant.place, c.requires.0)
-
-pub loop-text-smaller : goal.loop-text-smaller
-loop-text-smaller c =
-    omega (arith, clone_fits c.loop-text.invariant (sym c.starts_with.ensures ∙ c.loop-text-test.true))
-
-pub loop-text-preserved : goal.loop-text-preserved
+pub loop-rest-preserved : goal.loop-rest-preserved
 unfolding b
-loop-text-preserved c =
-    clones_more c.loop-text.invariant (sym c.starts_with.ensures ∙ c.loop-text-test.true) c.put-p.ensures c.sum-n.ensures
+loop-rest-preserved c =
+    cloned_more c.args.d.now c.loop-rest.invariant c.in-Some.rest c.put.new.self c.in-Some.ensures.cases.0 c.in-Some.ensures.cases.1 c.put.ensures c.sum-n.ensures
 
-pub slice_bounds-inner-count : goal.slice_bounds-inner-count
-slice_bounds-inner-count c =
-    omega (arith, c.loop-text.invariant.place)
-
-pub slice_bounds-inner-start : goal.slice_bounds-inner-start
-slice_bounds-inner-start c =
-    omega (arith, c.loop-text.invariant.place)
-
-pub encoding-got-requires : goal.encoding-got-requires
+pub encoding-requires : goal.encoding-requires
 unfolding b
-encoding-got-requires c =
-    let e = second_lent c.loop-text.at c.args.s.now in (
-      omega (arith, ap length e, length-drop c.loop-text.at c.args.s.now, c.requires.0),
-      (ap (λ t. starts t (b "GTt")) e ∙ sym c.starts_with.ensures ∙ c.loop-text-test.false, clones_fresh c.loop-text.invariant c.new-p.ensures c.requires.1),
-    )
+encoding-requires c = (
+  omega (arith, c.requires.0, c.loop-rest.invariant.clones.within),
+  (sym (strip_starts c.loop-rest.d.s.now (71 ∷ 84 ∷ 116 ∷ [])) ∙ c.in_default.ensures.cases, cloned_begun c.args.d.now c.loop-rest.invariant c.requires.1),
+)
 
-pub returns-in_default : goal.returns-in_default
-returns-in_default c =
-    clones_refused c.loop-text.invariant c.new-p.ensures (second_lent c.loop-text.at c.args.s.now) c.encoding-got.ensures c.in_default.is
+pub returns-in_err-m : goal.returns-in_err-m
+returns-in_err-m c =
+    let p = err_from_is_err_and c.from_residual.result c.from_residual.ensures.1 in
+    rw (p.1, p.2) (record { symbol = λ i. cc; is = clones_refused c.loop-rest.invariant.clones c.in_err-m.ensures.is })
 
-pub returns-then-at-eq0 : goal.returns-then-at-eq0
-returns-then-at-eq0 c =
-    clones_alone c.loop-text.invariant c.new-p.ensures (second_lent c.loop-text.at c.args.s.now) c.encoding-got.ensures c.if-at-eq0.true c.in-Text.is
-
-pub sum-requires : goal.sum-requires
-sum-requires c =
-    let w = (clones_got c.loop-text.invariant c.new-p.ensures (second_lent c.loop-text.at c.args.s.now) c.encoding-got.ensures c.in-Text.is).prints in
-    (omega (arith, c.loop-text.invariant.size_is), omega (arith, w.size, w.short))
+pub returns-then-d-whole : goal.returns-then-d-whole
+returns-then-d-whole c =
+    let v = c.loop-rest.invariant.clones in
+    let e = c.in_ok-m.ensures.symbol refl in
+    let f = sym (ap length e) ∙ c.if-d-whole.true in
+    record { symbol = λ i. e ∙ (v.none f).1.0; is = clones_alone v c.in_ok-m.ensures.is f }
 
 pub returns : goal.returns
 returns c =
-    clones_given c.loop-text.invariant c.new-p.ensures
-    (second_lent c.loop-text.at c.args.s.now) c.encoding-got.ensures c.if-at-eq0.false
-    c.in-Text.is c.moved.ensures c.sum.ensures c.given.ensures
+    let s = c.args.d.now.s.now in
+    record {
+      symbol = λ i. refl;
+      is = clones_given c.loop-rest.invariant.clones c.in_ok-m.ensures.is (λ e. c.if-d-whole.false (ap length (c.in_ok-m.ensures.symbol refl) ∙ e)) refl refl c.sum.ensures
+          (given_by (state_of (record c.encoding.new.d { s = c.args.d.now.s; state = record c.encoding.new.d.state { at = length s } })) c.sum.result c.given.ensures);
+    }

@@ -1,11 +1,8 @@
-use Rattle.grammar.specs.Laws.States.{ate, ate_none}
-use Rattle.encoding.specs.Laws.Thunks.{offset_plain, offset_minus}
+use Rattle.encoding.specs.Laws.Thunks.{offset_none, offset_ate}
 use Rattle.encoding.proofs.thunks.offset.Goals as goal
 
-pub returns-in_default : goal.returns-in_default
-returns-in_default c =
-    offset_plain (ate_none c.args.s.now c.args.p 110 c.eat.ensures c.in_default.is) c.unsigned.ensures
+pub returns-then-digits-d : goal.returns-then-digits-d
+returns-then-digits-d c = offset_none c.eat.ensures c.digits-digits.ensures.behind c.if-digits-d.true
 
 pub returns : goal.returns
-returns c =
-    offset_minus (ate c.args.s.now c.args.p 110 c.eat.ensures c.in-Next.is) c.unsigned-2.ensures
+returns c = offset_ate c.eat.ensures c.digits-digits.ensures.behind c.if-digits-d.false c.need.ensures

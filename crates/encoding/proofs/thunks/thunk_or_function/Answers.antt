@@ -1,46 +1,97 @@
-use mathlib.Core.Bool.{true}
-use mathlib.Core.List.{[], ◌∷◌}
-use mathlib.Core.Path.{◌≡◌, sym, ◌∙◌}
-use native.Mathlib.Omega.{arith}
+use Rattle.std.proofs.Common.{◌≡◌, false, [], ◌∷◌, rules, tests, arith}
+use Rattle.std.proofs.lemmas.Result.{err_from_is_err_and}
 use Rattle.grammar.specs.Text.{b, starts}
-use Rattle.encoding.specs.Laws.Answers.{encodes_by, encodes_refines}
 use Rattle.encoding.specs.Laws.Specials.{fresh_holds}
-use Rattle.encoding.specs.Laws.Thunks.{row_h, row_v, no_thunk, row_starts}
+use Rattle.encoding.specs.Laws.Thunks.{Labelled, starts_both, starts_unlike, labelled_h, labelled_v, unlabelled_h}
+use Rattle.encoding.specs.Laws.Thunks.{unlabelled_v, unlabelled_second, plain_encoded, put_prepared, labelled_refused, labelled_short, labelled_given}
 use Rattle.encoding.proofs.thunks.thunk_or_function.Goals as goal
+use Rattle.encoding.proofs.thunks.thunk_or_function.Goals.{in_default-via-then-d-lt2, in_default-via-else-d-lt2+in-84+in_default-1, in_default-via-else-d-lt2+in_default-1}
+use Rattle.encoding.proofs.thunks.thunk_or_function.Goals.{in-84+in_ok-offset-in-84, in-84-2+in_ok-offset-in-84-2+in_ok-offset-in-84-2-2}
 
-pub thunk-requires : goal.thunk-requires
-unfolding b
-thunk-requires c =
-    let unread : starts c.args.s.now (84 ∷ 104 ∷ []) ≡ true = sym c.starts_with.ensures ∙ c.if-starts_with.true in
-    (omega arith, (_, (_, row_starts c.args.p 104 c.requires.0 c.requires.1 unread c.moved.ensures c.offset-stepped.ensures)))
+pub returns-in_err-offset-in-84 : goal.returns-in_err-offset-in-84
+returns-in_err-offset-in-84 c =
+    let p = err_from_is_err_and c.from_residual.result c.from_residual.ensures.1 in
+    let e = starts_both c.args.d.now.s.now {x = 84} {y = 104} (search (rules, tests)) (search (rules, tests)) (search (rules, tests)) in
+    rw (p.1, p.2) (unlabelled_h c.args.d.now e c.in_err-offset-in-84.ensures)
 
-pub returns-then-starts_with : goal.returns-then-starts_with
-unfolding b
-returns-then-starts_with c =
-    let unread : starts c.args.s.now (84 ∷ 104 ∷ []) ≡ true = sym c.starts_with.ensures ∙ c.if-starts_with.true in
-    encodes_by (row_h c.args.s.now unread) (c.thunk.ensures _ _
-    (row_starts c.args.p 104 c.requires.0 c.requires.1 unread c.moved.ensures c.offset-stepped.ensures))
+pub returns-in_err-offset-in-84-2 : goal.returns-in_err-offset-in-84-2
+returns-in_err-offset-in-84-2 c =
+    let p = err_from_is_err_and c.from_residual-in_err-offset-in-84-2.result c.from_residual-in_err-offset-in-84-2.ensures.1 in
+    let e = starts_both c.args.d.now.s.now {x = 84} {y = 118} (search (rules, tests)) (search (rules, tests)) (search (rules, tests)) in
+    rw (p.1, p.2) (unlabelled_v c.args.d.now e c.in_err-offset-in-84-2.ensures)
 
-pub thunk-requires-then-starts_with-2 : goal.thunk-requires-then-starts_with-2
-unfolding b
-thunk-requires-then-starts_with-2 c =
-    let unread : starts c.args.s.now (84 ∷ 118 ∷ []) ≡ true = sym c.starts_with-2.ensures ∙ c.if-starts_with-2.true in
-    (omega arith, (_, (_, row_starts c.args.p 118 c.requires.0 c.requires.1 unread c.moved-then-starts_with-2.ensures c.two_offsets-stepped.ensures)))
-
-pub returns-then-starts_with-2 : goal.returns-then-starts_with-2
-unfolding b
-returns-then-starts_with-2 c =
-    let unread : starts c.args.s.now (84 ∷ 118 ∷ []) ≡ true = sym c.starts_with-2.ensures ∙ c.if-starts_with-2.true in
-    encodes_by (row_v c.args.s.now unread) (c.thunk-then-starts_with-2.ensures _ _
-    (row_starts c.args.p 118 c.requires.0 c.requires.1 unread c.moved-then-starts_with-2.ensures c.two_offsets-stepped.ensures))
+pub returns-in_err-offset-in-84-2-2 : goal.returns-in_err-offset-in-84-2-2
+returns-in_err-offset-in-84-2-2 c =
+    let p = err_from_is_err_and c.from_residual-in_err-offset-in-84-2-2.result c.from_residual-in_err-offset-in-84-2-2.ensures.1 in
+    let e = starts_both c.args.d.now.s.now {x = 84} {y = 118} (search (rules, tests)) (search (rules, tests)) (search (rules, tests)) in
+    rw (p.1, p.2) (unlabelled_second c.args.d.now e c.in_ok-offset-in-84-2.ensures c.in_err-offset-in-84-2-2.ensures)
 
 pub function_or_data-requires : goal.function_or_data-requires
-function_or_data-requires c =
-    (_, fresh_holds c.requires.0 c.requires.1)
+function_or_data-requires c = (_, fresh_holds c.requires.0 c.requires.1)
+
+pub returns-in_default : goal.returns-in_default
+returns-in_default c =
+    let e : starts c.args.d.now.s.now (84 ∷ 104 ∷ []) ≡ false = elim c.in_default.branch [
+      | in_default-via-then-d-lt2 w ↦ starts_unlike c.args.d.now.s.now (λ l i j. search (rules, tests))
+      | in_default-via-else-d-lt2+in-84+in_default-1 w ↦ starts_unlike c.args.d.now.s.now (λ l i j. search (rules, tests))
+      | in_default-via-else-d-lt2+in_default-1 w ↦ starts_unlike c.args.d.now.s.now (λ l i j. search (rules, tests))
+    ] in
+    let f : starts c.args.d.now.s.now (84 ∷ 118 ∷ []) ≡ false = elim c.in_default.branch [
+      | in_default-via-then-d-lt2 w ↦ starts_unlike c.args.d.now.s.now (λ l i j. search (rules, tests))
+      | in_default-via-else-d-lt2+in-84+in_default-1 w ↦ starts_unlike c.args.d.now.s.now (λ l i j. search (rules, tests))
+      | in_default-via-else-d-lt2+in_default-1 w ↦ starts_unlike c.args.d.now.s.now (λ l i j. search (rules, tests))
+    ] in
+    plain_encoded c.requires.0 c.requires.1 e f c.function_or_data.ensures
+
+pub function_or_data-requires-2 : goal.function_or_data-requires-2
+unfolding b
+function_or_data-requires-2 c =
+    let l : Labelled c.args.d.now c.match-this-2.d c.match-this-2.label.now = elim c.match-this-2.branch [
+      | in-84+in_ok-offset-in-84 w ↦
+          let e = starts_both c.args.d.now.s.now {x = 84} {y = 104} (search (rules, tests)) (search (rules, tests)) (search (rules, tests)) in
+          rw (w.d-is, w.label-is) (labelled_h c.args.d.now e w.in_ok-offset-in-84.ensures)
+      | in-84-2+in_ok-offset-in-84-2+in_ok-offset-in-84-2-2 w ↦
+          let e = starts_both c.args.d.now.s.now {x = 84} {y = 118} (search (rules, tests)) (search (rules, tests)) (search (rules, tests)) in
+          rw (w.d-is, w.label-is) (labelled_v c.args.d.now e w.in_ok-offset-in-84-2.ensures w.in_ok-offset-in-84-2-2.ensures)
+    ] in
+    put_prepared c.requires.0 c.requires.1 l c.put.new.self c.put.ensures
+
+pub returns-in_err-n : goal.returns-in_err-n
+unfolding b
+returns-in_err-n c =
+    let l : Labelled c.args.d.now c.match-this-2.d c.match-this-2.label.now = elim c.match-this-2.branch [
+      | in-84+in_ok-offset-in-84 w ↦
+          let e = starts_both c.args.d.now.s.now {x = 84} {y = 104} (search (rules, tests)) (search (rules, tests)) (search (rules, tests)) in
+          rw (w.d-is, w.label-is) (labelled_h c.args.d.now e w.in_ok-offset-in-84.ensures)
+      | in-84-2+in_ok-offset-in-84-2+in_ok-offset-in-84-2-2 w ↦
+          let e = starts_both c.args.d.now.s.now {x = 84} {y = 118} (search (rules, tests)) (search (rules, tests)) (search (rules, tests)) in
+          rw (w.d-is, w.label-is) (labelled_v c.args.d.now e w.in_ok-offset-in-84-2.ensures w.in_ok-offset-in-84-2-2.ensures)
+    ] in
+    let p = err_from_is_err_and c.from_residual-in_err-n.result c.from_residual-in_err-n.ensures.1 in
+    rw (p.1, p.2) (labelled_refused c.requires.0 c.requires.1 l c.put.new.self c.put.ensures c.in_err-n.ensures)
+
+pub overflow_add-n : goal.overflow_add-n
+unfolding b
+overflow_add-n c =
+    let l : Labelled c.args.d.now c.match-this-2.d c.match-this-2.label.now = elim c.match-this-2.branch [
+      | in-84+in_ok-offset-in-84 w ↦
+          let e = starts_both c.args.d.now.s.now {x = 84} {y = 104} (search (rules, tests)) (search (rules, tests)) (search (rules, tests)) in
+          rw (w.d-is, w.label-is) (labelled_h c.args.d.now e w.in_ok-offset-in-84.ensures)
+      | in-84-2+in_ok-offset-in-84-2+in_ok-offset-in-84-2-2 w ↦
+          let e = starts_both c.args.d.now.s.now {x = 84} {y = 118} (search (rules, tests)) (search (rules, tests)) (search (rules, tests)) in
+          rw (w.d-is, w.label-is) (labelled_v c.args.d.now e w.in_ok-offset-in-84-2.ensures w.in_ok-offset-in-84-2-2.ensures)
+    ] in
+    omega (arith, labelled_short c.requires.0 c.requires.1 l c.put.new.self c.put.ensures c.in_ok-n.ensures, l.fits)
 
 pub returns : goal.returns
 unfolding b
 returns c =
-    encodes_by (no_thunk c.args.s.now (sym c.starts_with.ensures ∙ c.if-starts_with.false)
-    (sym c.starts_with-2.ensures ∙ c.if-starts_with-2.false))
-    (encodes_refines (omega arith) (c.function_or_data.ensures _ (fresh_holds c.requires.0 c.requires.1)))
+    let l : Labelled c.args.d.now c.match-this-2.d c.match-this-2.label.now = elim c.match-this-2.branch [
+      | in-84+in_ok-offset-in-84 w ↦
+          let e = starts_both c.args.d.now.s.now {x = 84} {y = 104} (search (rules, tests)) (search (rules, tests)) (search (rules, tests)) in
+          rw (w.d-is, w.label-is) (labelled_h c.args.d.now e w.in_ok-offset-in-84.ensures)
+      | in-84-2+in_ok-offset-in-84-2+in_ok-offset-in-84-2-2 w ↦
+          let e = starts_both c.args.d.now.s.now {x = 84} {y = 118} (search (rules, tests)) (search (rules, tests)) (search (rules, tests)) in
+          rw (w.d-is, w.label-is) (labelled_v c.args.d.now e w.in_ok-offset-in-84-2.ensures w.in_ok-offset-in-84-2-2.ensures)
+    ] in
+    labelled_given c.requires.0 c.requires.1 l c.put.new.self c.put.ensures c.in_ok-n.ensures c.given.ensures

@@ -6,17 +6,17 @@ use Rattle.grammar.proofs.numbers.digit_value.Goals as goal
 pub returns-in-48-to-57 : goal.returns-in-48-to-57
 unfolding if◌then◌otherwise◌ digit_value
 returns-in-48-to-57 c =
-    rw (in_range 48 57 c.args.c (omega arith) (omega arith))
+    rw (in_range 48 57 c.args.c (omega arith) (omega arith)) c.from.ensures
 
 pub returns-in-65-to-90 : goal.returns-in-65-to-90
 unfolding if◌then◌otherwise◌ digit_value
 returns-in-65-to-90 c =
-    rw (over 48 57 c.args.c (omega arith) (omega arith), in_range 65 90 c.args.c (omega arith) (omega arith))
+    rw (over 48 57 c.args.c (omega arith) (omega arith), in_range 65 90 c.args.c (omega arith) (omega arith)) c.from-in-65-to-90.ensures
 
 pub returns-in-97-to-122 : goal.returns-in-97-to-122
 unfolding if◌then◌otherwise◌ digit_value
 returns-in-97-to-122 c =
-    rw (over 48 57 c.args.c (omega arith) (omega arith), over 65 90 c.args.c (omega arith) (omega arith), in_range 97 122 c.args.c (omega arith) (omega arith))
+    rw (over 48 57 c.args.c (omega arith) (omega arith), over 65 90 c.args.c (omega arith) (omega arith), in_range 97 122 c.args.c (omega arith) (omega arith)) c.from-in-97-to-122.ensures
 
 pub returns-in_default : goal.returns-in_default
 unfolding if◌then◌otherwise◌ digit_value

@@ -1,14 +1,8 @@
 use Rattle.std.proofs.Common.{sym, drop, ◌∙◌, arith}
 use Rattle.grammar.specs.Text.{run, digit}
-use Rattle.grammar.specs.Laws.Places.{starts_inside}
 use Rattle.normal_steps.specs.Laws.Leaves.{index_none, index_some, ref_open, ref_wrong, ref_right}
 use Rattle.normal_steps.proofs.marks.reference.Goals as goal
 use Rattle.normal_steps.proofs.marks.reference.Goals.{then-not-here-via-then-not-here, then-not-here-via-else-not-here+then-not-canonical, then-end-at, else-end-at}
-
-pub slice_bounds-canonical-end : goal.slice_bounds-canonical-end
-slice_bounds-canonical-end c =
-    let i = starts_inside c.args.s.now c.digits-number.result.next 95 (sym c.here.ensures ∙ c.if-not-here.false) in
-    omega arith
 
 pub returns-then-not-here : goal.returns-then-not-here
 returns-then-not-here c =
@@ -18,11 +12,6 @@ returns-then-not-here c =
       | then-not-here-via-else-not-here+then-not-canonical w ↦
           ref_wrong c.args.s.now c.args.at _ n (sym c.here.ensures ∙ w.if-not-here.false) (sym w.canonical.ensures ∙ w.if-not-canonical.true)
     ]
-
-pub overflow_add-result : goal.overflow_add-result
-overflow_add-result c =
-    let i = starts_inside c.args.s.now c.digits-number.result.next 95 (sym c.here.ensures ∙ c.if-not-here.false) in
-    omega arith
 
 pub returns : goal.returns
 returns c =

@@ -1,17 +1,11 @@
 use Rattle.std.proofs.Common.{sym, ap, drop, ◌∙◌, arith}
 use Rattle.grammar.specs.Text.{digit}
-use Rattle.grammar.specs.Laws.Places.{starts_inside}
 use Rattle.catalogue.specs.Bytes.{all}
 use Rattle.normal_walk.proofs.Laws.Digits.{run_all}
 use Rattle.normal_steps.specs.Laws.Parts.{run_is}
 use Rattle.normal_steps.specs.Laws.Leaves.{value_open, value_wrong, value_right}
 use Rattle.normal_steps.proofs.marks.value.Goals as goal
 use Rattle.normal_steps.proofs.marks.value.Goals.{then-not-here-via-then-not-here, then-not-here-via-else-not-here+then-not-value_ok}
-
-pub slice_bounds-value_ok-end : goal.slice_bounds-value_ok-end
-slice_bounds-value_ok-end c =
-    let i = starts_inside c.args.s.now c.digits-to.result.next 69 (sym c.here.ensures ∙ c.if-not-here.false) in
-    omega arith
 
 pub value_ok-requires : goal.value_ok-requires
 value_ok-requires c =
@@ -25,11 +19,6 @@ returns-then-not-here c =
       | then-not-here-via-else-not-here+then-not-value_ok w ↦
           value_wrong c.args.s.now c.args.kind c.args.minus c.args.from _ n (sym c.here.ensures ∙ w.if-not-here.false) (sym w.value_ok.ensures ∙ w.if-not-value_ok.true)
     ]
-
-pub overflow_add-result : goal.overflow_add-result
-overflow_add-result c =
-    let i = starts_inside c.args.s.now c.digits-to.result.next 69 (sym c.here.ensures ∙ c.if-not-here.false) in
-    omega arith
 
 pub returns : goal.returns
 returns c =

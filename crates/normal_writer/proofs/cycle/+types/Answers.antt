@@ -237,7 +237,7 @@ parts-returns-else-not-class-clause-reads t c =
     parts_by c.args.w.now c.more-in-S.new.w c.in_ok-get.ensures.lookup.3 (lead_is _ S (sym c.in-S.is ∙ c.lead_of.ensures))
     (parts_referred c.args.w.now c.first_reference.new.self (first_referred c.args.w.now c.first_reference.new.self c.in_ok-t-in-S.ensures.reads)
     c.tag_of-tag.ensures c.more-in-S.new.w c.in_ok-t-in-S.ensures.same_symbol
-    (sym c.class.ensures ∙ c.if-not-class.false) c.more-in-S.ensures.reads)
+    (sym c.class.ensures ∙ c.if-not-class.false) (rw c.from.ensures at c.more-in-S.ensures.reads))
 
 pub parts-returns-in_default : goal.parts-returns-in_default
 parts-returns-in_default t c =
@@ -283,8 +283,8 @@ ty-literal-requires t c =
 pub ty-returns-in-Letter-clause-reads : goal.ty-returns-in-Letter-clause-reads
 ty-returns-in-Letter-clause-reads t c =
     let a = lead_is _ Letter (sym c.in-Letter.is ∙ c.lead_of.ensures) in
-    type_by c.args.w.now c.copy_byte.new.self c.in_ok-c.ensures.lookup.3 a.1.0 (letter_answer c.args.w.now c.copy_byte.new.self a.0 _
-    (omega (arith, letter_below a.0, a.1.1)) c.copy_byte.ensures.copies)
+    rw c.from.ensures (type_by c.args.w.now c.copy_byte.new.self c.in_ok-c.ensures.lookup.3 a.1.0 (letter_answer c.args.w.now c.copy_byte.new.self a.0 _
+    (omega (arith, letter_below a.0, a.1.1)) c.copy_byte.ensures.copies))
 
 pub ty-returns-in-Wrap-clause-reads : goal.ty-returns-in-Wrap-clause-reads
 ty-returns-in-Wrap-clause-reads t c =
@@ -318,9 +318,9 @@ pub with_args-returns-then-not-here-clause-reads : goal.with_args-returns-then-n
 with_args-returns-then-not-here-clause-reads t c =
     without_args c.args.w.now c.args.t c.args.from (sym c.here.ensures ∙ c.if-not-here.true) c.requires.0.0 c.requires.0.1
 
-pub with_args-returns-then-tag_of-clause-reads : goal.with_args-returns-then-tag_of-clause-reads
-with_args-returns-then-tag_of-clause-reads t c =
-    args_barred c.args.w.now c.args.t c.args.from (sym c.here.ensures ∙ c.if-not-here.false) c.tag_of.ensures (ne_eqb _ _ c.if-tag_of.true)
+pub with_args-returns-then-tag_of-from-clause-reads : goal.with_args-returns-then-tag_of-from-clause-reads
+with_args-returns-then-tag_of-from-clause-reads t c =
+    args_barred c.args.w.now c.args.t c.args.from (sym c.here.ensures ∙ c.if-not-here.false) c.tag_of.ensures (ne_eqb _ _ (rw c.from.ensures at c.if-tag_of-from.true))
 
 pub with_args-copy_byte-requires : goal.with_args-copy_byte-requires
 with_args-copy_byte-requires t c =
@@ -336,7 +336,7 @@ with_args-args-requires t c =
 pub with_args-returns-in_err-u-clause-reads : goal.with_args-returns-in_err-u-clause-reads
 with_args-returns-in_err-u-clause-reads t c =
     rw c.from_residual.ensures (args_refused c.args.w.now c.args.t c.args.from (sym c.here.ensures ∙ c.if-not-here.false) c.tag_of.ensures
-    (eq-eqb _ _ c.if-tag_of.false) c.copy_byte.new.self c.args-2.new.w
+    (eq-eqb _ _ (c.if-tag_of-from.false ∙ c.from.ensures)) c.copy_byte.new.self c.args-2.new.w
     c.copy_byte.ensures.same_symbol c.copy_byte.ensures.copies c.in_err-u.ensures.reads)
 
 pub with_args-close-requires : goal.with_args-close-requires
@@ -352,8 +352,8 @@ with_args-enter-requires t c =
 
 pub with_args-returns-clause-reads : goal.with_args-returns-clause-reads
 with_args-returns-clause-reads t c =
-    args_answer c.args.w.now c.args.t c.args.from (sym c.here.ensures ∙ c.if-not-here.false) c.tag_of.ensures (eq-eqb _ _ c.if-tag_of.false) c.copy_byte.new.self
-    c.args-2.new.w
+    args_answer c.args.w.now c.args.t c.args.from (sym c.here.ensures ∙ c.if-not-here.false) c.tag_of.ensures
+    (eq-eqb _ _ (c.if-tag_of-from.false ∙ c.from.ensures)) c.copy_byte.new.self c.args-2.new.w
     c.copy_byte.ensures.same_symbol c.copy_byte.ensures.copies c.close.new.self c.enter.new.self c.requires.0.1 c.in_ok-u.ensures.reads
     c.close.ensures.closes c.enter.ensures.does
 

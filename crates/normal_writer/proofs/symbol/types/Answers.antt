@@ -17,10 +17,10 @@ pub tag_of-requires : goal.tag_of-requires
 tag_of-requires c =
     let a = turn_told c.loop-w.w (turned_from c.loop-w.invariant c.requires) c.loop-w-test.true c.ty.new.w c.in_ok-t.ensures.reads in (a.state, a.holds)
 
-pub returns-then-tag_of-clause-ends : goal.returns-then-tag_of-clause-ends
-returns-then-tag_of-clause-ends c =
+pub returns-then-tag_of-from-clause-ends : goal.returns-then-tag_of-from-clause-ends
+returns-then-tag_of-from-clause-ends c =
     λ σ h m k. ends_broken c.ty.new.w (turn_lit c.loop-w.w (c.loop-w.invariant.goes σ h m k) c.loop-w-test.true c.ty.new.w c.in_ok-t.ensures.reads c.tag_of.ensures
-    c.if-tag_of.true)
+    (c.if-tag_of-from.true ∙ c.from.ensures))
 
 pub loop-w-smaller : goal.loop-w-smaller
 loop-w-smaller c =
@@ -32,7 +32,7 @@ loop-w-preserved c =
     record {
       source = c.in_ok-t.ensures.same_symbol ∙ c.loop-w.invariant.source;
       goes = λ σ h m k. turn_more c.loop-w.w (c.loop-w.invariant.goes σ h m k) c.loop-w-test.true c.ty.new.w c.in_ok-t.ensures.reads c.tag_of.ensures
-          c.in_ok-t.ensures.same_symbol c.if-tag_of.false;
+          c.in_ok-t.ensures.same_symbol (rw c.from.ensures at c.if-tag_of-from.false);
     }
 
 pub returns-clause-ends : goal.returns-clause-ends

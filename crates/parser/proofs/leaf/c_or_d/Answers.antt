@@ -1,14 +1,15 @@
-use mathlib.Core.Bool.{or-false}
-use borrow.Author.Tests.{ne_eqb}
+use Rattle.std.proofs.Common.{rules, arith}
 use Rattle.grammar.specs.Text.{b, holds}
 use Rattle.parser.proofs.leaf.c_or_d.Goals as goal
 
-pub returns-then-c-eq67 : goal.returns-then-c-eq67
+pub returns-in-67 : goal.returns-in-67
 unfolding holds b
-returns-then-c-eq67 c =
-    rw c.if-c-eq67.true
+returns-in-67 c = search rules
 
-pub returns : goal.returns
+pub returns-in_default : goal.returns-in_default
 unfolding holds b
-returns c =
-    rw (ne_eqb _ _ c.if-c-eq67.false, or-false)
+returns-in_default c = grind arith
+
+pub returns-in_default-2 : goal.returns-in_default-2
+unfolding holds b
+returns-in_default-2 c = grind arith

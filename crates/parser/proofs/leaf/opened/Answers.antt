@@ -1,19 +1,16 @@
-use borrow.Author.Tests.{ne_eqb}
+use Rattle.std.proofs.Common.{rules}
 use Rattle.grammar.specs.Text.{if◌then◌otherwise◌}
 use Rattle.grammar.specs.Grammar.{open_after}
 use Rattle.parser.proofs.leaf.opened.Goals as goal
 
-pub returns-then-c-eq88 : goal.returns-then-c-eq88
+pub returns-in-88 : goal.returns-in-88
 unfolding open_after if◌then◌otherwise◌
-returns-then-c-eq88 c =
-    rw c.if-c-eq88.true
+returns-in-88 c = search rules
 
-pub returns-then-c-eq69 : goal.returns-then-c-eq69
+pub returns-in-69 : goal.returns-in-69
 unfolding open_after if◌then◌otherwise◌
-returns-then-c-eq69 c =
-    rw c.if-c-eq69.true
+returns-in-69 c = search rules
 
-pub returns : goal.returns
+pub returns-in_default : goal.returns-in_default
 unfolding open_after if◌then◌otherwise◌
-returns c =
-    rw (ne_eqb _ _ c.if-c-eq88.false, ne_eqb _ _ c.if-c-eq69.false)
+returns-in_default c = search rules

@@ -1,5 +1,4 @@
-use mathlib.Core.Path.{sym, ◌∙◌}
-use native.Mathlib.Omega.{arith}
+use Rattle.std.proofs.Common.{sym, ◌∙◌, arith}
 use Rattle.grammar.specs.Text.{if◌then◌otherwise◌}
 use Rattle.grammar.specs.Laws.Places.{starts_inside}
 use Rattle.parser.specs.Source.{behind_number}
@@ -11,8 +10,8 @@ returns-then-here c =
     let e = sym c.here.ensures ∙ c.if-here.true in
     (rw (← c.digits-end.ensures.behind, e), omega (arith, starts_inside c.args.s.now c.digits-end.result.next 95 e))
 
-pub returns : goal.returns
+pub returns-else-here : goal.returns-else-here
 unfolding behind_number if◌then◌otherwise◌
-returns c =
+returns-else-here c =
     let e = sym c.here.ensures ∙ c.if-here.false in
     (rw (← c.digits-end.ensures.behind, e), omega (arith, c.digits-end.ensures.inside))

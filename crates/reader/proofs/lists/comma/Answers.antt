@@ -1,13 +1,7 @@
-use Rattle.std.proofs.Common.{arith}
 use Rattle.grammar.specs.Text.{b}
-use Rattle.reader.specs.Laws.Separators.{puts_none, puts_some}
+use Rattle.reader.specs.Laws.Separators.{put_some}
 use Rattle.reader.proofs.lists.comma.Goals as goal
 
-pub returns-then-n-eq0 : goal.returns-then-n-eq0
-returns-then-n-eq0 c =
-    puts_none (b ", ") c.args.n (omega arith) c.requires
-
-pub returns : goal.returns
+pub returns-then-n-gt0 : goal.returns-then-n-gt0
 unfolding b
-returns c =
-    puts_some (b ", ") c.args.n (omega arith) c.put.ensures
+returns-then-n-gt0 c = put_some (b ", ") c.args.n c.if-n-gt0.true c.put.ensures

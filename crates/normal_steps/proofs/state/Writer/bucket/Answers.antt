@@ -8,7 +8,7 @@ pub loop-c-preserved : goal.loop-c-preserved
 unfolding summed
 loop-c-preserved c =
     let t = part c.args.self.now.s.now c.args.x.word.from c.args.x.word.to in
-    (omega arith, sym (ap (summed c.loop-c.sum) (rest_some t c.loop-c.c-index c.loop-c-test.true)) ∙ c.loop-c.invariant.1)
+    rw c.from.ensures (omega arith, sym (ap (summed c.loop-c.sum) (rest_some t c.loop-c.c-index c.loop-c-test.true)) ∙ c.loop-c.invariant.1)
 
 pub returns : goal.returns
 unfolding summed bucket_of

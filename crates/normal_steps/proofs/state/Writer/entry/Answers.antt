@@ -3,4 +3,4 @@ use Rattle.normal_steps.specs.Laws.Slices.{entry_is}
 use Rattle.normal_steps.proofs.state.Writer.entry.Goals as goal
 
 pub returns : goal.returns
-returns c σ h = entry_is h c.args.i (omega arith)
+returns c σ h = rw c.from.ensures (entry_is h c.args.i (omega arith))

@@ -1,14 +1,11 @@
-use Rattle.std.proofs.Common.{refl, ap, sym, ◌∙◌, length, drop, arith}
-use Rattle.grammar.specs.Text.{Text}
-use Rattle.catalogue.specs.Spelling.{name_bytes}
+use Rattle.std.proofs.Common.{refl, ap, ◌∙◌, arith}
 use Rattle.normal_walk.specs.Walk.{name}
-use Rattle.normal_nodes.specs.Nodes.{root_node, enter, put, go_to}
-use Rattle.normal_steps.specs.Parts.{part}
+use Rattle.normal_nodes.specs.Nodes.{root_node, enter}
 use Rattle.normal_steps.specs.Carries.{tells, refuses}
-use Rattle.normal_steps.specs.Laws.Limits.{room_less, room_after, stretch_same, took_more, spent}
+use Rattle.normal_steps.specs.Laws.Limits.{room_after, stretch_same, took_more, spent}
 use Rattle.normal_steps.specs.Laws.Told.{told, by}
-use Rattle.normal_steps.specs.Laws.Steps.{entered_is, with_none, with_some}
-use Rattle.normal_steps.specs.Laws.LeafSteps.{same_part, name_size, name_fits, name_wrote, name_held, name_room, name_stretch}
+use Rattle.normal_steps.specs.Laws.Steps.{entered_is, with_none}
+use Rattle.normal_steps.specs.Laws.LeafSteps.{name_size, name_fits, name_wrote, name_held, name_reads, name_noted, name_room, name_stretch}
 use Rattle.normal_steps.specs.Laws.Slices.{numbered_note}
 use Rattle.normal_steps.proofs.state.Writer.first_name.Goals as goal
 
@@ -20,18 +17,15 @@ put_name-requires-clause-room c = name_fits c.in_ok-word.ensures c.requires.1 re
 
 pub note-u-requires : goal.note-u-requires
 note-u-requires c =
-    let x = c.in_ok-word.ensures in
-    let h = c.requires.1 in
-    let y = c.put_name.ensures.puts in
-    let e = c.put_name.ensures.same_symbol in
-    ((omega arith, omega arith), ((omega arith, omega (arith, x.inside, ap length e)), (room_less (name_room x h refl y.0), (_, name_held x h refl y.1))))
+    let y = c.put_name.ensures in
+    ((omega arith, omega arith), name_noted c.in_ok-word.ensures c.requires.1 refl y.puts.0 y.same_symbol y.puts.1)
 
 pub enter-requires : goal.enter-requires
 enter-requires c =
     let x = c.in_ok-word.ensures in
     let h = c.requires.1 in
     let y = c.put_name.ensures.puts in
-    let t = told (c.note-u.ensures.steps _ (name_held x h refl y.1)) in
+    let t = told (rw c.from.ensures at (c.note-u.ensures.steps _ (name_held x h refl y.1))) in
     let l = t.1.0 in
     (numbered_note _ _ t.0 t.1.1.0, (stretch_same (name_stretch x h refl y.0) l, (room_after (name_room x h refl y.0) l, (_, t.0))))
 
@@ -39,13 +33,10 @@ pub returns-clause-reads : goal.returns-clause-reads
 returns-clause-reads c σ h =
     let x = c.in_ok-word.ensures in
     let y = c.put_name.ensures.puts in
-    let e = c.put_name.ensures.same_symbol in
     let z = name_size x in
     let w = name_wrote x h refl y.0 in
-    let t = told (c.note-u.ensures.steps _ (name_held x h refl y.1)) in
+    let t = told (rw c.from.ensures at (c.note-u.ensures.steps _ (name_held x h refl y.1))) in
     let v = c.enter.ensures.does _ t.0 in
     let l = took_more c.args.self.now.state.out t.1.0 v.limits (omega arith) (omega (arith, t.1.0.out)) in
-    let σ' = put (name_bytes (part c.args.self.now.s.now c.in_ok-word.word.from c.in_ok-word.word.to)) (go_to (drop c.in_ok-word.word.to c.args.self.now.s.now) σ) in
-    let k = ap (λ (n : Text). enter (root_node n) c.args.self.now.state.out σ') (sym (same_part _ _ e)) in
-    by (with_some _ (ap name h.rest ∙ x.is) ∙ k ∙ entered_is (root_node (part c.put_name.new.self.s.now c.in_ok-word.word.from c.in_ok-word.word.to)) c.args.self.now.state.out σ' t.1.1.0)
+    by (name_reads x h refl (λ n. enter (root_node n) c.args.self.now.state.out) c.put_name.ensures.same_symbol ∙ entered_is _ _ _ t.1.1.0)
     (tells v.holds (omega arith, spent w l (omega arith) (omega arith) (omega arith) (omega (arith, h.short, w.out))) t.1.1.1)

@@ -49,4 +49,4 @@ returns-clause-reads c σ h =
     let j = x.1 in
     by (literal_is h v x.1 c.signed.ensures (same_part _ _ (d.same_symbol ∙ b.same_symbol)) a)
     (within (λ q l. let g = l.at in (omega arith, spent w l (omega arith) (omega arith) (omega arith) (omega (arith, h.short, w.out))))
-    (c.note-u.ensures.steps _ m))
+    (rw c.from.ensures at (c.note-u.ensures.steps _ m)))

@@ -16,7 +16,7 @@ loop-i-init c =
     let x = node_of w.s.now c.args.x in
     let n = w.state.nodes in
     let P : ℕ → Type 0 = λ k. Left (node_at w.s.now w.ends.now w.words.now) n x n (get_or w.chains.now k 0) in
-    (omega arith, subst P (sym c.requires.1.1) (left_first c.requires.0.linked x))
+    rw c.from-i.ensures (omega arith, subst P (sym c.requires.1.1) (left_first c.requires.0.linked x))
 
 pub returns-then-same_row : goal.returns-then-same_row
 returns-then-same_row c =
@@ -25,6 +25,7 @@ returns-then-same_row c =
 pub loop-i-preserved : goal.loop-i-preserved
 loop-i-preserved c =
     let v = c.loop-i.invariant in
+    rw c.from-i-in-loop-i.ensures
     (omega (arith, v.0), left_next c.requires.0.linked (node_of c.args.self.now.s.now c.args.x) v.0 v.1 (omega arith) (sym c.same_row.ensures ∙ c.if-same_row.false))
 
 pub returns : goal.returns

@@ -1,14 +1,11 @@
-use Rattle.std.proofs.Common.{refl, ap, sym, ◌∙◌, length, drop, arith}
-use Rattle.grammar.specs.Text.{Text}
-use Rattle.catalogue.specs.Spelling.{name_bytes}
+use Rattle.std.proofs.Common.{refl, ap, ◌∙◌, arith}
 use Rattle.normal_walk.specs.Walk.{name}
-use Rattle.normal_nodes.specs.Nodes.{sub_node, put, go_to}
-use Rattle.normal_steps.specs.Parts.{part}
+use Rattle.normal_nodes.specs.Nodes.{sub_node}
 use Rattle.normal_steps.specs.Carries.{refuses, notes_node}
-use Rattle.normal_steps.specs.Laws.Limits.{room_less, spent}
+use Rattle.normal_steps.specs.Laws.Limits.{spent}
 use Rattle.normal_steps.specs.Laws.Told.{by, within}
-use Rattle.normal_steps.specs.Laws.Steps.{with_none, with_some}
-use Rattle.normal_steps.specs.Laws.LeafSteps.{same_part, name_size, name_fits, name_wrote, name_held, name_room}
+use Rattle.normal_steps.specs.Laws.Steps.{with_none}
+use Rattle.normal_steps.specs.Laws.LeafSteps.{name_size, name_fits, name_wrote, name_held, name_reads, name_noted}
 use Rattle.normal_steps.proofs.state.Writer.part.Goals as goal
 
 pub returns-in_err-word-clause-reads : goal.returns-in_err-word-clause-reads
@@ -19,20 +16,15 @@ put_name-requires-clause-room c = name_fits c.in_ok-word.ensures c.requires.1.1 
 
 pub note-u-requires : goal.note-u-requires
 note-u-requires c =
-    let x = c.in_ok-word.ensures in
-    let h = c.requires.1.1 in
-    let y = c.put_name.ensures.puts in
-    let e = c.put_name.ensures.same_symbol in
-    ((omega arith, omega arith), ((omega arith, omega (arith, x.inside, ap length e)), (room_less (name_room x h refl y.0), (_, name_held x h refl y.1))))
+    let y = c.put_name.ensures in
+    ((omega arith, omega arith), name_noted c.in_ok-word.ensures c.requires.1.1 refl y.puts.0 y.same_symbol y.puts.1)
 
 pub returns-clause-reads : goal.returns-clause-reads
 returns-clause-reads c σ h =
     let x = c.in_ok-word.ensures in
     let y = c.put_name.ensures.puts in
-    let e = c.put_name.ensures.same_symbol in
     let z = name_size x in
     let w = name_wrote x h refl y.0 in
-    let σ' = put (name_bytes (part c.args.self.now.s.now c.in_ok-word.word.from c.in_ok-word.word.to)) (go_to (drop c.in_ok-word.word.to c.args.self.now.s.now) σ) in
-    by (with_some _ (ap name h.rest ∙ x.is) ∙ ap (λ (n : Text). notes_node (sub_node c.args.t n) σ') (sym (same_part _ _ e)))
+    by (name_reads x h refl (λ n. notes_node (sub_node c.args.t n)) c.put_name.ensures.same_symbol)
     (within (λ q l. let g = l.at in (omega arith, spent w l (omega arith) (omega arith) (omega arith) (omega (arith, h.short, w.out))))
-    (c.note-u.ensures.steps _ (name_held x h refl y.1)))
+    (rw c.from.ensures at (c.note-u.ensures.steps _ (name_held x h refl y.1))))

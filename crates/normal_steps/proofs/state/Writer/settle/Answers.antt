@@ -6,13 +6,14 @@ use Rattle.normal_steps.proofs.state.Writer.settle.Goals as goal
 pub write_reference-self-requires : goal.write_reference-self-requires
 write_reference-self-requires c =
     let h = c.requires.1.1.1 in
-    let r = reference_room h c.args.d c.args.from c.requires.0 c.requires.1.0 c.in-Some.ensures in
-    (index_most h c.args.d c.args.from c.requires.0 c.requires.1.0 c.in-Some.ensures, omega (arith, out_size h, r))
+    let k = rw c.from-kept.ensures at c.in-Some.ensures in
+    let r = reference_room h c.args.d c.args.from c.requires.0 c.requires.1.0 k in
+    (index_most h c.args.d c.args.from c.requires.0 c.requires.1.0 k, omega (arith, out_size h, r))
 
 pub returns-in-Some-clause-does : goal.returns-in-Some-clause-does
 returns-in-Some-clause-does c σ h =
-    settle_here h c.args.d c.args.from c.requires.0 c.requires.1.0 c.in-Some.ensures c.write_reference-self.ensures
+    settle_here h c.args.d c.args.from c.requires.0 c.requires.1.0 (rw c.from-kept.ensures at c.in-Some.ensures) c.write_reference-self.ensures
 
 pub returns-in_default-clause-does : goal.returns-in_default-clause-does
 returns-in_default-clause-does c σ h =
-    settle_not h c.args.d c.args.from c.requires.0 c.requires.1.0 (omega (arith, c.in_default.ensures))
+    settle_not h c.args.d c.args.from c.requires.0 c.requires.1.0 (omega (arith, c.from-kept.ensures, c.in_default.ensures))

@@ -5,7 +5,7 @@ use Rattle.normal_steps.proofs.state.Writer.tag_of.Goals as goal
 pub returns-in-Some : goal.returns-in-Some
 returns-in-Some c σ h =
     let (l, e) = c.in-Some.ensures in
-    rw e (tag_here h c.args.d l (omega arith))
+    rw (c.from.ensures, e) (tag_here h c.args.d l (omega arith))
 
 pub returns-in_default : goal.returns-in_default
 returns-in_default c σ h =

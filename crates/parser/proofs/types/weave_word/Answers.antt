@@ -1,6 +1,0 @@
-use Rattle.parser.specs.Laws.Holds.{puts_by}
-use Rattle.parser.proofs.types.weave_word.Goals as goal
-
-pub returns : goal.returns
-returns c =
-    puts_by c.raised.ensures c.weave.ensures

@@ -1,0 +1,7 @@
+use Rattle.grammar.specs.Text.{b}
+use Rattle.reader.specs.Laws.Separators.{put_some}
+use Rattle.reader.proofs.lists.Parts.separate.Goals as goal
+
+pub returns-then-self-gt0 : goal.returns-then-self-gt0
+unfolding b
+returns-then-self-gt0 c = put_some (b "::") c.args.self.count c.if-self-gt0.true c.put.ensures
