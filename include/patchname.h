@@ -2,7 +2,7 @@
  * it.
  *
  * The functions allocate nothing, call nothing of the operating system and keep nothing between calls: threads may call them at the same time,
- * each with slices of its own. Nothing proves a bound of the machine stack; the deepest symbols known are answered with 768 KiB
+ * each with slices of its own. Nothing proves a bound of the machine stack; the deepest symbols known are answered with 256 KiB
  * (`tools/stack`).
  */
 #ifndef PATCHNAME_H

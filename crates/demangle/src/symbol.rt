@@ -6,7 +6,6 @@ ghost use Rattle.demangle.specs.Symbols.{Fronts};
 
 use grammar::refusal::Refusal;
 use grammar::state::Parser;
-use grammar::text as bytes;
 
 // The place behind _Z or __Z, or why there is none.
 pub fn behind_front(s: &[u8]) -> Result<usize, Refusal>
@@ -18,10 +17,10 @@ pub fn behind_front(s: &[u8]) -> Result<usize, Refusal>
     if !s.is_ascii() {
         return Err(Refusal::HighByte);
     }
-    if bytes::starts_with(s, 0, b"_Z") {
+    if s.starts_with(b"_Z") {
         return Ok(2);
     }
-    if bytes::starts_with(s, 0, b"__Z") {
+    if s.starts_with(b"__Z") {
         return Ok(3);
     }
     Err(Refusal::NoFront)

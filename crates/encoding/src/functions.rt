@@ -71,10 +71,7 @@ fn lone_void(d: &Demangler, list: Joined) -> bool
     requires { (d.now.state.at ≤ length d.now.s.now) × (min list.n most_entry_bytes ≤ d.now.stack.top) }
     ensures { LoneVoid d.now list result }
 {
-    list.count == 1
-        && list.n == 4
-        && d.state.at == d.s.len()
-        && d.stack.newest(4) == b"void".as_slice()
+    d.state.at == d.s.len() && list.lone_void(&d.stack)
 }
 
 // A text of n bytes is returned with what the qualifiers print.

@@ -52,11 +52,7 @@ impl Parser {
     pub fn peek(self, s: &[u8]) -> Option<u8>
         ensures { result ≡ peeked (drop self.at s.now) }
     {
-        if self.at < s.len() {
-            Some(s[self.at])
-        } else {
-            None
-        }
+        s.get(self.at).copied()
     }
 
     // The next byte, and the state behind it.

@@ -137,6 +137,11 @@ pub record Spent (k c b : ℕ) (p p' : State) : Type 0 where
 
 -- ---------------------------------------------------------------- what a step promises
 
+-- the symbol stays, and A holds
+pub record Kept (w w' : Writer) (A : Type 0) : Type 0 where
+  pub symbol : w'.s.now ≡ w.s.now
+  pub is : A
+
 -- the answer is that of the walk with numbers, and L holds of the next state
 pub data Refines (s : Text) (L : State → Type 0) (ws : Work) (p : State) : Option ℕ → Got ℕ → Type 0 where
   tells : {d : ℕ} {σ : Notes} → Carries s ws p σ → L p → d < most_number → Refines s L ws p (Some d) (got d σ)

@@ -1,12 +1,15 @@
 // The steps of the writing that call no reading back.
-ghost use Rattle.std.specs.Prelude.{◌||◌, ◌≡◌, ◌≤◌, ◌<◌, eqb, length};
+ghost use Rattle.std.specs.Prelude.{◌||◌, [], ◌∷◌, ◌≡◌, ◌≤◌, ◌<◌, eqb, length, drop};
+ghost use Rattle.grammar.specs.Text.{starts};
+ghost use Rattle.grammar.specs.States.{peeked};
 ghost use Rattle.normal_nodes.specs.Nodes.{note_at_name, at_reference, a_bare, a_class, may_stand, signed_kind, entered, entered_nested};
-ghost use Rattle.normal_steps.specs.Carries.{Ready, Numbered, Stretch, Room, Spare, Reads, Steps, Does, Copies, Closes, most_number};
+ghost use Rattle.normal_steps.specs.Carries.{Ready, Numbered, Stretch, Room, Spare, Kept, Reads, Steps, Does, Copies, Closes, most_number};
 ghost use Rattle.normal_steps.specs.Carries.{at_literal, at_part, counts_arg, wraps};
 
 use crate::state::{Row, Writer};
 use crate::{marks, words};
 use grammar::part::Part;
+use grammar::text;
 
 // The number of a literal's kind and sign.
 fn signed(kind: u8, minus: bool) -> usize
@@ -50,11 +53,28 @@ pub fn class(tag: usize) -> bool
 }
 
 impl Writer<'_> {
+    // The next byte.
+    pub fn peek(&self) -> Option<u8>
+        ensures { result ≡ peeked (drop self.now.state.at self.now.s.now) }
+    {
+        if self.state.at < self.s.len() {
+            Some(self.s[self.state.at])
+        } else {
+            None
+        }
+    }
+
+    // Whether it is c.
+    pub fn here(&self, c: u8) -> bool
+        ensures { result ≡ starts (drop self.now.state.at self.now.s.now) (c ∷ []) }
+    {
+        text::here(self.s, self.state.at, c)
+    }
+
     // The next byte is written, and taken.
     pub fn copy_byte(&mut self)
         requires { (self.old.state.at < length self.old.s.now) × Ready self.old }
-        ensures copies { Copies self.old self.new }
-        ensures same_symbol { self.new.s.now ≡ self.old.s.now }
+        ensures { Kept self.old self.new (Copies self.old self.new) }
     {
         let at = self.state.at;
         let c = self.s[at];
@@ -65,8 +85,7 @@ impl Writer<'_> {
     // E is written.
     pub fn close(&mut self)
         requires { (Spare 1 self.old.state) × Ready self.old }
-        ensures closes { Closes self.old self.new }
-        ensures same_symbol { self.new.s.now ≡ self.old.s.now }
+        ensures { Kept self.old self.new (Closes self.old self.new) }
     {
         self.put_byte(b'E');
     }
@@ -74,8 +93,7 @@ impl Writer<'_> {
     // <source-name>, a first part
     pub fn first_name(&mut self) -> Option<usize>
         requires { Ready self.old }
-        ensures reads { Reads 2 self.old.state.out (note_at_name self.old.state.out) self.old self.new result }
-        ensures same_symbol { self.new.s.now ≡ self.old.s.now }
+        ensures { Kept self.old self.new (Reads 2 self.old.state.out (note_at_name self.old.state.out) self.old self.new result) }
     {
         let from = self.state.out;
         let word = words::source_name(self.s, self.state.at)?;
@@ -93,8 +111,7 @@ impl Writer<'_> {
     // [<seq-id>] _, behind S: an entry of the table
     pub fn first_reference(&mut self) -> Option<usize>
         requires { (Spare 4 self.old.state) × Ready self.old }
-        ensures reads { Reads 1 self.old.state.out (at_reference self.old.state.out) self.old self.new result }
-        ensures same_symbol { self.new.s.now ≡ self.old.s.now }
+        ensures { Kept self.old self.new (Reads 1 self.old.state.out (at_reference self.old.state.out) self.old self.new result) }
     {
         let from = self.state.out;
         let reference = marks::reference(self.s, self.state.at)?;
@@ -110,8 +127,7 @@ impl Writer<'_> {
     // A literal, behind L
     pub fn literal(&mut self) -> Option<usize>
         requires { Ready self.old }
-        ensures reads { Reads 1 self.old.state.out at_literal self.old self.new result }
-        ensures same_symbol { self.new.s.now ≡ self.old.s.now }
+        ensures { Kept self.old self.new (Reads 1 self.old.state.out at_literal self.old self.new result) }
     {
         let at = self.state.at;
         let literal = marks::literal(self.s, at)?;
@@ -133,8 +149,7 @@ impl Writer<'_> {
     // One more part behind what has the number t
     pub fn part(&mut self, t: usize) -> Option<usize>
         requires { (t < most_number) × Ready self.old }
-        ensures reads { Reads 1 self.old.state.out (at_part t) self.old self.new result }
-        ensures same_symbol { self.new.s.now ≡ self.old.s.now }
+        ensures { Kept self.old self.new (Reads 1 self.old.state.out (at_part t) self.old self.new result) }
     {
         let word = words::source_name(self.s, self.state.at)?;
         self.state.at = word.to;
@@ -150,8 +165,7 @@ impl Writer<'_> {
     // The argument x behind what has the number t
     pub fn arg(&mut self, t: usize, x: usize) -> usize
         requires { (t < most_number) × ((x < most_number) × ((Room 1 0 self.old.state) × Ready self.old)) }
-        ensures steps { Steps 1 0 0 self.old.state.out (counts_arg t x) self.old self.new (Some result) }
-        ensures same_symbol { self.new.s.now ≡ self.old.s.now }
+        ensures { Kept self.old self.new (Steps 1 0 0 self.old.state.out (counts_arg t x) self.old self.new (Some result)) }
     {
         let u = self.note(Row {
             tag: x + Writer::LEAST,
@@ -165,8 +179,7 @@ impl Writer<'_> {
     // A wrapper, whose byte is c, on what has the number t
     pub fn wrap(&mut self, c: u8, t: usize, from: usize) -> Option<usize>
         requires { (t < most_number) × ((Stretch from self.old.state) × ((Room 1 1 self.old.state) × Ready self.old)) }
-        ensures steps { Steps 1 1 5 from (wraps c t from) self.old self.new result }
-        ensures same_symbol { self.new.s.now ≡ self.old.s.now }
+        ensures { Kept self.old self.new (Steps 1 1 5 from (wraps c t from) self.old self.new result) }
     {
         if !may_stand(c, self.tag_of(t)) {
             return None;
@@ -183,8 +196,7 @@ impl Writer<'_> {
     // What has the number u enters the table.
     pub fn enter(&mut self, u: usize, from: usize)
         requires { (Numbered self.old.state u) × ((Stretch from self.old.state) × ((Room 0 1 self.old.state) × Ready self.old)) }
-        ensures does { Does 0 1 5 from (entered u from) self.old self.new }
-        ensures same_symbol { self.new.s.now ≡ self.old.s.now }
+        ensures { Kept self.old self.new (Does 0 1 5 from (entered u from) self.old self.new) }
     {
         self.settle(u, from);
         self.push(u);
@@ -193,8 +205,7 @@ impl Writer<'_> {
     // A nested type enters the table, where the newest entry is another.
     pub fn enter_nested(&mut self, u: usize, from: usize)
         requires { (Numbered self.old.state u) × ((Stretch from self.old.state) × ((Room 0 1 self.old.state) × Ready self.old)) }
-        ensures does { Does 0 1 5 from (entered_nested u from) self.old self.new }
-        ensures same_symbol { self.new.s.now ≡ self.old.s.now }
+        ensures { Kept self.old self.new (Does 0 1 5 from (entered_nested u from) self.old self.new) }
     {
         if self.tag_of(u) == usize::from(b'N') && self.newest(u) {
             self.settle(u, from);

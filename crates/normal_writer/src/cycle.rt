@@ -4,10 +4,9 @@ ghost use Rattle.std.specs.Prelude.{◌≡◌, ℕ, ◌<◌, length};
 ghost use Rattle.catalogue.specs.Tree.{Wrap};
 ghost use Rattle.catalogue.specs.Recogniser.{lead_wrap, lead_digit, lead_S, lead_N};
 ghost use Rattle.normal_nodes.specs.Nodes.{note_type, note_args, note_parts, note_more};
-ghost use Rattle.normal_steps.specs.Carries.{Ready, Stretch, Fueled, most_number};
+ghost use Rattle.normal_steps.specs.Carries.{Ready, Stretch, Kept, Fueled, most_number};
 ghost use Rattle.normal_writer.specs.Cycle.{Leads, WithArgs};
 
-use grammar::text;
 use normal_steps::lead::{self, Lead};
 use normal_steps::state::Writer;
 use normal_steps::steps;
@@ -16,10 +15,9 @@ use normal_steps::steps;
 #[cycle(types)]
 pub fn ty(w: &mut Writer) -> Option<usize>
     requires { Ready w.old }
-    ensures reads { Fueled 1 4 w.old.state.out 0 note_type w.old w.new result }
-    ensures same_symbol { w.new.s.now ≡ w.old.s.now }
+    ensures { Kept w.old w.new (Fueled 1 4 w.old.state.out 0 note_type w.old w.new result) }
 {
-    let c = *w.s.get(w.state.at)?;
+    let c = w.peek()?;
     match lead::lead_of(c) {
         Lead::Letter => {
             w.copy_byte();
@@ -41,8 +39,7 @@ pub fn ty(w: &mut Writer) -> Option<usize>
 #[cycle(types)]
 fn wrap(w: &mut Writer, c: u8) -> Option<usize>
     requires { (w.old.state.at < length w.old.s.now) × Ready w.old }
-    ensures reads { (q : Wrap) → Leads (lead_wrap q) c w.old w.new result }
-    ensures same_symbol { w.new.s.now ≡ w.old.s.now }
+    ensures { Kept w.old w.new ((q : Wrap) → Leads (lead_wrap q) c w.old w.new result) }
 {
     let from = w.state.out;
     w.copy_byte();
@@ -54,8 +51,7 @@ fn wrap(w: &mut Writer, c: u8) -> Option<usize>
 #[cycle(types)]
 fn named(w: &mut Writer) -> Option<usize>
     requires { (w.old.state.at < length w.old.s.now) × Ready w.old }
-    ensures reads { (c : ℕ) → Leads lead_digit c w.old w.new result }
-    ensures same_symbol { w.new.s.now ≡ w.old.s.now }
+    ensures { Kept w.old w.new ((c : ℕ) → Leads lead_digit c w.old w.new result) }
 {
     let from = w.state.out;
     let t = w.first_name()?;
@@ -66,8 +62,7 @@ fn named(w: &mut Writer) -> Option<usize>
 #[cycle(types)]
 fn referred(w: &mut Writer) -> Option<usize>
     requires { (w.old.state.at < length w.old.s.now) × Ready w.old }
-    ensures reads { (c : ℕ) → Leads lead_S c w.old w.new result }
-    ensures same_symbol { w.new.s.now ≡ w.old.s.now }
+    ensures { Kept w.old w.new ((c : ℕ) → Leads lead_S c w.old w.new result) }
 {
     let from = w.state.out;
     w.state.at += 1;
@@ -79,10 +74,9 @@ fn referred(w: &mut Writer) -> Option<usize>
 #[cycle(types)]
 fn with_args(w: &mut Writer, t: usize, from: usize) -> Option<usize>
     requires { ((t < most_number) × (Stretch from w.old.state)) × Ready w.old }
-    ensures reads { WithArgs t from w.old w.new result }
-    ensures same_symbol { w.new.s.now ≡ w.old.s.now }
+    ensures { Kept w.old w.new (WithArgs t from w.old w.new result) }
 {
-    if !text::here(w.s, w.state.at, b'I') {
+    if !w.here(b'I') {
         return Some(t);
     }
     if w.tag_of(t) != usize::from(b'0') {
@@ -99,14 +93,13 @@ fn with_args(w: &mut Writer, t: usize, from: usize) -> Option<usize>
 #[cycle(types)]
 pub fn args(w: &mut Writer, t: usize) -> Option<usize>
     requires { (t < most_number) × Ready w.old }
-    ensures reads { Fueled 0 5 w.old.state.out 1 (λ m. note_args m t) w.old w.new result }
-    ensures same_symbol { w.new.s.now ≡ w.old.s.now }
+    ensures { Kept w.old w.new (Fueled 0 5 w.old.state.out 1 (λ m. note_args m t) w.old w.new result) }
 {
     let mut of = t;
     loop {
         let x = ty(w)?;
         of = w.arg(of, x);
-        if text::here(w.s, w.state.at, b'E') {
+        if w.here(b'E') {
             w.state.at += 1;
             return Some(of);
         }
@@ -117,8 +110,7 @@ pub fn args(w: &mut Writer, t: usize) -> Option<usize>
 #[cycle(types)]
 fn nested(w: &mut Writer) -> Option<usize>
     requires { (w.old.state.at < length w.old.s.now) × Ready w.old }
-    ensures reads { (c : ℕ) → Leads lead_N c w.old w.new result }
-    ensures same_symbol { w.new.s.now ≡ w.old.s.now }
+    ensures { Kept w.old w.new ((c : ℕ) → Leads lead_N c w.old w.new result) }
 {
     let from = w.state.out;
     w.copy_byte();
@@ -132,11 +124,10 @@ fn nested(w: &mut Writer) -> Option<usize>
 #[cycle(types)]
 pub fn parts(w: &mut Writer) -> Option<usize>
     requires { Ready w.old }
-    ensures reads { Fueled 1 5 w.old.state.out 0 (λ m. note_parts m w.old.state.out) w.old w.new result }
-    ensures same_symbol { w.new.s.now ≡ w.old.s.now }
+    ensures { Kept w.old w.new (Fueled 1 5 w.old.state.out 0 (λ m. note_parts m w.old.state.out) w.old w.new result) }
 {
     let from = w.state.out;
-    match lead::lead_of(*w.s.get(w.state.at)?) {
+    match lead::lead_of(w.peek()?) {
         Lead::Digit => {
             let t = w.first_name()?;
             more(w, t, true, from)
@@ -159,13 +150,12 @@ pub fn parts(w: &mut Writer) -> Option<usize>
 #[cycle(types)]
 fn more(w: &mut Writer, t: usize, lone: bool, from: usize) -> Option<usize>
     requires { ((t < most_number) × (Stretch from w.old.state)) × Ready w.old }
-    ensures reads { Fueled 1 5 from 1 (λ m. note_more m t lone from) w.old w.new result }
-    ensures same_symbol { w.new.s.now ≡ w.old.s.now }
+    ensures { Kept w.old w.new (Fueled 1 5 from 1 (λ m. note_more m t lone from) w.old w.new result) }
 {
     let mut of = t;
     let mut alone = lone;
     loop {
-        if text::here(w.s, w.state.at, b'I') {
+        if w.here(b'I') {
             if !steps::bare(w.tag_of(of)) {
                 return None;
             }
@@ -176,7 +166,7 @@ fn more(w: &mut Writer, t: usize, lone: bool, from: usize) -> Option<usize>
             of = w.part(of)?;
             alone = false;
         }
-        if text::here(w.s, w.state.at, b'E') {
+        if w.here(b'E') {
             if alone {
                 return None;
             }

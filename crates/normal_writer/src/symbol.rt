@@ -1,7 +1,7 @@
 // A whole symbol, read, and its normal symbol written.
 ghost use Rattle.std.specs.Prelude.{◌≡◌, ◌≤◌, length};
 ghost use Rattle.normal_nodes.specs.Nodes.{note_symbol};
-ghost use Rattle.normal_steps.specs.Carries.{Ready};
+ghost use Rattle.normal_steps.specs.Carries.{Ready, Kept};
 ghost use Rattle.normal_writer.specs.Writes.{Lent, Begins, Plain, Scoped, Functions, Types, Writes};
 
 use crate::cycle;
@@ -12,8 +12,7 @@ use normal_steps::{steps, words};
 // "_Z", "_ZN" or "_ZNK" is written, and taken.
 fn begin(w: &mut Writer, word: &[u8])
     requires { (length word.now ≤ 4) × Lent w.old }
-    ensures begins { Begins word.now w.new }
-    ensures same_symbol { w.new.s.now ≡ w.old.s.now }
+    ensures { Kept w.old w.new (Begins word.now w.new) }
 {
     let n = word.len();
     text::copy(w.out, 0, word);
@@ -23,8 +22,7 @@ fn begin(w: &mut Writer, word: &[u8])
 // <source-name>: never with a K
 fn plain(w: &mut Writer) -> Option<bool>
     requires { Lent w.old }
-    ensures heads { Plain w.old.s.now w.new result }
-    ensures same_symbol { w.new.s.now ≡ w.old.s.now }
+    ensures { Kept w.old w.new (Plain w.old.s.now w.new result) }
 {
     let word = words::source_name(w.s, 2)?;
     begin(w, b"_Z");
@@ -36,8 +34,7 @@ fn plain(w: &mut Writer) -> Option<bool>
 // <parts> E behind N or NK, without arguments at the end
 fn scoped(w: &mut Writer, word: &[u8], constant: bool) -> Option<bool>
     requires { ((2 ≤ length word.now) × ((length word.now ≤ 4) × (length word.now ≤ length w.old.s.now))) × Lent w.old }
-    ensures heads { Scoped word.now constant w.old.s.now w.new result }
-    ensures same_symbol { w.new.s.now ≡ w.old.s.now }
+    ensures { Kept w.old w.new (Scoped word.now constant w.old.s.now w.new result) }
 {
     begin(w, word);
     let u = cycle::parts(w)?;
@@ -51,8 +48,7 @@ fn scoped(w: &mut Writer, word: &[u8], constant: bool) -> Option<bool>
 // <name> ::= <source-name> | N [K] <parts> E: whether it has a K
 fn function(w: &mut Writer) -> Option<bool>
     requires { Lent w.old }
-    ensures heads { Functions w.old.s.now w.new result }
-    ensures same_symbol { w.new.s.now ≡ w.old.s.now }
+    ensures { Kept w.old w.new (Functions w.old.s.now w.new result) }
 {
     if !text::here(w.s, 2, b'N') {
         return plain(w);
@@ -66,8 +62,7 @@ fn function(w: &mut Writer) -> Option<bool>
 // <type>+ to the end
 fn types(w: &mut Writer) -> Option<()>
     requires { Ready w.old }
-    ensures ends { Types w.old w.new result }
-    ensures same_symbol { w.new.s.now ≡ w.old.s.now }
+    ensures { Kept w.old w.new (Types w.old w.new result) }
 {
     while w.state.at < w.s.len() {
         let t = cycle::ty(w)?;
@@ -81,8 +76,7 @@ fn types(w: &mut Writer) -> Option<()>
 // <encoding> ::= <name> [<type>+]; at most 1,024 arguments. The normal symbol is what is written, or the symbol is outside the class.
 pub fn write_symbol(w: &mut Writer) -> Option<()>
     requires { Lent w.old }
-    ensures writes { Writes w.new result (note_symbol w.old.s.now) }
-    ensures same_symbol { w.new.s.now ≡ w.old.s.now }
+    ensures { Kept w.old w.new (Writes w.new result (note_symbol w.old.s.now)) }
 {
     if !text::starts_with(w.s, 0, b"_Z") {
         return None;

@@ -6,14 +6,14 @@ ghost use Rattle.grammar.specs.Grammar.{digit_ahead, structor_ahead, std_ahead, 
 ghost use Rattle.parser.specs.Leaves.{qualifies, Skips, Classed};
 
 use crate::demangler::Demangler;
-use grammar::numbers;
+use grammar::codes;
 use grammar::part::Part;
-use grammar::text::{before, starts_with};
+use grammar::text::before;
 
 fn qualifier(c: u8) -> bool
     ensures { result ≡ qualifies c }
 {
-    matches!(c, b'K' | b'V' | b'r' | b'R' | b'O')
+    codes::qualifier(c).is_some()
 }
 
 // How many expressions are open behind a byte: X opens one, E closes one.
@@ -37,7 +37,7 @@ fn c_or_d(c: u8) -> bool
 fn digit(c: u8) -> bool
     ensures { result ≡ digit 10 c }
 {
-    numbers::digit_value(c) < 10
+    c.is_ascii_digit()
 }
 
 impl Demangler<'_> {
@@ -73,7 +73,7 @@ impl Demangler<'_> {
     pub fn digit_ahead(&self) -> bool
         ensures { result ≡ digit_ahead (drop self.now.state.at self.now.s.now) }
     {
-        self.state.at < self.s.len() && digit(self.s[self.state.at])
+        self.peek().is_some_and(|c| digit(c))
     }
 
     // C or D, and a digit or C.
@@ -81,10 +81,9 @@ impl Demangler<'_> {
         requires { self.now.state.at ≤ length self.now.s.now }
         ensures { result ≡ structor_ahead (drop self.now.state.at self.now.s.now) }
     {
-        if let [x, y, ..] = &self.s[self.state.at..] {
-            c_or_d(*x) && (digit(*y) || *y == b'C')
-        } else {
-            false
+        match &self.s[self.state.at..] {
+            [b'C' | b'D', y, ..] => digit(*y) || *y == b'C',
+            _ => false,
         }
     }
 
@@ -93,10 +92,9 @@ impl Demangler<'_> {
         requires { self.now.state.at ≤ length self.now.s.now }
         ensures { result ≡ std_ahead (drop self.now.state.at self.now.s.now) }
     {
-        if let [_, _, z, ..] = &self.s[self.state.at..] {
-            starts_with(self.s, self.state.at, b"St") && (digit(*z) || c_or_d(*z))
-        } else {
-            false
+        match &self.s[self.state.at..] {
+            [b'S', b't', z, ..] => digit(*z) || c_or_d(*z),
+            _ => false,
         }
     }
 }

@@ -7,7 +7,6 @@ ghost use Rattle.parser.specs.Demanglers.{Prints};
 use crate::demangler::Demangler;
 use crate::memory::given;
 use grammar::refusal::Refusal;
-use grammar::text::here;
 use store::stack::Stack;
 
 // How a literal is printed: as true or false, with a suffix, or with its type in front.
@@ -48,11 +47,12 @@ fn put_value(stack: &mut Stack, value: &[u8])
     requires { length value.now ≤ most_text_bytes }
     ensures { PutsValue value.now stack.old stack.new }
 {
-    if here(value, 0, b'n') {
-        stack.put(b"-");
-        stack.put(&value[1..]);
-    } else {
-        stack.put(value);
+    match value.strip_prefix(b"n") {
+        Some(rest) => {
+            stack.put(b"-");
+            stack.put(rest);
+        }
+        None => stack.put(value),
     }
 }
 

@@ -1,4 +1,5 @@
 -- Laws of a nested name's loop, as a demangler has it: what is known behind N and the qualifiers, and of each part. Assumes nothing.
+use Rattle.grammar.specs.Laws.Places.{byte_there}
 use Rattle.std.proofs.Common.{◌≡◌, ℕ, ◌+◌, ◌-◌, Bool, true, false, ◌∷◌, refl, sym, ap, ◌∙◌, subst, arith}
 use Rattle.std.specs.Prelude.{List, Result, Ok, Err, Some, None, ◌<◌, ◌≤◌, ◌≢◌, length, drop}
 use Rattle.grammar.specs.Text.{Text, run}
@@ -13,7 +14,7 @@ use Rattle.parser.specs.Leaves.{qualifies}
 use Rattle.parser.specs.declared.demangler.Demangler.{Demangler}
 use Rattle.parser.specs.Demanglers.{state_of, memory_of, Held, Prepared, Parses, given_length}
 use Rattle.parser.specs.Holds.{part, refuses, keep}
-use Rattle.parser.specs.Laws.Demanglers.{Passed, given_by, peeked_some}
+use Rattle.parser.specs.Laws.Demanglers.{Passed, given_by}
 use Rattle.parser.specs.Laws.Holds.{by, holds_moved, sooner}
 use Rattle.reader.specs.Lists.{ReadsPart, prefix_as, PreparedFor}
 use Rattle.reader.specs.declared.lists.Parts.{Parts}
@@ -30,7 +31,7 @@ module _ {s : Text} (d : Demangler) {d' : Demangler} {q : Parts} {c : ℕ} (r : 
       subst (λ (x : Text). ReadsPart (g.prefix reading) x (memory_of d) (memory_of d') (state_of d) q (prefix_as (state_of d') r)) y (h t (ap (drop d.state.at) y ∙ e)).is
 
   pub symbol_behind : peeked (drop d.state.at d.s.now) ≡ Some c → d'.s.now ≡ s
-  symbol_behind e = (h (drop (d.state.at + 1) d.s.now) (peeked_some d.s.now d.state.at e)).symbol ∙ y
+  symbol_behind e = (h (drop (d.state.at + 1) d.s.now) (byte_there d.s.now d.state.at e)).symbol ∙ y
 
 -- behind the E of a nested name whose qualifiers stand between the two places
 abbrev pub closed_at : Bool → ℕ → ℕ → Demangler → Demangler

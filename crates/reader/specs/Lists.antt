@@ -1,10 +1,10 @@
 -- Lists of texts, and the parts of a nested name, as the cycle keeps them.
-use Rattle.std.specs.Prelude.{◌≡◌, ℕ, zero, suc, ◌+◌, ◌*◌, ◌<◌, ◌≤◌, min, Bool, true, false, not, ◌&&◌, List, [], ◌∷◌, length, ◌==◌, nat_lt, Result as Result', Ok, Err}
+use Rattle.std.specs.Prelude.{true, ◌≡◌, ℕ, zero, suc, ◌+◌, ◌*◌, ◌<◌, ◌≤◌, min, Bool, false, not, ◌&&◌, List, [], ◌∷◌, length, ◌==◌, nat_lt, Result as Result', Ok, Err, Option, Some, None, slice_index}
 use Prim.Native.Char.{code}
 use Rattle.grammar.specs.Text.{Text, b, choose, join, if◌then◌otherwise◌}
 use Rattle.grammar.specs.Limits.{most_entry_bytes, most_length}
 use Rattle.grammar.specs.Reader.{State, Result, ok, refused, Reader, while, one_more}
-use Rattle.grammar.specs.Grammar.{reading, Production, ⟨type⟩, ⟨template-param⟩, ⟨unqualified-name⟩, ended, last}
+use Rattle.grammar.specs.Grammar.{reading, Production, ⟨type⟩, ⟨template-param⟩, ⟨unqualified-name⟩, ended, last, only_void}
 use Rattle.grammar.specs.Grammar as g
 use Rattle.grammar.specs.Loops.{argument, before_E}
 use Rattle.parser.specs.Holds.{Halves, Memory, mem, Holds, Stands, Reads, window, keep}
@@ -16,7 +16,7 @@ use Rattle.reader.specs.declared.lists.Joined.{Joined}
 use Rattle.grammar.specs.declared.refusal.Refusal.{Refusal}
 use Rattle.reader.specs.Separators.{before}
 use Rattle.grammar.specs.Refusals.{refusal_number}
-use Rattle.store.specs.Stack.{Put}
+use Rattle.store.specs.Stack.{Put, newest}
 use Rattle.store.specs.declared.stack.Stack.{Stack}
 use Rattle.parser.specs.declared.demangler.Demangler.{Demangler}
 use Rattle.parser.specs.Demanglers.{state_of, Prepared, OthersStay}
@@ -119,14 +119,14 @@ ReadsItem kind s m m' p r = Reads (item_of kind) (kept_by kind p.depth) (p.at + 
 abbrev pub before_text : ℕ → Text
 before_text n = before (b ", ") n
 
--- at an E: the outermost pack ends, or one that is too long
-abbrev pub ends_pack : ℕ → ℕ → Bool
-ends_pack zero n = true
-ends_pack (suc level) n = nat_lt 16386 n
-
 -- one of the packs that are read in one loop opens
 abbrev pub opens_pack : ℕ → ℕ → Bool
 opens_pack level c = c == 74 && nat_lt level 64
+
+-- what the innermost of so many packs has
+abbrev pub last_size : List ℕ → ℕ → Option ℕ
+last_size sizes zero = None
+last_size sizes (suc level) = Some (slice_index sizes level)
 
 -- what stands before another part
 abbrev pub before_part : ℕ → Text
@@ -135,6 +135,11 @@ before_part n = before (b "::") n
 -- the list with a text of so many bytes more
 abbrev pub listed_by : Joined → ℕ → Joined
 listed_by l m = record { n = min (l.n + (2 * min l.count 1 + m)) most_length; count = l.count + 1 }
+
+-- whether a list's texts, the newest on the stack, are a void alone
+pub record VoidAlone (l : Joined) (k : Stack) (r : Bool) : Type 0 where
+  pub is : (ts : List Text) → l.count ≡ length ts → l.n ≡ min (length (join (b ", ") ts)) most_length → (l.n ≡ 4 → newest k.bytes.now k.top 4 ≡ join (b ", ") ts) → r ≡ only_void ts
+  pub four : r ≡ true → l.n ≡ 4
 
 -- the parts with one of so many bytes more
 abbrev pub longer_of : Parts → ℕ → Parts

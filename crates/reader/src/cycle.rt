@@ -12,7 +12,7 @@ ghost use Rattle.reader.specs.Instances.{instance_of, at_S_of};
 ghost use Rattle.reader.specs.Lists.{PreparedFor};
 
 use crate::lists;
-use crate::lists::{Joined, Kind, PACKS, Parts};
+use crate::lists::{Joined, Kind, Packs, Parts};
 use grammar::part::Part;
 use grammar::refusal::Refusal;
 use grammar::{codes, text};
@@ -483,32 +483,30 @@ pub fn template_args(d: &mut Demangler) -> Result<usize, Refusal>
     given(sum(list.n, close.len() + 1))
 }
 
-// J <template-arg>* E, behind J. Packs inside one another are read in one loop, up to 64 in the outermost: `outer` has, for
-// each that is open around the innermost, what n has for that: the bytes of its texts so far, with two more for each text.
+// J <template-arg>* E, behind J. Packs inside one another are read in one loop, up to 64 in the outermost: n is for the
+// innermost what `outer` has for each around it, the bytes of its texts so far, with two more for each text.
 #[cycle(readers)]
 fn pack(d: &mut Demangler) -> Result<usize, Refusal>
     requires { Prepared d.old }
     ensures { Parses (pack reading) (keep d.old.state.depth) (d.old.state.at + 1) d.old d.new result }
 {
-    let mut outer = [0usize; PACKS];
-    let mut level: usize = 0;
+    let mut outer = Packs::none();
     let mut n: usize = 0;
     loop {
         let c = d.peek().ok_or(Refusal::NoRule)?;
         if c == b'E' {
             d.state.at += 1;
-            if lists::pack_ends(level, n) {
-                return given(n.saturating_sub(2));
+            let m = given(n.saturating_sub(2))?;
+            match outer.pop() {
+                Some(size) => n = sum(size, m + 2),
+                None => return Ok(m),
             }
-            level -= 1;
-            n = sum(outer[level], n.saturating_sub(2) + 2);
             continue;
         }
         lists::comma(&mut d.stack, n);
-        if lists::pack_opens(level, c) {
+        if outer.opens(c) {
             d.state.at += 1;
-            outer[level] = n;
-            level += 1;
+            outer.push(n);
             n = 0;
             continue;
         }

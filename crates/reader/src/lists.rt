@@ -1,9 +1,9 @@
 // Lists of texts, and the parts of a nested name.
-ghost use Rattle.std.specs.Prelude.{◌≡◌, ◌+◌, ◌-◌, ◌*◌, ◌≤◌, min};
+ghost use Rattle.std.specs.Prelude.{◌≡◌, ◌+◌, ◌-◌, ◌*◌, ◌<◌, ◌≤◌, min, length, slice_set};
 ghost use Rattle.grammar.specs.Limits.{most_text_bytes, most_entry_bytes, most_length};
 ghost use Rattle.parser.specs.Demanglers.{Prepared};
 ghost use Rattle.reader.specs.Funcs.{FuncEnds};
-ghost use Rattle.reader.specs.Lists.{stops_at, Separates, listed_by, longer_of, ends_pack, opens_pack, Structors, PreparedFor, PutsBefore};
+ghost use Rattle.reader.specs.Lists.{stops_at, Separates, listed_by, longer_of, opens_pack, last_size, Structors, PreparedFor, PutsBefore, VoidAlone};
 
 use grammar::refusal::Refusal;
 use grammar::state::Parser;
@@ -66,6 +66,14 @@ impl Joined {
             count: self.count + 1,
         }
     }
+
+    // Whether a void stands alone in it: the list is the newest text on the stack.
+    pub fn lone_void(self, stack: &Stack) -> bool
+        requires { min self.n most_entry_bytes ≤ stack.now.top }
+        ensures { VoidAlone self stack.now result }
+    {
+        self.count == 1 && self.n == 4 && stack.newest(4) == b"void".as_slice()
+    }
 }
 
 impl Parts {
@@ -101,21 +109,55 @@ pub fn comma(stack: &mut Stack, n: usize)
     }
 }
 
-// At an E: whether it ends the outermost pack, or a pack that is too long.
-pub fn pack_ends(level: usize, n: usize) -> bool
-    ensures { result ≡ ends_pack level n }
-{
-    level == 0 || Parser::TEXT + 2 < n
+// How many packs inside one another are read in one loop.
+const PACKS: usize = 64;
+
+// The packs that are open around the innermost, which are the first `level` of `sizes`, the outermost first: for each, the
+// bytes of its texts so far, with two more for each text.
+#[derive(Drop)]
+pub struct Packs {
+    pub sizes: [usize; PACKS],
+    pub level: usize,
+    pub ghost room: { length sizes ≡ 64 },
+    pub ghost deep: { level ≤ 64 },
 }
 
-// How many packs inside one another are read in one loop.
-pub const PACKS: usize = 64;
+impl Packs {
+    pub fn none() -> Self
+        ensures { result.level ≡ 0 }
+    {
+        Packs {
+            sizes: [0; PACKS],
+            level: 0,
+        }
+    }
 
-// Whether c opens one of them.
-pub fn pack_opens(level: usize, c: u8) -> bool
-    ensures { result ≡ opens_pack level c }
-{
-    c == b'J' && level < PACKS
+    // Whether c opens one more.
+    pub fn opens(&self, c: u8) -> bool
+        ensures { result ≡ opens_pack self.now.level c }
+    {
+        c == b'J' && self.level < PACKS
+    }
+
+    // One of n bytes is around the innermost.
+    pub fn push(&mut self, n: usize)
+        requires { self.old.level < 64 }
+        ensures { (self.new.level ≡ self.old.level + 1) × (self.new.sizes ≡ slice_set self.old.sizes self.old.level n) }
+    {
+        self.sizes[self.level] = n;
+        self.level += 1;
+    }
+
+    // The innermost of them ends: its bytes, if there is one.
+    pub fn pop(&mut self) -> Option<usize>
+        ensures { (self.new.level ≡ self.old.level - 1) × ((self.new.sizes ≡ self.old.sizes) × (result ≡ last_size self.old.sizes self.old.level)) }
+    {
+        if self.level == 0 {
+            return None;
+        }
+        self.level -= 1;
+        Some(self.sizes[self.level])
+    }
 }
 
 // <ctor-dtor-name>, at C or D: the class again behind the parts so far. Of parts that are too long to be an entry, or
@@ -154,7 +196,7 @@ pub fn func_end(d: &mut Demangler, r: usize, list: Joined) -> Result<usize, Refu
     requires { (Prepared d.old) × ((r ≤ most_text_bytes) × ((list.n ≤ most_length) × (min (r + (5 + list.n)) most_entry_bytes ≤ d.old.stack.top))) }
     ensures { FuncEnds d.old d.new r list.n list.count result }
 {
-    if list.count == 1 && list.n == 4 && d.stack.newest(4) == b"void".as_slice() {
+    if list.lone_void(&d.stack) {
         d.stack.cut(4, 0);
         d.stack.put(b")");
         return d.recorded(r + 6);

@@ -27,7 +27,8 @@ use Rattle.parser.specs.Adds.{Adds}
 use Rattle.parser.specs.Laws.Adds.{adds_none, adds_more}
 use Rattle.encoding.specs.Encodings.{Fresh, Begun, Encodes, refuses}
 use Rattle.encoding.specs.Laws.Answers.{encodes_by, refusal, Answered, answered}
-use Rattle.encoding.specs.Laws.Labels.{after, clone, clone_read, strip_starts}
+use Rattle.parser.specs.Laws.Literals.{strip_starts}
+use Rattle.encoding.specs.Laws.Labels.{after, clone, clone_read}
 use Rattle.encoding.specs.Laws.Specials.{prefixed}
 use Rattle.grammar.specs.declared.refusal.Refusal.{Refusal}
 

@@ -1,14 +1,13 @@
 -- Where a name ends, a void alone, and what qualifiers print. Assumes nothing.
 use Rattle.std.specs.Prelude.{Bool, false, ◌&&◌, ◌≡◌, refl, ℕ, ◌+◌, ◌-◌, ◌≤◌, ◌<◌, min, eqb, drop, get_or}
 use Rattle.std.proofs.Math.Bool.{true, and-true}
-use mathlib.Core.Logic.{◌⊎◌, inl, inr}
-use mathlib.Core.List.{List, [], ◌∷◌, ◌++◌, append_assoc, append-nil}
+use mathlib.Core.List.{[], ◌∷◌, ◌++◌, append_assoc, append-nil}
 use Rattle.std.proofs.Math.Option.{Option, none, some}
 use Rattle.std.proofs.Math.Path.{sym, ap}
 use Rattle.std.proofs.Common.{◌∙◌, subst, arith, length-drop, length-take}
 use Rattle.std.proofs.lemmas.List.{take_all, take_more}
 use Rattle.std.proofs.Math.ListN.{length, take, length-append}
-use Rattle.grammar.specs.Text.{Text, b, choose, same, starts, each, join}
+use Rattle.grammar.specs.Text.{Text, b, choose, same, starts, each}
 use Rattle.grammar.specs.Tables.{qualifiers}
 use Rattle.grammar.specs.Reader.{give, word_for}
 use Rattle.grammar.specs.Grammar.{ended, only_void, qualifier}
@@ -17,14 +16,17 @@ use Rattle.store.specs.Stack.{Stack, newest}
 use Rattle.grammar.specs.States.{Progress, Read, peeked}
 use Rattle.std.specs.Prelude as peeked_as
 use Rattle.grammar.specs.Laws.Places.{rest_none}
-use Rattle.parser.specs.Holds.{Halves, Memory, mem, part, Refines, Puts, given_of}
+use Rattle.parser.specs.Holds.{Halves, mem, part, Refines, Puts, given_of}
 use Rattle.parser.specs.Laws.Holds.{given_refines}
 use Rattle.grammar.specs.Laws.Text.{same_not}
 use Rattle.grammar.specs.Limits.{most_length}
 use Rattle.parser.specs.Adds.{Adds}
+use Rattle.parser.specs.declared.demangler.Demangler.{Demangler}
+use Rattle.reader.specs.declared.lists.Joined.{Joined}
+use Rattle.reader.specs.Lists.{VoidAlone}
 use Rattle.parser.specs.Laws.Adds.{adds_none, adds_more, stands_more}
 use Rattle.parser.specs.Laws.Wraps.{newest_text}
-use Rattle.encoding.specs.Encodings.{qualified_by, Qualifies, OnlyVoid}
+use Rattle.encoding.specs.Encodings.{qualified_by, Qualifies, LoneVoid}
 
 -- ---------------------------------------------------------------- where a name ends
 
@@ -46,46 +48,22 @@ ended_by t (peeked_as.Some c) Q e h k = k c h ∙ sym (ended_byte t (sym e))
 
 -- ---------------------------------------------------------------- a void alone
 
-not_one : (ts : List Text) → (length ts ≡ 1 → ⊥) → only_void ts ≡ false
-unfolding only_void
-not_one [] h = refl
-not_one (t ∷ []) h = absurd (h refl)
-not_one (t ∷ u ∷ ts) h = refl
-
-one_void : (ts : List Text) → length ts ≡ 1 → only_void ts ≡ same (join (b ", ") ts) (b "void")
-unfolding only_void join
-one_void [] e = absurd (omega arith)
-one_void (t ∷ []) e = refl
-one_void (t ∷ u ∷ ts) e = absurd (omega arith)
-
 and-false : (q : Bool) → q && false ≡ false
 and-false true = refl
 and-false false = refl
 
-module _ (s : Text) (m : Memory) (p : Progress) {n count : ℕ} where
-  void_many : (count ≡ 1 → ⊥) → OnlyVoid s m p n count false
-  void_many h k d base at ts σ z e = sym (ap (λ (q : Bool). q && same σ.rest []) (not_one ts (λ f. h (e ∙ f))))
+module _ (d : Demangler) (l : Joined) where
+  pub void_before : {r : Bool} → r ≡ false → d.state.at < length d.s.now → LoneVoid d l r
+  void_before i o k e base at ts σ z n =
+      let f : same σ.rest [] ≡ false = ap (λ (t : Text). same t []) z.holds.rest ∙ same_not (drop d.state.at d.s.now) [] (λ g. omega (arith, g, length-drop d.state.at d.s.now)) in
+      i ∙ sym (ap (λ (q : Bool). only_void ts && q) f ∙ and-false (only_void ts))
 
-  void_other : count ≡ 1 → (n ≡ 4 → ⊥) → OnlyVoid s m p n count false
-  unfolding b
-  void_other i h k d base at ts σ z e =
-      sym (ap (λ (q : Bool). q && same σ.rest []) (one_void ts (sym e ∙ i) ∙ same_not (join (b ", ") ts) (b "void") (λ f. h (omega (arith, z.size, f)))))
-
-  pub void_unlike : ((count ≡ 1) × (n ≡ 4 → ⊥)) ⊎ (count ≡ 1 → ⊥) → OnlyVoid s m p n count false
-  void_unlike (inl (i, h)) = void_other i h
-  void_unlike (inr h) = void_many h
-
-  pub void_before : p.at < length s → OnlyVoid s m p n count false
-  void_before l k d base at ts σ z e =
-      let f : same σ.rest [] ≡ false = ap (λ (t : Text). same t []) z.holds.rest ∙ same_not (drop p.at s) [] (λ g. omega (arith, g, length-drop p.at s)) in
-      sym (ap (λ (q : Bool). only_void ts && q) f ∙ and-false (only_void ts))
-
-  pub void_alone : {r : Bool} → count ≡ 1 → n ≡ 4 → length s ≤ p.at → r ≡ same (newest m.text p.top 4) (b "void") → OnlyVoid s m p n count r
+  pub void_alone : {r : Bool} → length d.s.now ≤ d.state.at → VoidAlone l d.stack r → LoneVoid d l r
   unfolding same
-  void_alone {r} i j l h k d base at ts σ z e =
-      let f : same σ.rest [] ≡ true = ap (λ (t : Text). same t []) (z.holds.rest ∙ rest_none s p.at l) in
-      let g : newest m.text p.top 4 ≡ join (b ", ") ts = ap (λ (j : ℕ). newest m.text p.top j) (sym j) ∙ newest_text z (omega (arith, z.size)) in
-      h ∙ ap (λ (t : Text). same t (b "void")) g ∙ sym (one_void ts (sym e ∙ i)) ∙ sym (ap (λ (q : Bool). only_void ts && q) f ∙ and-true (only_void ts))
+  void_alone o h k e base at ts σ z n =
+      let f : same σ.rest [] ≡ true = ap (λ (t : Text). same t []) (z.holds.rest ∙ rest_none d.s.now d.state.at o) in
+      h.is ts n z.size (λ j. ap (newest d.stack.bytes.now d.stack.top) (sym j) ∙ newest_text z (omega (arith, j, z.size)))
+      ∙ sym (ap (λ (q : Bool). only_void ts && q) f ∙ and-true (only_void ts))
 
 -- ---------------------------------------------------------------- qualifiers
 

@@ -29,13 +29,6 @@ eqb_turned x y = go (eqb x y) refl
     go true e = sym (eq-eqb y x (sym (eqb-true x y e)))
     go false e = sym (ne_eqb y x (λ i. eqb-false x y e (sym i)))
 
-pub strip_starts : (s w : Text) → pointwise nat_eq (take (length w) s) w ≡ starts s w
-unfolding starts
-strip_starts [] [] = refl
-strip_starts (x ∷ s) [] = refl
-strip_starts [] (y ∷ w) = refl
-strip_starts (x ∷ s) (y ∷ w) = ap (λ (q : Bool). eqb x y && q) (strip_starts s w)
-
 pub slice_starts : (s w : Text) → pointwise nat_eq w (take (length w) s) ≡ starts s w
 unfolding starts
 slice_starts [] [] = refl

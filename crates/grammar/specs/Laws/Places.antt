@@ -1,8 +1,9 @@
 -- What stands at a place of a text, in the form in which the code's tests tell it, and behind a run. Assumes nothing.
-use Rattle.std.specs.Prelude.{◌≡◌, ℕ, suc, ◌+◌, ◌<◌, ◌≤◌, Bool, true, false, ◌&&◌, [], ◌∷◌, length, drop, ◌==◌, slice_index, slice_set, refl}
+use Rattle.std.specs.Prelude.{Some, None, ◌≡◌, ℕ, suc, ◌+◌, ◌<◌, ◌≤◌, Bool, true, false, ◌&&◌, [], ◌∷◌, length, drop, ◌==◌, slice_index, slice_set, refl}
+use Rattle.std.proofs.Common.{drop-drop, sym, ap, ap₂, ◌∙◌, add-one, arith, length-set, length-drop, drop_of_length-le, drop-cons, drop-set-lt, get_or-set_same}
+use Rattle.grammar.specs.States.{peeked}
 use Rattle.std.proofs.lemmas.Bool.{false≢true}
 use Rattle.std.proofs.Math.Bool.{and-true}
-use Rattle.std.proofs.Common.{sym, ap, ap₂, ◌∙◌, add-one, arith, length-set, length-drop, drop_of_length-le, drop-cons, drop-set-lt, get_or-set_same}
 use Rattle.grammar.specs.Text.{Text, if◌then◌otherwise◌, starts, run, past}
 use Rattle.grammar.specs.Laws.Text.{starts_nothing}
 
@@ -41,3 +42,20 @@ past_run p (x ∷ t) = go (p x) (past_run p t)
     go : (q : Bool) → past p t ≡ drop (length (run p t)) t → (if q then past p t otherwise x ∷ t) ≡ drop (length (if q then x ∷ run p t otherwise [])) (x ∷ t)
     go true e = e
     go false e = refl
+
+-- ---------------------------------------------------------------- the next byte
+
+pub peek_byte : (t : Text) {c : ℕ} → peeked t ≡ Some c → t ≡ c ∷ drop 1 t
+peek_byte [] e = let z : ◌≡◌ {A = ℕ} 0 1 = cc in absurd (omega arith)
+peek_byte (x ∷ t) {c} e = let f : x ≡ c = cc in ap (λ (y : ℕ). y ∷ t) f
+
+pub peek_end : (t : Text) → peeked t ≡ None → t ≡ []
+peek_end [] e = refl
+peek_end (x ∷ t) e = let z : ◌≡◌ {A = ℕ} 0 1 = cc in absurd (omega arith)
+
+module _ (s : Text) (at : ℕ) {c : ℕ} (e : peeked (drop at s) ≡ Some c) where
+  pub byte_there : drop at s ≡ c ∷ drop (at + 1) s
+  byte_there = peek_byte (drop at s) e ∙ ap (λ (t : Text). c ∷ t) (drop-drop 1 at s)
+
+  pub byte_within : at < length s
+  byte_within = omega (arith, length-drop at s, ap length (peek_byte (drop at s) e))

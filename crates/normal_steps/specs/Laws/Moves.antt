@@ -2,7 +2,7 @@
 use Rattle.std.specs.Prelude.{true, false, [], ◌∷◌, ◌≡◌, refl, ℕ, ◌+◌, ◌≤◌, ◌<◌, length, drop, get_or}
 use Rattle.std.proofs.Common.{sym, ap, subst, ◌∙◌, arith, length-drop, drop-drop}
 use Rattle.grammar.specs.Text.{Text, starts}
-use Rattle.grammar.specs.Laws.Places.{rest_some, rest_none}
+use Rattle.grammar.specs.Laws.Places.{rest_some}
 use Rattle.grammar.specs.Laws.NameSteps.{starts_one}
 use Rattle.catalogue.specs.Recogniser.{if_next}
 use Rattle.normal_nodes.specs.Nodes.{Notes, go_to, counted}
@@ -54,9 +54,6 @@ module _ {s : Text} {ws : Work} {p : State} {σ : Notes} (h : Carries s ws p σ)
   -- the byte at the place
   pub first_byte : p.at < length s → σ.rest ≡ get_or s p.at 0 ∷ drop (p.at + 1) s
   first_byte l = h.rest ∙ rest_some s p.at l
-
-  pub no_byte : length s ≤ p.at → σ.rest ≡ []
-  no_byte l = h.rest ∙ rest_none s p.at l
 
   pub byte_is : (c : ℕ) → starts (drop p.at s) (c ∷ []) ≡ true → σ.rest ≡ c ∷ drop (p.at + 1) s
   byte_is c e = h.rest ∙ starts_one (drop p.at s) c e ∙ ap (λ (t : Text). c ∷ t) (drop-drop 1 p.at s)

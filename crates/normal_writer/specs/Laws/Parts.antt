@@ -12,18 +12,17 @@ use Rattle.normal_nodes.specs.Nodes.{note_at_parts, note_at_more, note_end_or, n
 use Rattle.grammar.specs.Laws.Places.{starts_byte}
 use Rattle.normal_nodes.specs.Laws.Numbered.{TellsNode, with_tells, number_in, parts_tell}
 use Rattle.normal_steps.specs.Leads.{class}
-use Rattle.normal_steps.specs.Carries.{Held, Ready, Stretch, Spare, Spent, Answers, tells}
-use Rattle.normal_steps.specs.Carries.{refuses, Reads, Fueled, Does, Copies, Closes, Tag, most_number, at_part, closed}
+use Rattle.normal_steps.specs.Carries.{Held, Ready, Stretch, Spare, Spent, Answers, tells, refuses, Reads, Fueled, Does, Copies, Closes, Tag, most_number, at_part, closed}
 use Rattle.normal_writer.specs.Cycle.{Leads}
 use Rattle.normal_steps.specs.Laws.Told.{answered, refused, by, within}
 use Rattle.normal_steps.specs.Laws.Steps.{on_got, on_bad}
-use Rattle.normal_steps.specs.Laws.Moves.{first_byte, no_byte, byte_is, byte_not, holds_next}
+use Rattle.normal_steps.specs.Laws.Moves.{first_byte, byte_is, byte_not, holds_next}
 use Rattle.normal_steps.specs.Laws.Tests.{byte_next}
-use Rattle.normal_steps.specs.Laws.Limits.{spent_less, spent_spent, spent_stands, spent_moved, passed_spent, spent_closed, took_spent, stretch_after, closed_spent}
+use Rattle.normal_steps.specs.Laws.Limits.{spent_less, spent_spent, spent_stands, spent_moved, passed_spent, spent_closed, took_spent, stretch_after, closed_spent, spent_nothing, spent_room}
 use Rattle.normal_steps.specs.Laws.Slices.{numbered}
-use Rattle.normal_steps.specs.Laws.Limits.{spent_nothing, spent_room}
 use Rattle.normal_writer.specs.Laws.FirstBytes.{parts_none, parts_some, more_some}
-use Rattle.normal_writer.specs.Laws.Types.{Here, here_byte, by_name, by_reference, Behind, FirstPart, args_at, args_from, args_closed, Enclosed, close_next, closed_next, Enters}
+use Rattle.normal_writer.specs.Laws.Types.{Here, here_inside, here_byte, Through, through_end}
+use Rattle.normal_writer.specs.Laws.Types.{by_name, by_reference, Behind, FirstPart, args_at, args_from, args_closed, Enclosed, close_next, closed_next, Enters}
 use Rattle.normal_writer.specs.Laws.Loops.{Told, moved, SoFar, one_more}
 use Rattle.normal_steps.specs.declared.lead.Lead.TheVariants.{Digit, S}
 use Rattle.normal_steps.specs.declared.state.Writer.{Writer}
@@ -81,11 +80,11 @@ abbrev pub PartsFrom : Writer → Writer → Option ℕ → Type 0
 PartsFrom w = Fueled 1 5 w.state.out 0 (λ m. note_parts m w.state.out) w
 
 module _ (w : Writer) where
-  pub parts_end : length w.s.now ≤ w.state.at → PartsFrom w w None
-  parts_end l σ h m f = by (parts_none σ m w.state.out (no_byte h l)) refuses
+  pub parts_end : Through w → PartsFrom w w None
+  parts_end e σ h m f = by (parts_none σ m w.state.out (through_end w h e)) refuses
 
   pub parts_by : (w' : Writer) {c : ℕ} {r : Option ℕ} {l : Lead} → Here w c → lead c ≡ l → PartsBy l w w' r → PartsFrom w w' r
-  parts_by w' b e u σ h zero f = absurd (omega (arith, b.0))
+  parts_by w' b e u σ h zero f = absurd (omega (arith, here_inside w b))
   parts_by w' b e u σ h (suc m) f =
       let i = here_byte w h b in
       by (parts_some σ m i w.state.out

@@ -1,18 +1,19 @@
 -- The members that read types and template arguments: what each may ask of the next, and what each answers. Assumes nothing.
-use Rattle.std.specs.Prelude.{Bool, true, false, [], ◌∷◌, ◌≡◌, refl, ℕ, zero, suc, ◌+◌, ◌*◌, ◌≤◌, ◌<◌, eqb, length, drop, get_or, Option, Some, None}
+use Rattle.grammar.specs.Laws.Places.{byte_there, byte_within, peek_end}
 use Rattle.std.proofs.Common.{sym, ap, ◌∙◌, subst, arith}
+use Rattle.std.specs.Prelude.{Bool, true, false, [], ◌∷◌, ◌≡◌, refl, ℕ, zero, suc, ◌+◌, ◌*◌, ◌≤◌, ◌<◌, eqb, length, drop, Option, Some, None}
 use Rattle.grammar.specs.Text.{Text, starts}
+use Rattle.grammar.specs.States.{peeked}
 use Rattle.catalogue.specs.Tree.{Letter, Wrap}
 use Rattle.catalogue.specs.Recogniser.{if_next, Lead, lead_letter, lead_wrap, lead_L, lead_none, lead}
-use Rattle.normal_nodes.specs.Nodes.{Notes, Noter, Got, got, next, when, put, go_to, entered, note_at_lead, note_at_name, at_reference, note_with_args}
-use Rattle.normal_nodes.specs.Nodes.{note_type, note_args, note_parts}
+use Rattle.normal_nodes.specs.Nodes.{Notes, Noter, Got, got, next, when, put, go_to, entered, note_at_lead, note_at_name, at_reference, note_with_args, note_type, note_args, note_parts}
 use Rattle.normal_nodes.specs.Laws.Numbered.{TellsNode, args_tell}
 use Rattle.normal_steps.specs.Carries.{Held, Ready, Numbered, Stretch, Room, Spare, Spent, Tag}
 use Rattle.normal_steps.specs.Carries.{Answers, tells, refuses, Reads, Fueled, Steps, Does, Copies, Closes, most_number, at_literal, counts_arg, wraps, closed}
 use Rattle.normal_writer.specs.Cycle.{Leads, WithArgs}
 use Rattle.normal_steps.specs.Laws.Told.{answered, refused, by, within}
 use Rattle.normal_steps.specs.Laws.Steps.{on_got, on_bad}
-use Rattle.normal_steps.specs.Laws.Moves.{first_byte, no_byte, byte_is, byte_not, holds_next}
+use Rattle.normal_steps.specs.Laws.Moves.{first_byte, byte_is, byte_not, holds_next}
 use Rattle.normal_steps.specs.Laws.Tests.{byte_next}
 use Rattle.normal_steps.specs.Laws.Limits.{spent_less, spent_spent, passed_spent, passed_none, spent_took, spent_closed, spent_nothing, spent_moved, spent_stands, spent_stretch, spent_room}
 use Rattle.normal_steps.specs.Laws.Slices.{numbered}
@@ -79,10 +80,20 @@ module _ (w w₁ : Writer) {r : Option ℕ} where
 
 -- c is the next byte
 abbrev pub Here : Writer → ℕ → Type 0
-Here w c = (w.state.at < length w.s.now) × ((d : ℕ) → c ≡ get_or w.s.now w.state.at d)
+Here w c = Some c ≡ peeked (drop w.state.at w.s.now)
+
+pub here_inside : (w : Writer) {c : ℕ} → Here w c → w.state.at < length w.s.now
+here_inside w e = byte_within w.s.now w.state.at (sym e)
 
 pub here_byte : (w : Writer) {c : ℕ} {σ : Notes} → Held w σ → Here w c → σ.rest ≡ c ∷ drop (w.state.at + 1) w.s.now
-here_byte w h b = first_byte h b.0 ∙ ap (λ (x : ℕ). x ∷ drop (w.state.at + 1) w.s.now) (sym (b.1 0))
+here_byte w {c} h e = h.rest ∙ byte_there w.s.now w.state.at (sym e)
+
+-- there is no next byte
+abbrev pub Through : Writer → Type 0
+Through w = None ≡ peeked (drop w.state.at w.s.now)
+
+pub through_end : (w : Writer) {σ : Notes} → Held w σ → Through w → σ.rest ≡ []
+through_end w h e = h.rest ∙ peek_end (drop w.state.at w.s.now) (sym e)
 
 -- S or L was read, and nothing written for it
 pub moved_ready : (w : Writer) → w.state.at < length w.s.now → Ready w → Ready (moved w)
@@ -292,11 +303,11 @@ module _ (w w₁ : Writer) (t : ℕ) where
 -- ---------------------------------------------------------------- ty
 
 module _ (w : Writer) where
-  pub type_end : length w.s.now ≤ w.state.at → Fueled 1 4 w.state.out 0 note_type w w None
-  type_end l σ h m f = by (type_none σ m (no_byte h l)) refuses
+  pub type_end : Through w → Fueled 1 4 w.state.out 0 note_type w w None
+  type_end e σ h m f = by (type_none σ m (through_end w h e)) refuses
 
   pub type_by : (w' : Writer) {c : ℕ} {r : Option ℕ} {l : Lead} → Here w c → lead c ≡ l → Leads l c w w' r → Fueled 1 4 w.state.out 0 note_type w w' r
-  type_by w' b e u σ h zero f = absurd (omega (arith, b.0))
+  type_by w' b e u σ h zero f = absurd (omega (arith, here_inside w b))
   type_by w' {c} b e u σ h (suc m) f =
       let i = here_byte w h b in
       by (type_some σ m i ∙ ap (λ (x : Lead).

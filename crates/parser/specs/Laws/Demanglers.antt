@@ -1,14 +1,14 @@
 -- Laws of what a demangler's methods promise: what is known behind each answer, and equations of a demangler. Assumes nothing.
-use Rattle.std.specs.Prelude.{◌≡◌, ℕ, ◌+◌, ◌<◌, ◌≤◌, min, Bool, true, false, List, [], ◌∷◌, ◌++◌, leb, length, drop, Result, Ok, Err, IsErrAnd, Some, None}
+use Rattle.std.specs.Prelude.{◌≡◌, ℕ, ◌+◌, ◌<◌, ◌≤◌, min, Bool, true, false, List, [], ◌∷◌, ◌++◌, leb, length, drop, Result, Ok, Err, IsErrAnd}
 use Rattle.std.proofs.Math.Path.{refl, sym}
-use Rattle.std.proofs.Common.{ap, subst, ◌∙◌, arith, drop-drop, length-append, leb-true, leb-false}
+use Rattle.std.proofs.Common.{ap, subst, ◌∙◌, arith, length-append, leb-true, leb-false}
 use Rattle.grammar.specs.Limits.{most_open, most_text_bytes, kept_bytes}
 use Rattle.grammar.specs.Text.{Text, b, if◌then◌otherwise◌, starts}
 use Rattle.grammar.specs.Reader.{State, Reader, refused, onto, give, recorded}
 use Rattle.grammar.specs.Laws.Agree.{moved}
 use Rattle.grammar.specs.Laws.NameSteps.{starts_one}
 use Rattle.grammar.specs.Laws.States.{Past, past_by}
-use Rattle.grammar.specs.States.{Progress, read, Refused, peeked}
+use Rattle.grammar.specs.States.{Progress, read, Refused}
 use Rattle.grammar.specs.declared.refusal.Refusal.{Refusal}
 use Rattle.grammar.specs.declared.refusal.Refusal.TheVariants.{NoRule, TooDeep, LongText}
 use Rattle.parser.specs.declared.demangler.Demangler.{Demangler}
@@ -19,7 +19,8 @@ use Rattle.store.specs.Laws.Tails.{size, top_size}
 use Rattle.store.specs.declared.stack.Stack.{Stack}
 use Rattle.parser.specs.Holds.{Halves, mem, Holds, Stands, Refines, refuses, Reads, Puts, Cuts, window, given_of}
 use Rattle.parser.specs.Recalls.{Recalls, recalls, long}
-use Rattle.parser.specs.Demanglers.{state_of, memory_of, Held, Prepared, at_place, at_depth, Takes, takes, ends, Eats, eats, stays, Needs, needs, lacks, Enters, enters, deep, outcome, given_length, Parses, OthersStay, Leaf, PushesOnto, PushesSub, Turns}
+use Rattle.parser.specs.Demanglers.{state_of, memory_of, Held, Prepared, at_place, at_depth, Takes, takes, ends, Eats, eats, stays, Needs, needs, lacks, Enters, enters, deep, outcome}
+use Rattle.parser.specs.Demanglers.{given_length, Parses, OthersStay, Leaf, PushesOnto, PushesSub, Turns}
 use Rattle.parser.specs.Laws.Holds.{at_level, by, refused_on, puts_by, cuts_by, got, holds_moved, holds_entered, sooner}
 use Rattle.parser.specs.Laws.Halves.{Pushed, pushes_not, pushes_entry, give_long, wrote_one, recorded_given}
 use Rattle.parser.specs.Laws.Wraps.{newest_text}
@@ -33,20 +34,6 @@ deeper_by_one d = at_depth d (d.state.depth + 1)
 pub record Passed (c : ℕ) (d d' : Demangler) : Type 0 where
   pub past : Past d.s.now (state_of d) c (state_of d')
   pub is : d' ≡ at_place d (d.state.at + 1)
-
-pub peeked_some : {c : ℕ} (s : Text) (at : ℕ) → peeked (drop at s) ≡ Some c → drop at s ≡ c ∷ drop (at + 1) s
-peeked_some {c} s at e = go (drop at s) refl e
-  where
-    go : (t : Text) → drop at s ≡ t → peeked t ≡ Some c → drop at s ≡ c ∷ drop (at + 1) s
-    go [] f g = let z : ◌≡◌ {A = ℕ} 0 1 = cc in absurd (omega arith)
-    go (x ∷ t) f g = let h : x ≡ c = cc in behind t (f ∙ ap (λ (y : ℕ). y ∷ t) h)
-      where
-        behind : (u : Text) → drop at s ≡ c ∷ u → drop at s ≡ c ∷ drop (at + 1) s
-        behind u i = i ∙ ap (λ (v : Text). c ∷ v) (ap (drop 1) (sym i) ∙ drop-drop 1 at s)
-
-pub peeked_none : (t : Text) → peeked t ≡ None → t ≡ []
-peeked_none [] e = refl
-peeked_none (x ∷ t) e = let z : ◌≡◌ {A = ℕ} 0 1 = cc in absurd (omega arith)
 
 -- nothing was passed over, and d' is d; e is why
 pub record Stayed (P : Type 0) (e why : Refusal) (d d' : Demangler) : Type 0 where

@@ -1,47 +1,71 @@
 -- Laws of Leaves.antt. Assumes nothing.
-use Rattle.std.specs.Prelude.{nat_eq, Bool, true, false, ◌&&◌, ◌||◌, not, ◌⊎◌, ◌≡◌, refl, length}
+use Rattle.std.specs.Prelude.{nat_eq, Bool, true, false, ◌&&◌, ◌||◌, not, ◌⊎◌, ◌≡◌, refl, length, Option as Returned, MatchOption}
 use Rattle.std.proofs.Math.Bool.{and-false}
-use Rattle.std.proofs.Common.{inl, inr, ◌∙◌, arith, length-take}
+use Rattle.std.proofs.Common.{inl, inr, ◌∙◌, arith, length-take, le-ltb, lt-ltb, is_some, nat_lt, Some, None}
 use Rattle.store.specs.Laws.Lists.{drop_take}
 use mathlib.Core.List.{List, [], ◌∷◌}
-use Rattle.std.proofs.Math.Option.{none, some}
+use Rattle.std.proofs.Math.Option.{Option, none, some}
 use Rattle.std.proofs.Math.Path.{sym, ap, subst}
 use Prim.Native.Nat.{ℕ, zero, suc, ◌+◌, ◌-◌, ◌≤◌, ◌<◌}
-use borrow.Author.Tests.{ne_eqb}
+use borrow.Author.Tests.{ne_eqb, eqb-true}
 use Rattle.std.proofs.Math.Dec.{eqb}
 use Rattle.std.proofs.Math.ListN.{take, drop, get_or}
-use Rattle.grammar.specs.Text.{Text, b, if◌then◌otherwise◌, choose, starts, holds, run, after_last, digit}
-use Rattle.grammar.specs.Grammar.{last, class_of, skipped, open_after, structor_ahead, std_ahead}
+use Rattle.grammar.specs.Text.{Text, b, if◌then◌otherwise◌, choose, same, starts, holds, run, after_last, between, digit_value, digit}
+use Rattle.grammar.specs.Grammar.{last, class_of, skipped, open_after, digit_ahead, structor_ahead, std_ahead}
 use Rattle.grammar.specs.Laws.Places.{rest_some, rest_none}
 use Rattle.grammar.specs.Laws.Text.{starts_nothing}
+use Rattle.grammar.specs.States.{peeked}
 use Rattle.std.specs.Cmp.Lexicographic.{pointwise}
+use Rattle.std.specs.Borrow.{Bor}
+use Rattle.grammar.specs.Words.{word_of}
+use Rattle.grammar.specs.Tables.{qualifiers}
+use Rattle.grammar.specs.Reader.{word_for}
 use Rattle.parser.specs.Leaves.{qualifies, unargued, class_in, Classed}
 
 pub class_of_is : (ts : List Text) → class_of ts ≡ choose (last ts) class_in []
 unfolding class_of class_in
 class_of_is ts = refl
 
--- the byte is one of those that a match of the code names
-abbrev pub Qualifies : ℕ → Type 0
-Qualifies x = (x ≡ 75) ⊎ ((x ≡ 79) ⊎ ((x ≡ 82) ⊎ ((x ≡ 86) ⊎ (x ≡ 114))))
+-- a byte has a word in the table of qualifiers where it is one
+abbrev named : Option Text → Bool
+named o = choose o (λ w. true) false
 
-pub qualifies_yes : (x : ℕ) → Qualifies x → qualifies x ≡ true
-unfolding holds b
-qualifies_yes x (inl e) = rw e
-qualifies_yes x (inr (inl e)) = rw e
-qualifies_yes x (inr (inr (inl e))) = rw e
-qualifies_yes x (inr (inr (inr (inl e)))) = rw e
-qualifies_yes x (inr (inr (inr (inr e)))) = rw e
+word_named : (c : ℕ) → named (word_for qualifiers (c ∷ [])) ≡ qualifies c
+unfolding word_for qualifiers same b holds if◌then◌otherwise◌ choose
+word_named c = go (eqb c 75) (eqb c 86) (eqb c 82) (eqb c 79) (eqb c 114)
+  where
+    go : (k v r o s : Bool) →
+        named (if k && true then some (b " const") otherwise if v && true then some (b " volatile") otherwise if r && true then some (b " &") otherwise
+        if o && true then some (b " &&") otherwise if s && true then some [] otherwise none)
+        ≡ (k || (v || (s || (r || (o || false)))))
+    go true v r o s = refl
+    go false true r o s = refl
+    go false false true o true = refl
+    go false false true o false = refl
+    go false false false true true = refl
+    go false false false true false = refl
+    go false false false false true = refl
+    go false false false false false = refl
 
-pub qualifies_no : (x : ℕ) → (Qualifies x → ⊥) → qualifies x ≡ false
-unfolding holds b
-qualifies_no x n = rw (
-  ne_eqb x 75 (λ e. n (inl e)),
-  ne_eqb x 79 (λ e. n (inr (inl e))),
-  ne_eqb x 82 (λ e. n (inr (inr (inl e)))),
-  ne_eqb x 86 (λ e. n (inr (inr (inr (inl e))))),
-  ne_eqb x 114 (λ e. n (inr (inr (inr (inr e))))),
-)
+pub qualifies_is : (c : ℕ) (w : Returned (Bor Text)) → word_of w ≡ word_for qualifiers (c ∷ []) → is_some w ≡ qualifies c
+unfolding choose
+qualifies_is c (Some w) e = ap named e ∙ word_named c
+qualifies_is c None e = ap named e ∙ word_named c
+
+-- ---------------------------------------------------------------- digits
+
+ten : (c : ℕ) → between 48 57 c ≡ true → c < 58
+ten c e = grind arith
+
+pub digit_is : (c : ℕ) → between 48 57 c ≡ digit 10 c
+unfolding digit digit_value if◌then◌otherwise◌
+digit_is c = sym (go (between 48 57 c) (between 65 90 c) (between 97 122 c) (ten c))
+  where
+    go : (p q r : Bool) → (p ≡ true → c < 58) → nat_lt (if p then c - 48 otherwise if q then c - 65 + 10 otherwise if r then c - 97 + 10 otherwise 36) 10 ≡ p
+    go true q r h = let l = h refl in lt-ltb (c - 48) 10 (omega arith)
+    go false true r h = le-ltb (c - 65 + 10) 10 (omega arith)
+    go false false true h = le-ltb (c - 97 + 10) 10 (omega arith)
+    go false false false h = refl
 
 -- ---------------------------------------------------------------- skipped expressions
 
@@ -72,31 +96,71 @@ open_most c d = go (eqb c 88) (eqb c 69)
 
 -- ---------------------------------------------------------------- what stands ahead
 
-pub structor_short : (t : Text) → length t < 2 → structor_ahead t ≡ false
-unfolding structor_ahead
-structor_short [] h = refl
-structor_short (x ∷ []) h = refl
-structor_short (x ∷ y ∷ t) h = absurd (omega arith)
+pub digit_peeked :
+    (t : Text) (o : Returned ℕ) {r : Bool} (Q : ℕ → Type 0) → o ≡ peeked t → MatchOption o (r ≡ false) Q → ((c : ℕ) → Q c → r ≡ digit 10 c) → r ≡ digit_ahead t
+unfolding digit_ahead
+digit_peeked [] o {r} Q e h k = subst (λ (v : Returned ℕ). MatchOption v (r ≡ false) Q) e h
+digit_peeked (x ∷ t) o {r} Q e h k = k x (subst (λ (v : Returned ℕ). MatchOption v (r ≡ false) Q) e h)
 
-pub std_short : (t : Text) → length t < 3 → std_ahead t ≡ false
-unfolding std_ahead
-std_short [] h = refl
-std_short (x ∷ []) h = refl
-std_short (x ∷ y ∷ []) h = refl
-std_short (x ∷ y ∷ z ∷ t) h = absurd (omega arith)
+-- u is the slice t, as it was passed over
+module _ {t u : Text} (f : t ≡ u) where
+  pub structor_short : length t < 2 → false ≡ structor_ahead u
+  unfolding structor_ahead
+  structor_short l = go t l ∙ ap structor_ahead f
+    where
+      go : (t : Text) → length t < 2 → false ≡ structor_ahead t
+      go [] l = refl
+      go (x ∷ []) l = refl
+      go (x ∷ y ∷ t) l = absurd (omega arith)
 
-pub structor_is : (t : Text) → 2 ≤ length t → structor_ahead t ≡ (holds (get_or t 0 0) (b "CD") && (digit 10 (get_or t 1 0) || eqb (get_or t 1 0) 67))
-unfolding structor_ahead
-structor_is [] h = absurd (omega arith)
-structor_is (x ∷ []) h = absurd (omega arith)
-structor_is (x ∷ y ∷ t) h = refl
+  structor_is : 2 ≤ length t → structor_ahead u ≡ (holds (get_or t 0 0) (b "CD") && (digit 10 (get_or t 1 0) || eqb (get_or t 1 0) 67))
+  unfolding structor_ahead
+  structor_is l = sym (ap structor_ahead f) ∙ go t l
+    where
+      go : (t : Text) → 2 ≤ length t → structor_ahead t ≡ (holds (get_or t 0 0) (b "CD") && (digit 10 (get_or t 1 0) || eqb (get_or t 1 0) 67))
+      go [] l = absurd (omega arith)
+      go (x ∷ []) l = absurd (omega arith)
+      go (x ∷ y ∷ t) l = refl
 
-pub std_is : (t : Text) → 3 ≤ length t → std_ahead t ≡ (starts t (83 ∷ 116 ∷ []) && (digit 10 (get_or t 2 0) || holds (get_or t 2 0) (b "CD")))
-unfolding std_ahead starts b
-std_is [] h = absurd (omega arith)
-std_is (x ∷ []) h = absurd (omega arith)
-std_is (x ∷ y ∷ []) h = absurd (omega arith)
-std_is (x ∷ y ∷ z ∷ t) h = refl
+  pub structor_at : 2 ≤ length t → (get_or t 0 0 ≡ 67) ⊎ (get_or t 0 0 ≡ 68) → {q : Bool} → q ≡ digit 10 (get_or t 1 0) → structor_ahead u ≡ (q || eqb (get_or t 1 0) 67)
+  unfolding holds b
+  structor_at l (inl i) e = rw e (structor_is l ∙ rw i refl)
+  structor_at l (inr i) e = rw e (structor_is l ∙ rw i refl)
+
+  pub structor_unlike : 2 ≤ length t → (get_or t 0 0 ≡ 67 → ⊥) → (get_or t 0 0 ≡ 68 → ⊥) → false ≡ structor_ahead u
+  unfolding holds b
+  structor_unlike l n m = sym (structor_is l ∙ rw (ne_eqb (get_or t 0 0) 67 n, ne_eqb (get_or t 0 0) 68 m) refl)
+
+  pub std_short : length t < 3 → false ≡ std_ahead u
+  unfolding std_ahead
+  std_short l = go t l ∙ ap std_ahead f
+    where
+      go : (t : Text) → length t < 3 → false ≡ std_ahead t
+      go [] l = refl
+      go (x ∷ []) l = refl
+      go (x ∷ y ∷ []) l = refl
+      go (x ∷ y ∷ z ∷ t) l = absurd (omega arith)
+
+  std_is : 3 ≤ length t → std_ahead u ≡ ((eqb (get_or t 0 0) 83 && (eqb (get_or t 1 0) 116 && true)) && (digit 10 (get_or t 2 0) || holds (get_or t 2 0) (b "CD")))
+  unfolding std_ahead starts b
+  std_is l = sym (ap std_ahead f) ∙ go t l
+    where
+      go : (t : Text) → 3 ≤ length t → std_ahead t ≡ ((eqb (get_or t 0 0) 83 && (eqb (get_or t 1 0) 116 && true)) && (digit 10 (get_or t 2 0) || holds (get_or t 2 0) (b "CD")))
+      go [] l = absurd (omega arith)
+      go (x ∷ []) l = absurd (omega arith)
+      go (x ∷ y ∷ []) l = absurd (omega arith)
+      go (x ∷ y ∷ z ∷ t) l = refl
+
+  pub std_at : 3 ≤ length t → get_or t 0 0 ≡ 83 → get_or t 1 0 ≡ 116 → {q : Bool} → q ≡ digit 10 (get_or t 2 0) → std_ahead u ≡ (q || holds (get_or t 2 0) (b "CD"))
+  std_at l i j e = rw e (std_is l ∙ rw (i, j) refl)
+
+  pub std_unlike : 3 ≤ length t → (get_or t 0 0 ≡ 83 → get_or t 1 0 ≡ 116 → ⊥) → false ≡ std_ahead u
+  std_unlike l n = sym (std_is l ∙ go (eqb (get_or t 0 0) 83) (eqb (get_or t 1 0) 116) refl refl)
+    where
+      go : (p q : Bool) → eqb (get_or t 0 0) 83 ≡ p → eqb (get_or t 1 0) 116 ≡ q → ((p && (q && true)) && (digit 10 (get_or t 2 0) || holds (get_or t 2 0) (b "CD"))) ≡ false
+      go false q i j = refl
+      go true false i j = refl
+      go true true i j = absurd (n (eqb-true (get_or t 0 0) 83 i) (eqb-true (get_or t 1 0) 116 j))
 
 -- ---------------------------------------------------------------- the class of a constructor
 

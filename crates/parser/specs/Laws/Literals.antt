@@ -1,5 +1,5 @@
 -- Laws of Literals.antt. Assumes nothing.
-use Rattle.std.specs.Prelude.{Bool, ◌&&◌, List, [], ◌∷◌, ◌++◌, ◌≡◌, ℕ, suc, ◌+◌, ◌-◌, ◌≤◌, min, T, eqb, length, take, drop}
+use Rattle.std.specs.Prelude.{Bool, ◌&&◌, List, [], ◌∷◌, ◌++◌, ◌≡◌, ℕ, suc, ◌+◌, ◌-◌, ◌≤◌, min, T, eqb, length, take, drop, nat_eq}
 use Rattle.std.proofs.Math.Bool.{true, false}
 use Rattle.std.proofs.Common.{append-nil, sym, ap, ◌∙◌, arith, length-append, take_at, take-take}
 use Rattle.std.proofs.Math.Option.{Option, none, some}
@@ -20,6 +20,7 @@ use Rattle.parser.specs.declared.literal.Kind.TheVariants.{Truth, Suffix, Cast}
 use Rattle.parser.specs.Holds.{Halves, mem, Stands, Puts, Cuts}
 use Rattle.parser.specs.Laws.Holds.{by_state, holds_text, holds_puts}
 use Rattle.parser.specs.Laws.Wraps.{stands_puts}
+use Rattle.std.specs.Cmp.Lexicographic.{pointwise}
 use Rattle.parser.specs.Literals.{KindOf, truth, suffix, cast, signed, truth_of}
 
 -- ---------------------------------------------------------------- texts on the stack
@@ -97,6 +98,14 @@ stands_bare {k} {d} {s} {base} {from} {text} {text'} {store} {ends} {p} {p'} {n}
 
 same_size : (t w : Text) → same t w ≡ true → length t ≡ length w
 same_size t w e = let h : T (same t w) = rw e tt in ap length (same→eq t w h)
+
+-- what the code's test of a prefix tells
+pub strip_starts : (s w : Text) → pointwise nat_eq (take (length w) s) w ≡ starts s w
+unfolding starts
+strip_starts [] [] = refl
+strip_starts (x ∷ s) [] = refl
+strip_starts [] (y ∷ w) = refl
+strip_starts (x ∷ s) (y ∷ w) = ap (λ (q : Bool). eqb x y && q) (strip_starts s w)
 
 pub signed_minus : (v : Text) → starts v (110 ∷ []) ≡ true → signed v ≡ 45 ∷ drop 1 v
 unfolding signed b if◌then◌otherwise◌

@@ -15,7 +15,7 @@ use Rattle.parser.specs.Laws.Holds.{given_refines}
 use Rattle.parser.specs.Laws.Literals.{stands_size}
 use Rattle.parser.specs.Laws.Wraps.{stands_puts}
 use Rattle.grammar.specs.Laws.Runs.{every_at, need_here, need_not}
-use Rattle.reader.specs.Laws.Items.{peek_end, byte_there, byte_within}
+use Rattle.grammar.specs.Laws.Places.{peek_end, byte_there, byte_within}
 
 -- ---------------------------------------------------------------- array types
 

@@ -1,12 +1,13 @@
 -- Laws of Funcs.antt. Assumes nothing.
 use Rattle.std.specs.Prelude.{◌≡◌, ℕ, ◌+◌, ◌≤◌, min, Bool, true, false, T, List, [], ◌∷◌, ◌++◌, length, take, nat_eq}
-use Rattle.std.proofs.Common.{append_assoc, append-nil, sym, ◌∙◌, subst, arith, length-append}
+use Rattle.std.proofs.Common.{append_assoc, append-nil, sym, ap₂, ◌∙◌, subst, arith, length-append, inl, inr}
 use Rattle.std.proofs.Math.Path.{refl, ap}
+use mathlib.Core.Logic.{◌⊎◌}
 use Rattle.grammar.specs.Text.{Text, b, if◌then◌otherwise◌, same, join}
 use Rattle.grammar.specs.Reader.{State, ok, Reader, onto, recorded, up_to_E, one_more}
 use Rattle.grammar.specs.Grammar.{reading, ⟨type⟩, slot, only_void}
 use Rattle.grammar.specs.Grammar as g
-use Rattle.grammar.specs.Laws.Text.{same→eq}
+use Rattle.grammar.specs.Laws.Text.{same→eq, same_not}
 use Rattle.grammar.specs.Limits.{most_open, most_text_bytes, most_entry_bytes, most_length}
 use Rattle.grammar.specs.Laws.Loops.{closed}
 use Rattle.store.specs.Stack.{Tail, Cut, newest}
@@ -23,6 +24,8 @@ use Rattle.reader.specs.declared.lists.Kind.TheVariants.{Types}
 use Rattle.reader.specs.Laws.Standing.{stands_behind}
 use Rattle.reader.specs.Laws.Items.{looped}
 use Rattle.reader.specs.Laws.Closes.{up_types}
+use Rattle.reader.specs.declared.lists.Joined.{Joined}
+use Rattle.reader.specs.Lists.{VoidAlone}
 use Rattle.reader.specs.Funcs.{function_text, opening, FuncEnd}
 
 -- ---------------------------------------------------------------- the definition
@@ -82,24 +85,36 @@ module _ (t : Text) (ts : List Text) where
 
 -- ---------------------------------------------------------------- a lone void
 
-sized : (t w : Text) → same t w ≡ true → length t ≡ length w
-sized t w e = let h : T (same t w) = rw e tt in ap length (same→eq t w h)
+pub void_text : (ts : List Text) → only_void ts ≡ true → join (b ", ") ts ≡ b "void"
+unfolding only_void join
+void_text [] e = let z : ◌≡◌ {A = ℕ} 0 1 = cc in absurd (omega arith)
+void_text (t ∷ []) e = let h : T (same t (b "void")) = rw e tt in same→eq t (b "void") h
+void_text (t ∷ u ∷ ts) e = let z : ◌≡◌ {A = ℕ} 0 1 = cc in absurd (omega arith)
 
-pub only_one : (ts : List Text) → length ts ≡ 1 → only_void ts ≡ same (join (b ", ") ts) (b "void")
+only_one : (ts : List Text) → length ts ≡ 1 → only_void ts ≡ same (join (b ", ") ts) (b "void")
 unfolding only_void join
 only_one [] e = absurd (omega arith)
 only_one (t ∷ []) e = refl
 only_one (t ∷ u ∷ ts) e = absurd (omega arith)
 
-pub not_only : (ts : List Text) → (length ts ≡ 1 → length (join (b ", ") ts) ≡ 4 → same (join (b ", ") ts) (b "void") ≡ false) → only_void ts ≡ false
-unfolding only_void join b
-not_only [] h = refl
-not_only (t ∷ []) h = go (same t (b "void")) refl
-  where
-    go : (q : Bool) → same t (b "void") ≡ q → q ≡ false
-    go true e = sym e ∙ h refl (sized t (b "void") e)
-    go false e = refl
-not_only (t ∷ u ∷ ts) h = refl
+not_one : (ts : List Text) → (length ts ≡ 1 → ⊥) → only_void ts ≡ false
+unfolding only_void
+not_one [] h = refl
+not_one (t ∷ []) h = absurd (h refl)
+not_one (t ∷ u ∷ ts) h = refl
+
+-- what the code's tests of a list tell
+module _ (l : Joined) (k : Stack) where
+  pub alone_told : {r : Bool} {t w : Text} → l.count ≡ 1 → l.n ≡ 4 → t ≡ newest k.bytes.now k.top 4 → w ≡ b "void" → r ≡ pointwise nat_eq t w → VoidAlone l k r
+  alone_told {t = t} {w = w} i j e f g = record { is = λ ts c n h. g ∙ same_texts t w ∙ ap₂ same (e ∙ h j) f ∙ sym (only_one ts (sym c ∙ i)); four = λ q. j }
+
+  pub alone_unlike : {r : Bool} → r ≡ false → ((l.count ≡ 1) × (l.n ≡ 4 → ⊥)) ⊎ (l.count ≡ 1 → ⊥) → VoidAlone l k r
+  unfolding b
+  alone_unlike e (inl (i, j)) = record {
+    is = λ ts c n h. e ∙ sym (only_one ts (sym c ∙ i) ∙ same_not (join (b ", ") ts) (b "void") (λ f. j (omega (arith, n, f))));
+    four = λ q. let z : true ≡ false = sym q ∙ e in cc;
+  }
+  alone_unlike e (inr i) = record { is = λ ts c n h. e ∙ sym (not_one ts (λ f. i (c ∙ f))); four = λ q. let z : true ≡ false = sym q ∙ e in cc }
 
 -- the newest text has four bytes, and it goes
 module _ {k d : ℕ} {s base : Text} {from : ℕ} {text : Text} {store ends : Halves} {p : Progress} {n : ℕ} {σ : State} (t u : Text)
@@ -132,7 +147,3 @@ module _ {k d : ℕ} {s base : Text} {from : ℕ} {text : Text} {store ends : Ha
 -- an entry made behind another stack
 pub recorded_behind : (d d' : Demangler) (x : Stack) → d' ≡ record d { stack = x; subs = d'.subs } → d' ≡ record d { stack = d'.stack; subs = d'.subs }
 recorded_behind d d' x e = e ∙ ap (λ (y : Stack). record d { stack = y; subs = d'.subs }) (sym (ap (λ (z : Demangler). z.stack) e))
-
--- what a test of two texts tells
-pub told : {r q : Bool} {t v w u : Text} → r ≡ pointwise nat_eq t u → t ≡ v → u ≡ w → r ≡ q → same v w ≡ q
-told {t = t} {v = v} {w = w} {u = u} e i f g = ap (λ (x : Text). same x w) (sym i) ∙ sym (same_texts t w) ∙ ap (pointwise nat_eq t) (sym f) ∙ sym e ∙ g

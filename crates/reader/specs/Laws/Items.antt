@@ -1,12 +1,12 @@
 -- A list of texts as far as it is read: the loop of the definition from the start is the loop from here. Assumes nothing.
+use Rattle.grammar.specs.Laws.Places.{peek_byte, peek_end, starts_byte}
 use Rattle.std.specs.Prelude.{◌≡◌, ℕ, ◌+◌, ◌*◌, ◌<◌, ◌≤◌, min, Bool, true, false, not, List, [], ◌∷◌, ◌++◌, length, take, drop, refl}
-use Rattle.std.proofs.Common.{sym, ◌∙◌, subst, arith, length-append, length-drop, drop-drop}
+use Rattle.std.proofs.Common.{sym, ◌∙◌, subst, arith, length-append}
 use Rattle.std.proofs.Math.Path.{ap}
 use Rattle.grammar.specs.Text.{Text, b, if◌then◌otherwise◌, same, join}
 use Rattle.grammar.specs.Limits.{most_open, most_text_bytes, most_entry_bytes, most_length, kept_bytes}
 use Rattle.grammar.specs.Reader.{State, Result, ok, refused, Reader, onto, return, push_arg, while, one_more}
 use Rattle.grammar.specs.Grammar.{reading, ⟨type⟩, ⟨template-arg⟩, ended}
-use Rattle.grammar.specs.Laws.Places.{starts_byte}
 use Rattle.grammar.specs.Loops.{before_E}
 use Rattle.grammar.specs.Laws.Loops.{Stepped, items_loop, args_loop}
 use Rattle.parser.specs.Holds.{Halves, Memory, mem, Holds, Wrote, Stands, Reads, Refines, reads, refuses, Puts, Pushes, pushed, full, window, keep}
@@ -21,23 +21,6 @@ use Rattle.reader.specs.Laws.Separators.{join_more, before_size}
 use Rattle.reader.specs.Laws.Standing.{stands_nothing, stands_sized, wrote_kept, wrote_behind}
 use Rattle.grammar.specs.Refusals.{refusal_number}
 use Rattle.grammar.specs.declared.refusal.Refusal.{Refusal}
-
--- ---------------------------------------------------------------- the next byte
-
-pub peek_byte : (t : Text) {c : ℕ} → peeked t ≡ peeked_as.Some c → t ≡ c ∷ drop 1 t
-peek_byte [] e = let z : ◌≡◌ {A = ℕ} 0 1 = cc in absurd (omega arith)
-peek_byte (x ∷ t) {c} e = let f : x ≡ c = cc in ap (λ (y : ℕ). y ∷ t) f
-
-pub peek_end : (t : Text) → peeked t ≡ peeked_as.None → t ≡ []
-peek_end [] e = refl
-peek_end (x ∷ t) e = let z : ◌≡◌ {A = ℕ} 0 1 = cc in absurd (omega arith)
-
-module _ (s : Text) (at : ℕ) {c : ℕ} (e : peeked (drop at s) ≡ peeked_as.Some c) where
-  pub byte_there : drop at s ≡ c ∷ drop (at + 1) s
-  byte_there = peek_byte (drop at s) e ∙ ap (λ (t : Text). c ∷ t) (drop-drop 1 at s)
-
-  pub byte_within : at < length s
-  byte_within = omega (arith, length-drop at s, ap length (peek_byte (drop at s) e))
 
 -- ---------------------------------------------------------------- the loop, one step at a time
 

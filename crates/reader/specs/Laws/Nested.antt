@@ -11,7 +11,7 @@ use Rattle.grammar.specs.Grammar as g
 use Rattle.grammar.specs.Laws.Agree.{moved, unread}
 use Rattle.grammar.specs.Laws.Fuel.{reading_ends, reading_is, prefix_shrinks}
 use Rattle.grammar.specs.Loops.{before_E}
-use Rattle.grammar.specs.Laws.Places.{starts_byte}
+use Rattle.grammar.specs.Laws.Places.{starts_byte, peek_byte, peek_end, byte_within}
 use Rattle.grammar.specs.Laws.Loops.{closed, parts_loop, up_to_E_is}
 use Rattle.parser.specs.Holds.{Memory, part, Holds, Stands, Refines, refuses, window, keep, given_of}
 use Rattle.parser.specs.Laws.Halves.{give_long}
@@ -23,7 +23,7 @@ use Rattle.std.specs.Prelude as peeked_as
 use Rattle.reader.specs.declared.lists.Kind.TheVariants.{Types}
 use Rattle.reader.specs.declared.lists.Parts.{Parts}
 use Rattle.reader.specs.Lists.{Prefix, Reached, Unreached, Alike, same_text, both_long, Parted, Parting, parted, unparted, ReadsPart, unprefixed_of}
-use Rattle.reader.specs.Laws.Items.{peek_byte, peek_end, byte_within, while_stops, while_goes, ends_on, on_byte}
+use Rattle.reader.specs.Laws.Items.{while_stops, while_goes, ends_on, on_byte}
 use Rattle.reader.specs.Laws.Arrays.{run_front}
 use Rattle.reader.specs.Laws.Closes.{closed_no, closed_yes, then_ok, then_refused, behind_is}
 use Rattle.reader.specs.Laws.Standing.{stands_nothing, stands_kept, parted_kept, stands_least}

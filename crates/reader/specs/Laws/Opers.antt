@@ -22,11 +22,10 @@ use Rattle.parser.specs.Holds.{Halves, Memory, mem, window, Holds, Refines, refu
 use Rattle.parser.specs.Laws.Holds.{by, by_state, got, refused_on, less, sooner, holds_moved}
 use Rattle.parser.specs.Laws.Adds.{puts_from, reads_moved}
 use Rattle.grammar.specs.Laws.Runs.{case_here, case_not, past_is, past_stops}
-use Rattle.grammar.specs.Laws.Places.{rest_some, rest_none}
+use Rattle.grammar.specs.Laws.Places.{rest_some, rest_none, peek_end, byte_there, byte_within}
 use Rattle.parser.specs.Laws.Halves.{wrote_one}
 use Rattle.reader.specs.Laws.Opens.{call_moved}
 use Rattle.reader.specs.Laws.Standing.{stands_templated, given_as, fewer, word_holds, word_joined}
-use Rattle.reader.specs.Laws.Items.{peek_end, byte_there, byte_within}
 use Rattle.grammar.specs.declared.refusal.Refusal.{Refusal}
 use Rattle.grammar.specs.declared.refusal.Refusal.TheVariants.{NoRule}
 

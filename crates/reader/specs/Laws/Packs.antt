@@ -1,9 +1,9 @@
 -- Packs inside one another as far as they are read: the definition from the start is the definition from here. Assumes nothing.
-use Rattle.std.specs.Prelude.{◌≡◌, ℕ, zero, suc, ◌+◌, ◌-◌, ◌<◌, ◌≤◌, min, Bool, true, false, ◌&&◌, List, [], ◌∷◌, ◌++◌, length, take, drop, ◌==◌, ◌≢◌, nat_le, nat_lt, slice_index, slice_set}
+use Rattle.std.specs.Prelude.{◌≡◌, ℕ, zero, suc, ◌+◌, ◌-◌, ◌<◌, ◌≤◌, min, Bool, true, false, ◌&&◌, List, [], ◌∷◌, ◌++◌, length, take, drop, ◌==◌, ◌≢◌, nat_lt, slice_index, slice_set}
 use Rattle.std.proofs.lemmas.Bool.{false≢true}
-use Rattle.std.proofs.Common.{append_assoc, append-nil, sym, ◌∙◌, arith, eq-eqb, ne_eqb, eqb-true, ltb-true, ltb-false, leb-true, leb-false, length-append, get_or-set_same, get_or-set_other}
+use Rattle.std.proofs.Common.{append_assoc, append-nil, sym, ◌∙◌, arith, eq-eqb, ne_eqb, eqb-true, ltb-true, length-append, get_or-set_same, get_or-set_other}
 use Rattle.std.proofs.Math.Path.{refl, ap, subst}
-use Rattle.grammar.specs.Text.{Text, b, if◌then◌otherwise◌, starts, join}
+use Rattle.grammar.specs.Text.{Text, b, starts, join}
 use Rattle.grammar.specs.Limits.{most_text_bytes, most_length}
 use Rattle.grammar.specs.Reader.{State, Result, ok, refused, Reader, onto, return, give, while, one_more}
 use Rattle.grammar.specs.Grammar.{reading, ⟨template-arg⟩}
@@ -12,20 +12,21 @@ use Rattle.grammar.specs.Laws.Agree.{moved, bind}
 use Rattle.grammar.specs.Laws.Agree as agree
 use Rattle.grammar.specs.Laws.Fuel.{reading_ends}
 use Rattle.grammar.specs.Loops.{before_E}
-use Rattle.grammar.specs.Laws.Places.{starts_byte}
+use Rattle.grammar.specs.Laws.Places.{starts_byte, peek_byte, peek_end, byte_within}
 use Rattle.grammar.specs.Laws.Loops.{closed, items_loop, up_to_E_is}
 use Rattle.store.specs.Stack.{Tail}
 use Rattle.store.specs.Laws.Tails.{whole, both}
-use Rattle.parser.specs.Holds.{Halves, Memory, mem, Holds, Reads, Refines, reads, refuses, Puts, window, keep, given_of}
+use Rattle.parser.specs.Holds.{Halves, Memory, mem, Holds, Reads, Refines, reads, refuses, Puts, window, keep}
 use Rattle.parser.specs.Laws.Halves.{give_short, give_long}
 use Rattle.parser.specs.Laws.Holds.{by, holds_moved, holds_puts, tail_puts, got}
 use Rattle.grammar.specs.States.{peeked, moved_to, Progress, Read, read, Refused}
 use Rattle.parser.specs.Laws.Adds.{puts_from}
 use Rattle.std.specs.Prelude as peeked_as
 use Rattle.reader.specs.declared.lists.Kind.TheVariants.{Types}
+use Rattle.reader.specs.declared.lists.Packs.{Packs}
 use Rattle.reader.specs.Laws.Separators.{join_more, before_same}
-use Rattle.reader.specs.Lists.{before_text, ends_pack, opens_pack}
-use Rattle.reader.specs.Laws.Items.{peek_byte, peek_end, byte_within, while_stops, while_goes, ends_on, on_byte, refused_is}
+use Rattle.reader.specs.Lists.{before_text, opens_pack, last_size}
+use Rattle.reader.specs.Laws.Items.{while_stops, while_goes, ends_on, on_byte, refused_is}
 use Rattle.reader.specs.Laws.Closes.{closed_no, closed_yes, then_refused, then_ok, behind_is, arg_pack}
 use Rattle.grammar.specs.declared.refusal.Refusal.{Refusal}
 use Rattle.grammar.specs.declared.refusal.Refusal.TheVariants.{LongText}
@@ -138,9 +139,9 @@ pub record Packed (s : Text) (m₀ : Memory) (p₀ : Progress) (m : Memory) (p :
   pub sizes : Sizes outer around
   pub same : g.pack reading σ₀ ≡ outward around (rest_of texts state)
 
-packed_start : {s : Text} {m : Memory} {p : Progress} {outer : List ℕ} {σ : State} → Holds s m p σ → Packed s m p m p outer 0 0 σ
+pub packed_start : {s : Text} {m : Memory} {p : Progress} {outer : List ℕ} {level : ℕ} {σ : State} → Holds s m p σ → level ≡ 0 → Packed s m p m p outer level 0 σ
 unfolding join
-packed_start {s} {m} {p} {outer} {σ} h = record {
+packed_start {s} {m} {p} {outer} {level} {σ} h z = record {
   around = [];
   texts = [];
   state = σ;
@@ -148,13 +149,13 @@ packed_start {s} {m} {p} {outer} {σ} h = record {
   tail = rw append-nil (whole _ (window m p));
   depth = refl;
   more = omega arith;
-  level_is = refl;
+  level_is = z;
   size = omega arith;
   sizes = tt;
   same = pack_is σ;
 }
 
-pub opens_J : (level c : ℕ) → opens_pack level c ≡ true → (c ≡ 74) × (level < 64)
+opens_J : (level c : ℕ) → opens_pack level c ≡ true → (c ≡ 74) × (level < 64)
 opens_J level c e = go (c == 74) (nat_lt level 64) refl refl e
   where
     go : (q r : Bool) → (c == 74) ≡ q → nat_lt level 64 ≡ r → (q && r) ≡ true → (c ≡ 74) × (level < 64)
@@ -162,15 +163,20 @@ opens_J level c e = go (c == 74) (nat_lt level 64) refl refl e
     go true false f h k = absurd (false≢true k)
     go false r f h k = absurd (false≢true k)
 
--- at an E that ends no more than the innermost pack
-pub inner_E : (level n : ℕ) → ends_pack level n ≡ false → (0 < level) × (n ≤ 16386)
-inner_E zero n e = absurd (false≢true (sym e))
-inner_E (suc level) n e = (omega arith, ltb-false 16386 n e)
+-- whether a pack is around the innermost, and its size
+outermost : (outer : List ℕ) (level : ℕ) → peeked_as.None ≡ last_size outer level → level ≡ 0
+outermost outer zero f = refl
+outermost outer (suc level) f = let z : ◌≡◌ {A = ℕ} 0 1 = cc in absurd (omega arith)
 
--- .. and at one that ends a pack with others around it, which is too long
-outer_E : (level n : ℕ) → ends_pack level n ≡ true → 0 < level → 16386 < n
-outer_E zero n e h = absurd (omega arith)
-outer_E (suc level) n e h = ltb-true 16386 n e
+inner : (outer : List ℕ) (level : ℕ) {x : ℕ} → peeked_as.Some x ≡ last_size outer level → 0 < level
+inner outer zero f = let z : ◌≡◌ {A = ℕ} 0 1 = cc in absurd (omega arith)
+inner outer (suc level) f = omega arith
+
+last_is : (outer : List ℕ) (level : ℕ) (os : List (List Text)) {x : ℕ} → level ≡ suc (length os) → peeked_as.Some x ≡ last_size outer level → x ≡ slice_index outer (length os)
+last_is outer zero os k f = absurd (omega (arith, k))
+last_is outer (suc level) os {x} k f =
+    let g : x ≡ slice_index outer level = cc in
+    g ∙ ap (λ (j : ℕ). slice_index outer j) (omega (arith, k))
 
 module _ {s : Text} {m₀ : Memory} {p₀ : Progress} {m : Memory} {p : Progress} {outer : List ℕ} {level n : ℕ} {σ₀ : State} (l : Packed s m₀ p₀ m p outer level n σ₀) where
   -- no E is left
@@ -239,12 +245,12 @@ puts_ahead {text} {text'} {p} {p'} {q} {t} {i} v u =
     (record { same = ap (λ (z : Progress). moved_to z p.at) w.same; put = w.put }, ap (λ (j : ℕ). moved_to q j) (ap (λ (z : Progress). z.at) w.same))
 
 pub packed_opens :
-    {s : Text} {m₀ : Memory} {p₀ : Progress} {text text' : List ℕ} {store ends : Halves} {p q p' : Progress} {outer : List ℕ} {level n c : ℕ} {σ₀ : State} →
+    {s : Text} {m₀ : Memory} {p₀ : Progress} {text text' : List ℕ} {store ends : Halves} {p q p' : Progress} {outer outer' : List ℕ} {level level' n c : ℕ} {σ₀ : State} →
     Packed s m₀ p₀ (mem text store ends) p outer level n σ₀ → peeked (drop p.at s) ≡ peeked_as.Some c → p' ≡ moved_to p (p.at + 1) → Puts text text' p' q (before_text n) →
-    opens_pack level c ≡ true → length outer ≡ 64 → Packed s m₀ p₀ (mem text' store ends) q (slice_set outer level n) (level + 1) 0 σ₀
-packed_opens l e v u o z =
+    opens_pack level c ≡ true → length outer ≡ 64 → (level' ≡ level + 1) × (outer' ≡ slice_set outer level n) → Packed s m₀ p₀ (mem text' store ends) q outer' level' 0 σ₀
+packed_opens l e v u o z w =
     let k = puts_ahead v u in
-    opens_at l e k.0 o z k.1
+    rw (w.0, w.1) (opens_at l e k.0 o z k.1)
 
 -- ---------------------------------------------------------------- a text more
 
@@ -313,80 +319,68 @@ module _ {s : Text} {m₀ : Memory} {p₀ : Progress} {m : Memory} {p : Progress
   shown_size : length shown ≡ weight l.texts - 2
   shown_size = join_size l.texts
 
-  pub packed_closes : {p' : Progress} {n' : ℕ} → ends_pack level n ≡ false → p' ≡ moved_to p (p.at + 1) → n' ≡ min (slice_index outer (level - 1) + (n - 2 + 2)) most_length → Packed s m₀ p₀ m p' outer (level - 1) n' σ₀
-  unfolding onto
-  packed_closes {p'} {n'} a f o =
-      subst (λ (x : Progress). Packed s m₀ p₀ m x outer (level - 1) n' σ₀) (sym f) (go l.around l.tail l.level_is l.sizes l.same)
-    where
-      short : length shown ≤ most_text_bytes
-      short = omega (arith, (inner_E level n a).1, l.size, shown_size)
+  -- the pack is too long
+  pub packed_long : {j k d from : ℕ} {s' base : Text} {m' : Memory} → j ≡ n - 2 → most_text_bytes < j → Refines k d s' base from m' (Refused LongText) (g.pack reading σ₀)
+  packed_long v o =
+      let y : most_text_bytes < length shown = omega (arith, v, o, l.size, shown_size) in
+      by (l.same ∙ ap (outward l.around) (given ∙ give_long shown behind y) ∙ out_refused l.around 11) refuses
 
-      go : (around : List (List Text)) → Tail (keep p₀.depth) (window m p) (window m₀ p₀ ++ (under around ++ shown)) → level ≡ length around → Sizes outer around →
-          g.pack reading σ₀ ≡ outward around (rest_of l.texts l.state) → Packed s m₀ p₀ m (moved_to p (p.at + 1)) outer (level - 1) n' σ₀
-      go [] t k z h = absurd (omega (arith, (inner_E level n a).0, k))
-      go (y ∷ os) t k z h = record {
-        around = os;
-        texts = y ++ (shown ∷ []);
-        state = behind;
-        holds = holds_moved l.holds (p.at + 1) (omega (arith, inside l e));
-        tail =
-            subst (λ (x : Text). Tail (keep p₀.depth) (window m p) (window m₀ p₀ ++ x))
-            (append_assoc (under os) (join (b ", ") y ++ before_text (length y)) shown
-            ∙ ap (λ (x : Text). under os ++ x) (append_assoc (join (b ", ") y) (before_text (length y)) shown ∙ sym (join_more (b ", ") (length y) y shown refl))) t;
-        depth = l.depth;
-        more = omega (arith, l.more);
-        level_is = omega (arith, k);
-        size =
-            omega (arith, o, ap (λ (x : ℕ). slice_index outer x) {x = level - 1} {y = length os} (omega (arith, k)), z.0, (inner_E level n a).1, l.size, shown_size, weight_more y shown);
-        sizes = z.1;
-        same = h ∙ ap (outward (y ∷ os)) (given ∙ give_short shown behind short);
-      }
+  module _ {j : ℕ} (u : j ≡ n - 2) (o : j ≤ most_text_bytes) where
+    fits : length shown ≡ j
+    fits = omega (arith, u, o, l.size, shown_size)
+
+    -- no pack is around it
+    pub packed_ends : peeked_as.None ≡ last_size outer level → Refines (keep p₀.depth) p₀.depth s (window m₀ p₀) (p₀.at + 1) m (read (moved_to p (p.at + 1)) j) (g.pack reading σ₀)
+    packed_ends f = go l.around l.tail l.level_is l.same
+      where
+        go : (around : List (List Text)) → Tail (keep p₀.depth) (window m p) (window m₀ p₀ ++ (under around ++ shown)) → level ≡ length around →
+            g.pack reading σ₀ ≡ outward around (rest_of l.texts l.state) → Refines (keep p₀.depth) p₀.depth s (window m₀ p₀) (p₀.at + 1) m (read (moved_to p (p.at + 1)) j) (g.pack reading σ₀)
+        go [] t d h = by (h ∙ given ∙ give_short shown behind (omega (arith, o, fits))) (reads (record {
+          holds = holds_moved l.holds (p.at + 1) (omega (arith, inside l e));
+          tail = t;
+          size = omega (arith, fits);
+          short = omega (arith, o, fits);
+          level = l.depth;
+          more = omega (arith, l.more);
+        }))
+        go (y ∷ os) t d h = absurd (omega (arith, d, outermost outer level f))
+
+    -- its text is one more of the pack around it
+    pub packed_closes : {outer' : List ℕ} {level' x n' : ℕ} → (level' ≡ level - 1) × ((outer' ≡ outer) × (peeked_as.Some x ≡ last_size outer level)) → n' ≡ min (x + (j + 2)) most_length →
+        Packed s m₀ p₀ m (moved_to p (p.at + 1)) outer' level' n' σ₀
+    unfolding onto
+    packed_closes {outer'} {level'} {x} {n'} w v = rw (w.0, w.1.0) (go l.around l.tail l.level_is l.sizes l.same)
+      where
+        go : (around : List (List Text)) → Tail (keep p₀.depth) (window m p) (window m₀ p₀ ++ (under around ++ shown)) → level ≡ length around → Sizes outer around →
+            g.pack reading σ₀ ≡ outward around (rest_of l.texts l.state) → Packed s m₀ p₀ m (moved_to p (p.at + 1)) outer (level - 1) n' σ₀
+        go [] t k z h = absurd (omega (arith, inner outer level w.1.1, k))
+        go (y ∷ os) t k z h = record {
+          around = os;
+          texts = y ++ (shown ∷ []);
+          state = behind;
+          holds = holds_moved l.holds (p.at + 1) (omega (arith, inside l e));
+          tail =
+              subst (λ (x : Text). Tail (keep p₀.depth) (window m p) (window m₀ p₀ ++ x))
+              (append_assoc (under os) (join (b ", ") y ++ before_text (length y)) shown
+              ∙ ap (λ (x : Text). under os ++ x) (append_assoc (join (b ", ") y) (before_text (length y)) shown ∙ sym (join_more (b ", ") (length y) y shown refl))) t;
+          depth = l.depth;
+          more = omega (arith, l.more);
+          level_is = omega (arith, k);
+          size = omega (arith, v, last_is outer level os k w.1.1, z.0, l.size, shown_size, u, o, weight_more y shown);
+          sizes = z.1;
+          same = h ∙ ap (outward (y ∷ os)) (given ∙ give_short shown behind (omega (arith, o, fits)));
+        }
 
   -- the sizes that are there are small
-  pub outer_small : 0 < level → slice_index outer (level - 1) ≤ most_length
-  outer_small a = go l.around l.level_is l.sizes
+  pub outer_small : {x : ℕ} → peeked_as.Some x ≡ last_size outer level → x ≤ most_length
+  outer_small {x} f = go l.around l.level_is l.sizes
     where
-      go : (around : List (List Text)) → level ≡ length around → Sizes outer around → slice_index outer (level - 1) ≤ most_length
-      go [] k z = absurd (omega arith)
-      go (y ∷ os) k z = omega (arith, ap (λ (x : ℕ). slice_index outer x) {x = level - 1} {y = length os} (omega (arith, k)), z.0)
-
-  pub packed_ends : {p' : Progress} {j : ℕ} {r : Read} → ends_pack level n ≡ true → p' ≡ moved_to p (p.at + 1) → j ≡ n - 2 → r ≡ given_of p' j →
-      Refines (keep p₀.depth) p₀.depth s (window m₀ p₀) (p₀.at + 1) m r (g.pack reading σ₀)
-  unfolding given_of if◌then◌otherwise◌
-  packed_ends {p'} {j} {r} a f o k =
-      subst (λ (x : Read). Refines (keep p₀.depth) p₀.depth s (window m₀ p₀) (p₀.at + 1) m x (g.pack reading σ₀)) (sym (k ∙ ap (λ (x : Progress). given_of x j) f)) (go (nat_le j most_text_bytes) refl l.around l.tail l.level_is l.same)
-    where
-      answer : Bool → Read
-      answer q = if q then read (moved_to p (p.at + 1)) j otherwise Refused LongText
-
-      go : (q : Bool) → nat_le j most_text_bytes ≡ q → (around : List (List Text)) → Tail (keep p₀.depth) (window m p) (window m₀ p₀ ++ (under around ++ shown)) → level ≡ length around →
-          g.pack reading σ₀ ≡ outward around (rest_of l.texts l.state) → Refines (keep p₀.depth) p₀.depth s (window m₀ p₀) (p₀.at + 1) m (answer q) (g.pack reading σ₀)
-      go false x around t d h =
-          let y : most_text_bytes < length shown = omega (arith, leb-false j most_text_bytes x, o, l.size, shown_size) in
-          by (h ∙ ap (outward around) (given ∙ give_long shown behind y) ∙ out_refused around 11) refuses
-      go true x [] t d h =
-          let y : length shown ≤ most_text_bytes = omega (arith, leb-true j most_text_bytes x, o, l.size, shown_size) in
-          by (h ∙ given ∙ give_short shown behind y) (reads (record {
-            holds = holds_moved l.holds (p.at + 1) (omega (arith, inside l e));
-            tail = t;
-            size = omega (arith, leb-true j most_text_bytes x, o, l.size, shown_size);
-            short = y;
-            level = l.depth;
-            more = omega (arith, l.more);
-          }))
-      go true x (y ∷ os) t d h = absurd (omega (arith, outer_E level n a (omega (arith, d)), leb-true j most_text_bytes x, o))
+      go : (around : List (List Text)) → level ≡ length around → Sizes outer around → x ≤ most_length
+      go [] k z = absurd (omega (arith, inner outer level f, k))
+      go (y ∷ os) k z = omega (arith, last_is outer level os k f, z.0)
 
 -- ---------------------------------------------------------------- the loop so far
 
-pub record Packing (s : Text) (m₀ : Memory) (p₀ : Progress) (m : Memory) (p : Progress) (outer : List ℕ) (level n : ℕ) : Type 0 where
-  pub room : length outer ≡ 64
-  pub deep : level ≤ 64
-  pub so_far : (σ₀ : State) → Holds s m₀ p₀ σ₀ → Packed s m₀ p₀ m p outer level n σ₀
-
-pub packing :
-    {s : Text} {m₀ : Memory} {p₀ : Progress} {m : Memory} {p : Progress} {outer : List ℕ} {level n : ℕ} → length outer ≡ 64 → level ≤ 64 →
-    ((σ₀ : State) → Holds s m₀ p₀ σ₀ → Packed s m₀ p₀ m p outer level n σ₀) → Packing s m₀ p₀ m p outer level n
-packing r d f = record { room = r; deep = d; so_far = f }
-
-pub packing_start : {s : Text} {m : Memory} {p : Progress} {outer : List ℕ} → length outer ≡ 64 → Packing s m p m p outer 0 0
-packing_start z = packing z (omega arith) (λ σ₀ h₀. packed_start h₀)
+-- what the loop keeps
+abbrev pub Packing : Text → Memory → Progress → Memory → Progress → Packs → ℕ → Type 0
+Packing s m₀ p₀ m p outer n = (σ₀ : State) → Holds s m₀ p₀ σ₀ → Packed s m₀ p₀ m p outer.sizes outer.level n σ₀

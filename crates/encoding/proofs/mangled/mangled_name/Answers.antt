@@ -3,7 +3,7 @@ use Rattle.std.proofs.lemmas.Result.{err_from_is_err_and}
 use Rattle.grammar.specs.Text.{b}
 use Rattle.parser.specs.Demanglers.{state_of}
 use Rattle.parser.specs.Laws.Demanglers.{given_by}
-use Rattle.encoding.specs.Laws.Labels.{strip_starts}
+use Rattle.parser.specs.Laws.Literals.{strip_starts}
 use Rattle.encoding.specs.Laws.Clones.{cloned_start, cloned_more, cloned_begun, clones_alone, clones_refused, clones_given}
 use Rattle.encoding.proofs.mangled.mangled_name.Goals as goal
 

@@ -1,7 +1,6 @@
-use Rattle.std.proofs.Common.{rules}
-use Rattle.grammar.specs.Text.{digit}
+use Rattle.std.proofs.Common.{◌∙◌}
+use Rattle.parser.specs.Laws.Leaves.{digit_is}
 use Rattle.parser.proofs.leaf.digit.Goals as goal
 
 pub returns : goal.returns
-unfolding digit
-returns c = search rules
+returns c = c.is_ascii_digit.ensures.value ∙ digit_is c.args.c

@@ -1,5 +1,5 @@
-use Rattle.std.proofs.Common.{◌≡◌, ℕ, ◌+◌, ◌≤◌, true, false, [], ◌∷◌, ◌++◌, length, refl, sym, ap, ◌∙◌, subst, arith, length-append, drop, Ok, Err, length-drop, slice_index_or, min, ◌<◌}
-use Rattle.std.proofs.Common.{Bor, ◌-◌, length-set, slice_index, length-take-le}
+use Rattle.std.proofs.Common.{◌≡◌, ℕ, ◌+◌, ◌≤◌, true, false, [], ◌∷◌, ◌++◌, length, refl, sym, ap, ◌∙◌, subst, arith, length-append, drop, Ok, Err, length-drop, slice_index_or, ◌<◌}
+use Rattle.std.proofs.Common.{Bor, ◌-◌, length-take-le}
 use Rattle.std.proofs.lemmas.Result.{err_from_is_err_and}
 use Rattle.grammar.specs.Text.{Text, b, same, starts, choose, if◌then◌otherwise◌, run}
 use Rattle.grammar.specs.Tables.{◌⇒◌, letters, d_letters, operators}
@@ -11,7 +11,8 @@ use Rattle.grammar.specs.Laws.Steps.{inner_u, inner_wrapper}
 use Rattle.parser.specs.declared.demangler.Demangler.{Demangler}
 use Rattle.parser.specs.Holds.{reads, refuses, keep, part, Puts, Refines, window}
 use Rattle.parser.specs.Demanglers.{state_of, memory_of, Held, at_place, outcome, Prepared, given_length, Parses, Eats, at_depth}
-use Rattle.parser.specs.Laws.Demanglers.{Passed, puts_of, outcome_given, took, took_none, ate, ate_none, needed, lacked, lacked_parses, parses_as, parses_none, held_at, prepared_at, gives_word, done, given_by, given_ok, given_err, went_in}
+use Rattle.parser.specs.Laws.Demanglers.{Passed, puts_of, outcome_given, took, took_none, ate, ate_none, needed, lacked, lacked_parses, parses_as, parses_none, held_at, prepared_at}
+use Rattle.parser.specs.Laws.Demanglers.{gives_word, done, given_by, given_ok, given_err, went_in}
 use Rattle.parser.specs.Laws.Halves.{newest_part, give_short}
 use Rattle.parser.specs.Laws.Holds.{by, sooner, less, holds_moved, got, refused_on, answers, short_enough, holds_puts}
 use Rattle.reader.specs.Laws.Demanglers.{held_from, reads_from, instance_from, ahead_from, read_of, prepared_behind, deep_parses, prepared_in, refused_parses, read_parses}
@@ -25,7 +26,8 @@ use Rattle.reader.specs.Laws.Joined.{parted_more, pushes_alike, Behind, behind_l
 use Rattle.reader.specs.Laws.Items.{argument_refused, listing_start, listing_more, listed_ends, listed_refuses, at_end, at_byte}
 use Rattle.parser.specs.Laws.References.{given_some, given_none}
 use Rattle.reader.proofs.TypeHeads.{spelled_is, spelled_not, digit_head, left_over, no_D, no_N, no_T, no_S}
-use Rattle.reader.proofs.Passing.{letter_read, letter_refused, byte_there, none_there, passed_stands, parses_from, passed_from, two_is, two_inside, two_second, none_left, put_at, parses_put, parses_behind, read_stayed, given_behind}
+use Rattle.reader.proofs.Passing.{letter_read, letter_refused, byte_there, none_there, passed_stands, parses_from, passed_from, two_is, two_inside, two_second, none_left, put_at}
+use Rattle.reader.proofs.Passing.{parses_put, parses_behind, read_stayed, given_behind}
 use Rattle.reader.proofs.Spacings.{items_from, no_items_from, peeked_from, item_from}
 use Rattle.reader.proofs.Names.{bared, bared_not, marked_too, marked_not, std-rest, std-inside, std-open, structor_symbol, structor_alone}
 use Rattle.reader.specs.Laws.Arrays.{byte_at, byte_is, byte_inside, no_byte, array_4, array_in, array_given, part_size, no_name_code}
@@ -50,7 +52,7 @@ use Rattle.reader.specs.Laws.Opers.{unq_ready, unq_end, unq_U, unq_digit, unq_op
 use Rattle.reader.specs.Laws.Nested.{nested_4, prefixing_start}
 use Rattle.reader.proofs.Nested.{symbol_behind, nested_ends, nested_ready, nested_closes, nested_refuses, nested_nearer, nested_more, nested_further}
 use Rattle.std.specs.Prelude.{Some, None, not, ◌==◌}
-use Rattle.grammar.specs.Limits.{most_length, most_text_bytes}
+use Rattle.grammar.specs.Limits.{most_text_bytes}
 use Rattle.parser.specs.Halves.{with_args}
 use Rattle.reader.specs.Laws.Argued.{Ended, After, args_is as prefix_args_is, after_none, after_some, argued_parts}
 use Rattle.reader.specs.Lists.{parted, unparted}
@@ -61,8 +63,7 @@ use Rattle.reader.specs.Laws.Brackets.{stands_some}
 use Rattle.reader.proofs.Angles.{opened, opened_held, args_too_deep, args_no_list, args_unclosed, list_is, bracketed, close_of, newest_byte, args_closed}
 use Rattle.grammar.specs.declared.refusal.Refusal.TheVariants.{NoRule}
 use Rattle.parser.specs.Leaves.{Skips}
-use Rattle.reader.specs.Laws.Packs.{packing, packing_start, packed_4, packed_opens, packed_closes, packed_more, packed_refuses, packed_ends, inside, inner_E, opens_J, outer_small}
-use Rattle.reader.specs.Laws.Packs.{text_short, text_further}
+use Rattle.reader.specs.Laws.Packs.{packed_start, packed_4, packed_opens, packed_closes, packed_more, packed_refuses, packed_ends, packed_long, inside, outer_small, text_short, text_further}
 use Rattle.reader.proofs.cycle.+readers.Goals as goal
 
 -- ---------------------------------------------------------------- ty
@@ -1707,7 +1708,7 @@ template_arg-returns t c =
 -- ---------------------------------------------------------------- pack
 
 pub pack-loop-c-init : goal.pack-loop-c-init
-pack-loop-c-init t c = record { symbol = refl; so_far = packing_start refl }
+pack-loop-c-init t c = record { symbol = refl; so_far = λ σ h. packed_start h c.none-outer.ensures }
 
 pub pack-returns-in_err-c : goal.pack-returns-in_err-c
 pack-returns-in_err-c t c =
@@ -1715,77 +1716,90 @@ pack-returns-in_err-c t c =
     let v = c.loop-c.invariant in
     let f = given_none c.peek.result _ c.in_err-c.ensures.value in
     let e = ap (λ (t : Text). peeked (drop c.loop-c.d.state.at t)) (sym v.symbol) ∙ sym c.peek.ensures ∙ f.0 in
-    rw (p.1, p.2, f.1) (record { symbol = v.symbol; reads = λ σ h. by (packed_4 (v.so_far.so_far σ h) e) refuses })
-
-pub pack-returns-then-pack_ends : goal.pack-returns-then-pack_ends
-pack-returns-then-pack_ends t c =
-    let v = c.loop-c.invariant in
-    let e = ap (λ (t : Text). peeked (drop c.loop-c.d.state.at t)) (sym v.symbol) ∙ sym c.peek.ensures ∙ given_some c.peek.result _ c.in_ok-c.ensures.value in
-    record {
-      symbol = v.symbol;
-      reads = λ σ h. packed_ends (v.so_far.so_far σ h) e c.if-c-eq69.true (sym c.pack_ends.ensures ∙ c.if-pack_ends.true) refl c.saturating_sub.ensures (given_by _ _ c.given.ensures);
-    }
-
-pub pack-sum-n-requires : goal.pack-sum-n-requires
-pack-sum-n-requires t c =
-    let v = c.loop-c.invariant in
-    let e = ap (λ (t : Text). peeked (drop c.loop-c.d.state.at t)) (sym v.symbol) ∙ sym c.peek.ensures ∙ given_some c.peek.result _ c.in_ok-c.ensures.value in
-    let f = inner_E c.loop-c.level c.loop-c.n (sym c.pack_ends.ensures ∙ c.if-pack_ends.false) in
-    (outer_small (v.so_far.so_far _ c.requires.1) e c.if-c-eq69.true f.0, omega (arith, c.saturating_sub-then-c-eq69.ensures, f.1))
-
-pub pack-loop-c-preserved-then-c-eq69 : goal.pack-loop-c-preserved-then-c-eq69
-pack-loop-c-preserved-then-c-eq69 t c =
-    let v = c.loop-c.invariant in
-    let e = ap (λ (t : Text). peeked (drop c.loop-c.d.state.at t)) (sym v.symbol) ∙ sym c.peek.ensures ∙ given_some c.peek.result _ c.in_ok-c.ensures.value in
-    record {
-      symbol = v.symbol;
-      so_far = packing v.so_far.room (omega (arith, v.so_far.deep)) (λ σ h. packed_closes (v.so_far.so_far σ h) e c.if-c-eq69.true (sym c.pack_ends.ensures ∙ c.if-pack_ends.false) refl
-          (c.sum-n.ensures ∙ ap (λ (x : ℕ). min (slice_index c.loop-c.outer (c.loop-c.level - 1) + (x + 2)) most_length) c.saturating_sub-then-c-eq69.ensures));
-    }
-
-pub pack-loop-c-preserved-then-pack_opens : goal.pack-loop-c-preserved-then-pack_opens
-pack-loop-c-preserved-then-pack_opens t c =
-    let v = c.loop-c.invariant in
-    let e = ap (λ (t : Text). peeked (drop c.loop-c.d.state.at t)) (sym v.symbol) ∙ sym c.peek.ensures ∙ given_some c.peek.result _ c.in_ok-c.ensures.value in
-    let o = sym c.pack_opens.ensures ∙ c.if-pack_opens.true in
-    record {
-      symbol = v.symbol;
-      so_far = packing (length-set c.loop-c.outer c.loop-c.level c.loop-c.n ∙ v.so_far.room) (omega (arith, (opens_J c.loop-c.level c.in_ok-c.c o).1))
-          (λ σ h. packed_opens (v.so_far.so_far σ h) e refl (puts_of (at_place c.loop-c.d (c.loop-c.d.state.at + 1)) c.comma.new.stack c.comma.ensures) o v.so_far.room);
-    }
+    rw (p.1, p.2, f.1) (record { symbol = v.symbol; reads = λ σ h. by (packed_4 (v.so_far σ h) e) refuses })
 
 pub pack-returns-in_err-m : goal.pack-returns-in_err-m
 pack-returns-in_err-m t c =
     let p = err_from_is_err_and c.from_residual-in_err-m.result c.from_residual-in_err-m.ensures.1 in
     let v = c.loop-c.invariant in
     let e = ap (λ (t : Text). peeked (drop c.loop-c.d.state.at t)) (sym v.symbol) ∙ sym c.peek.ensures ∙ given_some c.peek.result _ c.in_ok-c.ensures.value in
-    let k = c.in_err-m.ensures in
-    rw (p.1, p.2) (record {
-      symbol = k.symbol ∙ v.symbol;
-      reads = λ σ h. packed_refuses (v.so_far.so_far σ h) e (λ z. omega (arith, z, c.if-c-eq69.false)) (puts_of c.loop-c.d c.comma.new.stack c.comma.ensures) (reads_from v.symbol k) refl;
-    })
+    let g = given_err c.saturating_sub.result c.in_err-m.ensures in
+    rw (p.1, p.2, g.1) (record { symbol = v.symbol; reads = λ σ h. packed_long (v.so_far σ h) e c.if-c-eq69.true c.saturating_sub.ensures g.0 })
 
 pub pack-overflow_add-m : goal.pack-overflow_add-m
 pack-overflow_add-m t c =
+    let g = given_ok c.saturating_sub.result c.in_ok-m.ensures in
+    omega (arith, g.0, g.1)
+
+pub pack-sum-n-requires : goal.pack-sum-n-requires
+pack-sum-n-requires t c =
+    let v = c.loop-c.invariant in
+    let e = ap (λ (t : Text). peeked (drop c.loop-c.d.state.at t)) (sym v.symbol) ∙ sym c.peek.ensures ∙ given_some c.peek.result _ c.in_ok-c.ensures.value in
+    let g = given_ok c.saturating_sub.result c.in_ok-m.ensures in
+    (outer_small (v.so_far _ c.requires.1) e c.if-c-eq69.true c.in-Some.ensures.1.1, omega (arith, g.0, g.1))
+
+pub pack-returns-in-None : goal.pack-returns-in-None
+pack-returns-in-None t c =
+    let v = c.loop-c.invariant in
+    let e = ap (λ (t : Text). peeked (drop c.loop-c.d.state.at t)) (sym v.symbol) ∙ sym c.peek.ensures ∙ given_some c.peek.result _ c.in_ok-c.ensures.value in
+    let g = given_ok c.saturating_sub.result c.in_ok-m.ensures in
+    record {
+      symbol = v.symbol;
+      reads = λ σ h. packed_ends (v.so_far σ h) e c.if-c-eq69.true (g.1 ∙ c.saturating_sub.ensures) (omega (arith, g.0, g.1)) c.in-None.ensures.1.1;
+    }
+
+pub pack-loop-c-preserved-then-c-eq69 : goal.pack-loop-c-preserved-then-c-eq69
+pack-loop-c-preserved-then-c-eq69 t c =
+    let v = c.loop-c.invariant in
+    let e = ap (λ (t : Text). peeked (drop c.loop-c.d.state.at t)) (sym v.symbol) ∙ sym c.peek.ensures ∙ given_some c.peek.result _ c.in_ok-c.ensures.value in
+    let g = given_ok c.saturating_sub.result c.in_ok-m.ensures in
+    record {
+      symbol = v.symbol;
+      so_far = λ σ h. packed_closes (v.so_far σ h) e c.if-c-eq69.true (g.1 ∙ c.saturating_sub.ensures) (omega (arith, g.0, g.1)) c.in-Some.ensures c.sum-n.ensures;
+    }
+
+pub pack-loop-c-preserved-then-opens : goal.pack-loop-c-preserved-then-opens
+pack-loop-c-preserved-then-opens t c =
+    let v = c.loop-c.invariant in
+    let e = ap (λ (t : Text). peeked (drop c.loop-c.d.state.at t)) (sym v.symbol) ∙ sym c.peek.ensures ∙ given_some c.peek.result _ c.in_ok-c.ensures.value in
+    record {
+      symbol = v.symbol;
+      so_far = λ σ h. packed_opens (v.so_far σ h) e refl (puts_of (at_place c.loop-c.d (c.loop-c.d.state.at + 1)) c.comma.new.stack c.comma.ensures)
+          (sym c.opens.ensures ∙ c.if-opens.true) c.loop-c.outer.room c.push.ensures;
+    }
+
+pub pack-returns-in_err-m-2 : goal.pack-returns-in_err-m-2
+pack-returns-in_err-m-2 t c =
+    let p = err_from_is_err_and c.from_residual-in_err-m-2.result c.from_residual-in_err-m-2.ensures.1 in
+    let v = c.loop-c.invariant in
+    let e = ap (λ (t : Text). peeked (drop c.loop-c.d.state.at t)) (sym v.symbol) ∙ sym c.peek.ensures ∙ given_some c.peek.result _ c.in_ok-c.ensures.value in
+    let k = c.in_err-m-2.ensures in
+    rw (p.1, p.2) (record {
+      symbol = k.symbol ∙ v.symbol;
+      reads = λ σ h. packed_refuses (v.so_far σ h) e (λ z. omega (arith, z, c.if-c-eq69.false)) (puts_of c.loop-c.d c.comma.new.stack c.comma.ensures) (reads_from v.symbol k) refl;
+    })
+
+pub pack-overflow_add-m-in-loop-c : goal.pack-overflow_add-m-in-loop-c
+pack-overflow_add-m-in-loop-c t c =
     let v = c.loop-c.invariant in
     let e = ap (λ (t : Text). peeked (drop c.loop-c.d.state.at t)) (sym v.symbol) ∙ sym c.peek.ensures ∙ given_some c.peek.result _ c.in_ok-c.ensures.value in
     let u = puts_of c.loop-c.d c.comma.new.stack c.comma.ensures in
-    omega (arith, text_short (v.so_far.so_far _ c.requires.1) e (λ z. omega (arith, z, c.if-c-eq69.false)) u (reads_from v.symbol c.in_ok-m.ensures) refl)
+    omega (arith, text_short (v.so_far _ c.requires.1) e (λ z. omega (arith, z, c.if-c-eq69.false)) u (reads_from v.symbol c.in_ok-m-2.ensures) refl)
 
 pub pack-sum-n-requires-in-loop-c : goal.pack-sum-n-requires-in-loop-c
 pack-sum-n-requires-in-loop-c t c =
     let v = c.loop-c.invariant in
-    let l = v.so_far.so_far _ c.requires.1 in
+    let l = v.so_far _ c.requires.1 in
     let e = ap (λ (t : Text). peeked (drop c.loop-c.d.state.at t)) (sym v.symbol) ∙ sym c.peek.ensures ∙ given_some c.peek.result _ c.in_ok-c.ensures.value in
     let u = puts_of c.loop-c.d c.comma.new.stack c.comma.ensures in
-    (omega (arith, l.size), omega (arith, text_short l e (λ z. omega (arith, z, c.if-c-eq69.false)) u (reads_from v.symbol c.in_ok-m.ensures) refl))
+    (omega (arith, l.size), omega (arith, text_short l e (λ z. omega (arith, z, c.if-c-eq69.false)) u (reads_from v.symbol c.in_ok-m-2.ensures) refl))
 
 pub pack-loop-c-smaller : goal.pack-loop-c-smaller
 pack-loop-c-smaller t c =
     let v = c.loop-c.invariant in
-    let l = v.so_far.so_far _ c.requires.1 in
+    let l = v.so_far _ c.requires.1 in
     let e = ap (λ (t : Text). peeked (drop c.loop-c.d.state.at t)) (sym v.symbol) ∙ sym c.peek.ensures ∙ given_some c.peek.result _ c.in_ok-c.ensures.value in
-    let k = c.in_ok-m.ensures in
+    let k = c.in_ok-m-2.ensures in
     omega (
       arith,
       inside l e,
@@ -1798,11 +1812,11 @@ pub pack-loop-c-preserved : goal.pack-loop-c-preserved
 pack-loop-c-preserved t c =
     let v = c.loop-c.invariant in
     let e = ap (λ (t : Text). peeked (drop c.loop-c.d.state.at t)) (sym v.symbol) ∙ sym c.peek.ensures ∙ given_some c.peek.result _ c.in_ok-c.ensures.value in
-    let k = c.in_ok-m.ensures in
+    let k = c.in_ok-m-2.ensures in
     record {
       symbol = k.symbol ∙ v.symbol;
-      so_far = packing v.so_far.room v.so_far.deep (λ σ h. packed_more (v.so_far.so_far σ h) e (λ z. omega (arith, z, c.if-c-eq69.false))
-          (puts_of c.loop-c.d c.comma.new.stack c.comma.ensures) (reads_from v.symbol k) refl c.sum-n-in-loop-c.ensures);
+      so_far = λ σ h. packed_more (v.so_far σ h) e (λ z. omega (arith, z, c.if-c-eq69.false))
+          (puts_of c.loop-c.d c.comma.new.stack c.comma.ensures) (reads_from v.symbol k) refl c.sum-n-in-loop-c.ensures;
     }
 
 -- ---------------------------------------------------------------- expr_primary

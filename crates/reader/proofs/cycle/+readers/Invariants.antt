@@ -116,7 +116,7 @@ decreases-nested_name-loop-c l = length l.d.s.now - l.d.state.at
 abbrev pub invariant-pack-loop-c : goal.invariant-pack-loop-c
 invariant-pack-loop-c l = record {
   symbol : l.d.s.now ≡ l.initial.d.s.now;
-  so_far : Packing l.initial.d.s.now (memory_of l.initial.d) (state_of l.initial.d) (memory_of l.d) (state_of l.d) l.outer l.level l.n;
+  so_far : Packing l.initial.d.s.now (memory_of l.initial.d) (state_of l.initial.d) (memory_of l.d) (state_of l.d) l.outer l.n;
 }
 
 abbrev pub decreases-pack-loop-c : goal.decreases-pack-loop-c

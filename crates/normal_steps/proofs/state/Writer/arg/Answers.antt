@@ -6,11 +6,15 @@ use Rattle.normal_steps.specs.Laws.Moves.{holds_counted}
 use Rattle.normal_steps.specs.Laws.Limits.{took_counted}
 use Rattle.normal_steps.proofs.state.Writer.arg.Goals as goal
 
-pub returns-clause-steps : goal.returns-clause-steps
-returns-clause-steps c σ h =
-    let t = told (c.note-u.ensures.steps σ h) in
-    let r = c.requires.1.1.0 in
-    let i = h.args_count in
-    let j = t.0.args_count in
-    by (counted_is c.args.t c.args.x σ t.1.1.0)
-    (tells (holds_counted t.0 (omega (arith, r.args, t.1.0.at))) (took_counted t.1.0 refl (omega arith)) t.1.1.1)
+pub returns : goal.returns
+returns c =
+    record {
+      symbol = c.note-u.ensures.symbol;
+      is = λ σ h.
+          let t = told (c.note-u.ensures.is σ h) in
+          let r = c.requires.1.1.0 in
+          let i = h.args_count in
+          let j = t.0.args_count in
+          by (counted_is c.args.t c.args.x σ t.1.1.0)
+          (tells (holds_counted t.0 (omega (arith, r.args, t.1.0.at))) (took_counted t.1.0 refl (omega arith)) t.1.1.1);
+    }

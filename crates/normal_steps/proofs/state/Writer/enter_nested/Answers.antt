@@ -5,20 +5,28 @@ use Rattle.normal_steps.specs.Laws.Steps.{nested_newest, nested_old, nested_othe
 use Rattle.normal_steps.proofs.state.Writer.enter_nested.Goals.{else-tag_of-from-via-then-tag_of-from+else-newest, else-tag_of-from-via-else-tag_of-from}
 use Rattle.normal_steps.proofs.state.Writer.enter_nested.Goals as goal
 
-pub returns-then-newest-clause-does : goal.returns-then-newest-clause-does
-returns-then-newest-clause-does c σ h =
-    let w = c.settle.ensures.does σ h in
-    let e = sym (c.tag_of.ensures σ h) ∙ c.if-tag_of-from.true ∙ c.from.ensures in
-    let f = sym (c.newest.ensures σ h) ∙ c.if-newest.true in
-    went_as (nested_newest c.args.u c.args.from σ e f) w.holds (took_less w.limits)
+pub returns-then-newest : goal.returns-then-newest
+returns-then-newest c =
+    record {
+      symbol = c.settle.ensures.symbol;
+      is = λ σ h.
+          let w = c.settle.ensures.is σ h in
+          let e = sym (c.tag_of.ensures σ h) ∙ c.if-tag_of-from.true ∙ c.from.ensures in
+          let f = sym (c.newest.ensures σ h) ∙ c.if-newest.true in
+          went_as (nested_newest c.args.u c.args.from σ e f) w.holds (took_less w.limits);
+    }
 
-pub returns-clause-does : goal.returns-clause-does
-returns-clause-does c σ h =
-    let w = c.enter.ensures.does σ h in
-    let t = c.tag_of.ensures σ h in
-    went_as
-    (elim c.else-tag_of-from.branch [
-      | else-tag_of-from-via-then-tag_of-from+else-newest x ↦ nested_old c.args.u c.args.from σ (sym (x.newest.ensures σ h) ∙ x.if-newest.false)
-      | else-tag_of-from-via-else-tag_of-from x ↦ nested_other c.args.u c.args.from σ (λ e. x.if-tag_of-from.false (t ∙ e ∙ sym c.from.ensures))
-    ])
-    w.holds w.limits
+pub returns : goal.returns
+returns c =
+    record {
+      symbol = c.enter.ensures.symbol;
+      is = λ σ h.
+          let w = c.enter.ensures.is σ h in
+          let t = c.tag_of.ensures σ h in
+          went_as
+          (elim c.else-tag_of-from.branch [
+            | else-tag_of-from-via-then-tag_of-from+else-newest x ↦ nested_old c.args.u c.args.from σ (sym (x.newest.ensures σ h) ∙ x.if-newest.false)
+            | else-tag_of-from-via-else-tag_of-from x ↦ nested_other c.args.u c.args.from σ (λ e. x.if-tag_of-from.false (t ∙ e ∙ sym c.from.ensures))
+          ])
+          w.holds w.limits;
+    }

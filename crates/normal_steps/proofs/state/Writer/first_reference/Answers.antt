@@ -8,11 +8,13 @@ use Rattle.normal_steps.specs.Laws.Steps.{with_none}
 use Rattle.normal_steps.specs.Laws.LeafSteps.{reference_none, reference_is}
 use Rattle.normal_steps.proofs.state.Writer.first_reference.Goals as goal
 
-pub returns-in_err-reference-clause-reads : goal.returns-in_err-reference-clause-reads
-returns-in_err-reference-clause-reads c σ h = rw c.from_residual.ensures (by (with_none _ (ap reference h.rest ∙ c.in_err-reference.ensures)) refuses)
+pub returns-in_err-reference : goal.returns-in_err-reference
+returns-in_err-reference c =
+    rw c.from_residual.ensures (record { symbol = refl; is = λ σ h. by (with_none _ (ap reference h.rest ∙ c.in_err-reference.ensures)) refuses })
 
-pub returns-then-self-reference-clause-reads : goal.returns-then-self-reference-clause-reads
-returns-then-self-reference-clause-reads c σ h = by (reference_none h c.in_ok-reference.ensures _ c.if-self-reference.true) refuses
+pub returns-then-self-reference : goal.returns-then-self-reference
+returns-then-self-reference c =
+    record { symbol = refl; is = λ σ h. by (reference_none h c.in_ok-reference.ensures _ c.if-self-reference.true) refuses }
 
 pub settle-requires : goal.settle-requires
 settle-requires c =
@@ -22,13 +24,17 @@ settle-requires c =
     let t = c.entry-t.ensures _ h in
     (t.1, (record { stands = omega arith; fits = omega (arith, c.requires.0); spare = omega (arith, c.requires.0) }, (_, holds_moved h _ (omega arith) x.inside)))
 
-pub returns-clause-reads : goal.returns-clause-reads
-returns-clause-reads c σ h =
-    let x = c.in_ok-reference.ensures in
-    let w = passed_none c.args.self.now.state refl in
-    let b = x.behind in
-    let t = c.entry-t.ensures σ h in
-    let v = c.settle.ensures.does _ (holds_moved h _ (omega arith) x.inside) in
-    let l = v.limits in
-    by (reference_is h x _ t.0)
-    (tells v.holds (omega arith, spent w l (omega arith) (omega arith) (omega arith) (omega (arith, c.requires.0))) (omega (arith, t.1.1, h.few_nodes, h.place, h.source)))
+pub returns : goal.returns
+returns c =
+    record {
+      symbol = c.settle.ensures.symbol;
+      is = λ σ h.
+          let x = c.in_ok-reference.ensures in
+          let w = passed_none c.args.self.now.state refl in
+          let b = x.behind in
+          let t = c.entry-t.ensures σ h in
+          let v = c.settle.ensures.is _ (holds_moved h _ (omega arith) x.inside) in
+          let l = v.limits in
+          by (reference_is h x _ t.0)
+          (tells v.holds (omega arith, spent w l (omega arith) (omega arith) (omega arith) (omega (arith, c.requires.0))) (omega (arith, t.1.1, h.few_nodes, h.place, h.source)));
+    }

@@ -3,7 +3,10 @@ use Rattle.normal_steps.specs.Laws.WrittenAt.{wrote_one}
 use Rattle.normal_steps.specs.Laws.Slices.{puts_by}
 use Rattle.normal_steps.proofs.state.Writer.put_byte.Goals as goal
 
-pub returns-clause-puts : goal.returns-clause-puts
-returns-clause-puts c =
-    let w = c.args.self.now in
-    puts_by refl (wrote_one w.out.now w.state.out c.args.c (omega arith))
+pub returns : goal.returns
+returns c =
+    record {
+      symbol = refl;
+      is = let w = c.args.self.now in
+          puts_by refl (wrote_one w.out.now w.state.out c.args.c (omega arith));
+    }

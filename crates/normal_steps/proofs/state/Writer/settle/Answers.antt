@@ -1,4 +1,4 @@
-use Rattle.std.proofs.Common.{arith}
+use Rattle.std.proofs.Common.{refl, arith}
 use Rattle.normal_steps.specs.Laws.Slices.{out_size}
 use Rattle.normal_steps.specs.Laws.Memory.{settle_not, index_most, reference_room, settle_here}
 use Rattle.normal_steps.proofs.state.Writer.settle.Goals as goal
@@ -10,10 +10,16 @@ write_reference-self-requires c =
     let r = reference_room h c.args.d c.args.from c.requires.0 c.requires.1.0 k in
     (index_most h c.args.d c.args.from c.requires.0 c.requires.1.0 k, omega (arith, out_size h, r))
 
-pub returns-in-Some-clause-does : goal.returns-in-Some-clause-does
-returns-in-Some-clause-does c σ h =
-    settle_here h c.args.d c.args.from c.requires.0 c.requires.1.0 (rw c.from-kept.ensures at c.in-Some.ensures) c.write_reference-self.ensures
+pub returns-in-Some : goal.returns-in-Some
+returns-in-Some c =
+    record {
+      symbol = refl;
+      is = λ σ h. settle_here h c.args.d c.args.from c.requires.0 c.requires.1.0 (rw c.from-kept.ensures at c.in-Some.ensures) c.write_reference-self.ensures;
+    }
 
-pub returns-in_default-clause-does : goal.returns-in_default-clause-does
-returns-in_default-clause-does c σ h =
-    settle_not h c.args.d c.args.from c.requires.0 c.requires.1.0 (omega (arith, c.from-kept.ensures, c.in_default.ensures))
+pub returns-in_default : goal.returns-in_default
+returns-in_default c =
+    record {
+      symbol = refl;
+      is = λ σ h. settle_not h c.args.d c.args.from c.requires.0 c.requires.1.0 (omega (arith, c.from-kept.ensures, c.in_default.ensures));
+    }

@@ -1,3 +1,4 @@
+use Rattle.grammar.specs.Laws.Places.{byte_there, peek_end}
 use Rattle.std.proofs.Common.{◌≡◌, ℕ, ◌+◌, [], ◌∷◌, Option, Some, refl, sym, ap, ◌∙◌, arith, drop, length, length-drop}
 use Rattle.grammar.specs.Tables.{abbreviations}
 use Rattle.grammar.specs.Reader.{word_for}
@@ -8,7 +9,7 @@ use Rattle.parser.specs.Demanglers.{at_place, state_of}
 use Rattle.parser.specs.Holds.{refuses}
 use Rattle.parser.specs.Laws.Holds.{by}
 use Rattle.parser.specs.Laws.References.{given_some, given_none, sub_none, sub_end, sub_word, sub_entry}
-use Rattle.parser.specs.Laws.Demanglers.{Passed, failed, peeked_some, peeked_none, needed, lacked_leaf, prepared_at, others_by, leaf_reads, leaf_moved, leaf_gives}
+use Rattle.parser.specs.Laws.Demanglers.{Passed, failed, needed, lacked_leaf, prepared_at, others_by, leaf_reads, leaf_moved, leaf_gives}
 use Rattle.parser.proofs.demangler.Demangler.substitution.Goals as goal
 
 -- the byte behind the first
@@ -17,7 +18,7 @@ module _ {d d' : Demangler} {o : Option ℕ} (p : Passed 83 d d') (e : o ≡ pee
   ahead = sym (ap (λ (x : Demangler). peeked (drop x.state.at x.s.now)) p.is) ∙ sym e
 
   behind : {c : ℕ} → o ≡ Some c → Past d.s.now (moved_to (state_of d) (d.state.at + 1)) c (moved_to (state_of d) (d.state.at + 1 + 1))
-  behind f = past_by _ (peeked_some d.s.now (d.state.at + 1) (ahead ∙ f)) refl
+  behind f = past_by _ (byte_there d.s.now (d.state.at + 1) (ahead ∙ f)) refl
 
 pub returns-in_err-need : goal.returns-in_err-need
 returns-in_err-need c =
@@ -28,7 +29,7 @@ returns-in_err-c c =
     let d = c.args.self.now in
     let n = needed c.in_ok-need.ensures in
     let g = given_none c.peek.result _ c.in_err-c.ensures.value in
-    let o : drop (d.state.at + 1) d.s.now ≡ [] = peeked_none _ (ahead n c.peek.ensures ∙ g.0) in
+    let o : drop (d.state.at + 1) d.s.now ≡ [] = peek_end _ (ahead n c.peek.ensures ∙ g.0) in
     rw (failed c.from_residual-in_err-c.result c.from_residual-in_err-c.ensures.1, g.1)
     (leaf_reads (others_by d n.is) (λ σ h. by (sub_end d.s.now d.state.at σ h.rest n.past.ahead (omega (arith, length-drop (d.state.at + 1) d.s.now, ap length o))) refuses))
 
