@@ -7,7 +7,7 @@ use Rattle.grammar.specs.Text.{Text, b, if◌then◌otherwise◌, choose, same, 
 use Rattle.grammar.specs.Limits.{most_open, most_entries, most_text_bytes, most_entry_bytes}
 use Rattle.grammar.specs.Tables.{Row, ◌⇒◌, Table}
 
--- the Rust's `Progress`, its place given by the bytes that are left
+-- the Rust's `Parser`, its place given by the bytes that are left
 pub record State : Type 0 where
   pub rest : Text  -- the bytes not yet read
   pub subs : List Text  -- the substitution table, oldest entry first
