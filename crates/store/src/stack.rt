@@ -14,6 +14,16 @@ const KEPT: usize = Parser::BYTES + 2048;
 // The length of the stack.
 pub const LENGTH: usize = KEPT + Parser::TEXT;
 
+// How many slots stand in a text. Almost none has one, and whether one stands there is seen many bytes at a time.
+pub fn slots(text: &[u8]) -> usize
+    ensures { (result ≡ slots_in text.now) × (result ≤ length text.now) }
+{
+    if !text.contains(&1) {
+        return 0;
+    }
+    text.iter().filter(|x| **x == 1).count()
+}
+
 #[derive(Drop)]
 pub struct Stack<'a> {
     pub bytes: &'a mut [u8],
@@ -34,7 +44,7 @@ impl Stack<'_> {
     }
 
     // Room for so many bytes.
-    fn room(&mut self, size: usize)
+    pub fn room(&mut self, size: usize)
         requires { size ≤ most_text_bytes }
         ensures { Room self.old.bytes.now self.new.bytes.now self.old.top self.new.top size }
     {
@@ -92,7 +102,7 @@ impl Stack<'_> {
         requires { n ≤ self.now.top }
         ensures { (result ≡ slots_in (newest self.now.bytes.now self.now.top n)) × (result ≤ n) }
     {
-        self.newest(n).iter().filter(|x| **x == 1).count()
+        slots(self.newest(n))
     }
 
     // Puts the byte x on the top, and before a slot the d bytes at `low` and the word.
