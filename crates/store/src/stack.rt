@@ -1,6 +1,6 @@
 // A stack of texts in 51,200 bytes: the first `top` bytes, the newest last; those behind them may be anything. Where a text
 // does not fit, the oldest bytes leave and the newest 34,816 stay.
-ghost use Rattle.std.specs.Prelude.{◌≡◌, ◌++◌, ◌+◌, ◌-◌, ◌*◌, ◌≤◌, length, take, drop};
+ghost use Rattle.std.specs.Prelude.{◌≡◌, [], ◌∷◌, ◌++◌, ◌+◌, ◌-◌, ◌*◌, ◌≤◌, ◌<◌, length, take, drop};
 ghost use Rattle.grammar.specs.Limits.{most_text_bytes, kept_bytes, stack_bytes};
 ghost use Rattle.grammar.specs.Grammar.{at_slots};
 ghost use Rattle.store.specs.Stack.{Put, Cut, Room, Grown, slots_in, at_slot, newest, below_newest};
@@ -62,6 +62,15 @@ impl Stack<'_> {
         self.top += word.len();
     }
 
+    // The byte, for which there is room, on the top.
+    fn place_byte(&mut self, x: u8)
+        requires { self.old.top < stack_bytes }
+        ensures { Grown self.old.bytes.now self.new.bytes.now self.old.top self.new.top (x ∷ []) }
+    {
+        self.bytes[self.top] = x;
+        self.top += 1;
+    }
+
     // The n bytes at `from`, for which there is room, on the top once more.
     fn repeat(&mut self, from: usize, n: usize)
         requires { (from + n ≤ self.old.top) × (self.old.top + n ≤ stack_bytes) }
@@ -116,7 +125,7 @@ impl Stack<'_> {
             self.repeat(low, d);
             self.place(word);
         }
-        self.place(&[x]);
+        self.place_byte(x);
     }
 
     // Puts the newest n bytes on the top once more, with the d bytes below them and the word in front of each slot.
