@@ -1,6 +1,6 @@
 // A stack of texts in 51,200 bytes: the first `top` bytes, the newest last; those behind them may be anything. Where a text
 // does not fit, the oldest bytes leave and the newest 34,816 stay.
-ghost use Rattle.std.specs.Prelude.{◌≡◌, ◌++◌, ◌+◌, ◌-◌, ◌*◌, ◌≤◌, length, take, drop};
+ghost use Rattle.std.specs.Prelude.{◌≡◌, [], ◌∷◌, ◌++◌, ◌+◌, ◌-◌, ◌*◌, ◌≤◌, ◌<◌, length, take, drop};
 ghost use Rattle.grammar.specs.Limits.{most_text_bytes, kept_bytes, stack_bytes};
 ghost use Rattle.grammar.specs.Grammar.{at_slots};
 ghost use Rattle.store.specs.Stack.{Put, Cut, Room, Grown, slots_in, at_slot, newest, below_newest};
@@ -13,6 +13,16 @@ const KEPT: usize = Parser::BYTES + 2048;
 
 // The length of the stack.
 pub const LENGTH: usize = KEPT + Parser::TEXT;
+
+// How many slots stand in a text. Almost none has one, and whether one stands there is seen many bytes at a time.
+pub fn slots(text: &[u8]) -> usize
+    ensures { (result ≡ slots_in text.now) × (result ≤ length text.now) }
+{
+    if !text.contains(&1) {
+        return 0;
+    }
+    text.iter().filter(|x| **x == 1).count()
+}
 
 #[derive(Drop)]
 pub struct Stack<'a> {
@@ -34,7 +44,7 @@ impl Stack<'_> {
     }
 
     // Room for so many bytes.
-    fn room(&mut self, size: usize)
+    pub fn room(&mut self, size: usize)
         requires { size ≤ most_text_bytes }
         ensures { Room self.old.bytes.now self.new.bytes.now self.old.top self.new.top size }
     {
@@ -50,6 +60,15 @@ impl Stack<'_> {
     {
         text::copy(self.bytes, self.top, word);
         self.top += word.len();
+    }
+
+    // The byte, for which there is room, on the top.
+    fn place_byte(&mut self, x: u8)
+        requires { self.old.top < stack_bytes }
+        ensures { Grown self.old.bytes.now self.new.bytes.now self.old.top self.new.top (x ∷ []) }
+    {
+        self.bytes[self.top] = x;
+        self.top += 1;
     }
 
     // The n bytes at `from`, for which there is room, on the top once more.
@@ -92,7 +111,7 @@ impl Stack<'_> {
         requires { n ≤ self.now.top }
         ensures { (result ≡ slots_in (newest self.now.bytes.now self.now.top n)) × (result ≤ n) }
     {
-        self.newest(n).iter().filter(|x| **x == 1).count()
+        slots(self.newest(n))
     }
 
     // Puts the byte x on the top, and before a slot the d bytes at `low` and the word.
@@ -106,7 +125,7 @@ impl Stack<'_> {
             self.repeat(low, d);
             self.place(word);
         }
-        self.place(&[x]);
+        self.place_byte(x);
     }
 
     // Puts the newest n bytes on the top once more, with the d bytes below them and the word in front of each slot.
