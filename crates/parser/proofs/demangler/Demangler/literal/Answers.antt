@@ -16,7 +16,7 @@ use Rattle.parser.specs.Laws.Holds.{by, less, answers, given_refines, short_enou
 use Rattle.parser.specs.Laws.Halves.{give_short}
 use Rattle.parser.specs.Laws.Adds.{stands_more}
 use Rattle.parser.specs.Laws.Wraps.{stands_puts}
-use Rattle.parser.specs.Laws.Demanglers.{puts_of, cuts_of, outcome_given}
+use Rattle.parser.specs.Laws.Demanglers.{puts_of, cuts_of, lent_stack, outcome_given}
 use Rattle.parser.specs.Laws.Literals.{said, one_same, length_signed, stands_bare, stands_size, stands_newest}
 use Rattle.parser.proofs.demangler.Demangler.literal.Goals as goal
 use Rattle.parser.proofs.demangler.Demangler.literal.Goals.{then-eq, else-eq}
@@ -48,11 +48,12 @@ returns-after-eq c =
     ] in
     record {
       others = refl;
+      same = lent_stack c.args.self.now c.put.new.self (c.put.ensures.same ∙ c.cut.ensures.same);
       is = λ k l s base from t σ h i j.
           let (e, f, o) = stands_newest h (omega arith) in
           let w = said t v (kind_by c.of.ensures c.newest.ensures o c.in-Truth.is) in
-          let bare = stands_bare w.1 j h (cuts_of d c.cut.new.self c.cut.ensures) in
-          let all = stands_puts bare (puts_of (record d { stack = c.cut.new.self }) c.put.new.self c.put.ensures) refl in
+          let bare = stands_bare w.1 j h (cuts_of d c.cut.new.self c.cut.ensures.left) in
+          let all = stands_puts bare (puts_of (record d { stack = c.cut.new.self }) c.put.new.self c.put.ensures.left) refl in
           answers (ap (λ (x : Text). give x σ) (w.0 ∙ told.0) ∙ give_short c.if-eq.word.now σ (omega (arith, told.1)))
           (short_enough (stands_size all (length c.if-eq.word.now) (omega (arith, told.1))) (omega (arith, told.1)));
     }
@@ -61,14 +62,15 @@ pub returns-in-Suffix : goal.returns-in-Suffix
 returns-in-Suffix c =
     record {
       others = refl;
+      same = lent_stack c.args.self.now c.put-in-Suffix.new.self (c.put-in-Suffix.ensures.same ∙ c.put_value.ensures.same ∙ c.cut-in-Suffix.ensures.same);
       is = λ k l s base from t σ h i j.
           let (e, f, o) = stands_newest h (omega arith) in
           let d = c.args.self.now in
           let v = c.args.value.now in
           let w = said t v (kind_by c.of.ensures c.newest.ensures o c.in-Suffix.is) in
-          let bare = stands_bare w.1 j h (cuts_of d c.cut-in-Suffix.new.self c.cut-in-Suffix.ensures) in
+          let bare = stands_bare w.1 j h (cuts_of d c.cut-in-Suffix.new.self c.cut-in-Suffix.ensures.left) in
           let valued = stands_more (value_adds (record d { stack = c.cut-in-Suffix.new.self }) c.put_value.new.stack c.put_value.ensures) bare in
-          let all = stands_puts valued (puts_of (record d { stack = c.put_value.new.stack }) c.put-in-Suffix.new.self c.put-in-Suffix.ensures) refl in
+          let all = stands_puts valued (puts_of (record d { stack = c.put_value.new.stack }) c.put-in-Suffix.new.self c.put-in-Suffix.ensures.left) refl in
           rw (c.given.ensures, outcome_given) (by (ap (λ (x : Text). give x σ) w.0)
           (given_refines (stands_size all _ (simp length-append (omega (arith, length_signed v, w.2))))));
     }
@@ -77,6 +79,7 @@ pub returns-in-Cast : goal.returns-in-Cast
 returns-in-Cast c =
     record {
       others = refl;
+      same = lent_stack c.args.self.now c.put_value-in-Cast.new.stack (c.put_value-in-Cast.ensures.same ∙ c.enclose.ensures.same);
       is = λ k l s base from t σ h i j.
           let (e, f, o) = stands_newest h (omega arith) in
           let d = c.args.self.now in
