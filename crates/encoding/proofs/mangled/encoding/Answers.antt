@@ -27,7 +27,7 @@ pub returns-in_err-n : goal.returns-in_err-n
 returns-in_err-n c =
     let p = err_from_is_err_and c.from_residual.result c.from_residual.ensures.1 in
     let u = puts_of (record c.args.d.now { state = record c.args.d.now.state { at = 2 } }) c.put.new.self c.put.ensures in
-    rw (p.1, p.2) (record { symbol = λ i. cc; is = label_refused c.requires.0 c.requires.1.1 c.in-Some.ensures refl u c.in_err-n.ensures.reads refl })
+    rw (p.1, p.2) (record { symbol = c.in_err-n.ensures.symbol; is = label_refused c.requires.0 c.requires.1.1 c.in-Some.ensures refl u c.in_err-n.ensures.reads refl })
 
 pub overflow_add-n : goal.overflow_add-n
 overflow_add-n c =
@@ -39,7 +39,7 @@ pub returns : goal.returns
 returns c =
     let u = puts_of (record c.args.d.now { state = record c.args.d.now.state { at = 2 } }) c.put.new.self c.put.ensures in
     record {
-      symbol = λ i. c.in_ok-n.ensures.symbol;
+      symbol = c.in_ok-n.ensures.symbol;
       is = label_given c.requires.0 c.requires.1.1 c.in-Some.ensures refl u c.in_ok-n.ensures.reads refl
           (given_by (state_of c.ty.new.d) (c.in_ok-n.n + length c.in-Some.word.now) c.given.ensures);
     }
