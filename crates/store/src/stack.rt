@@ -26,7 +26,8 @@ impl Stack<'_> {
     // Removes the k bytes that stand below the newest n.
     pub fn cut(&mut self, k: usize, n: usize)
         requires { k + n ≤ self.old.top }
-        ensures { Cut self.old.bytes.now self.new.bytes.now self.old.top self.new.top k n }
+        ensures same { self.new.bytes.ghost_name ≡ self.old.bytes.ghost_name }
+        ensures left { Cut self.old.bytes.now self.new.bytes.now self.old.top self.new.top k n }
     {
         let from = self.top - n;
         self.bytes.copy_within(from..self.top, from - k);
@@ -36,7 +37,8 @@ impl Stack<'_> {
     // Room for so many bytes.
     fn room(&mut self, size: usize)
         requires { size ≤ most_text_bytes }
-        ensures { Room self.old.bytes.now self.new.bytes.now self.old.top self.new.top size }
+        ensures same { self.new.bytes.ghost_name ≡ self.old.bytes.ghost_name }
+        ensures left { Room self.old.bytes.now self.new.bytes.now self.old.top self.new.top size }
     {
         if LENGTH - self.top < size {
             self.cut(self.top - KEPT, KEPT);
@@ -46,7 +48,8 @@ impl Stack<'_> {
     // The word, for which there is room, on the top.
     fn place(&mut self, word: &[u8])
         requires { self.old.top + length word.now ≤ stack_bytes }
-        ensures { Grown self.old.bytes.now self.new.bytes.now self.old.top self.new.top word.now }
+        ensures same { self.new.bytes.ghost_name ≡ self.old.bytes.ghost_name }
+        ensures left { Grown self.old.bytes.now self.new.bytes.now self.old.top self.new.top word.now }
     {
         text::copy(self.bytes, self.top, word);
         self.top += word.len();
@@ -55,7 +58,8 @@ impl Stack<'_> {
     // The n bytes at `from`, for which there is room, on the top once more.
     fn repeat(&mut self, from: usize, n: usize)
         requires { (from + n ≤ self.old.top) × (self.old.top + n ≤ stack_bytes) }
-        ensures { Grown self.old.bytes.now self.new.bytes.now self.old.top self.new.top (take n (drop from self.old.bytes.now)) }
+        ensures same { self.new.bytes.ghost_name ≡ self.old.bytes.ghost_name }
+        ensures left { Grown self.old.bytes.now self.new.bytes.now self.old.top self.new.top (take n (drop from self.old.bytes.now)) }
     {
         self.bytes.copy_within(from..from + n, self.top);
         self.top += n;
@@ -64,7 +68,8 @@ impl Stack<'_> {
     // Puts `word` on the top.
     pub fn put(&mut self, word: &[u8])
         requires { length word.now ≤ most_text_bytes }
-        ensures { Put self.old.bytes.now self.new.bytes.now self.old.top self.new.top word.now }
+        ensures same { self.new.bytes.ghost_name ≡ self.old.bytes.ghost_name }
+        ensures left { Put self.old.bytes.now self.new.bytes.now self.old.top self.new.top word.now }
     {
         self.room(word.len());
         self.place(word);
@@ -73,7 +78,8 @@ impl Stack<'_> {
     // Puts the n bytes that begin `back` bytes below the top on it once more.
     pub fn again(&mut self, back: usize, n: usize)
         requires { (n ≤ back) × ((back ≤ self.old.top) × ((back ≤ kept_bytes) × (n ≤ most_text_bytes))) }
-        ensures { Put self.old.bytes.now self.new.bytes.now self.old.top self.new.top (take n (drop (self.old.top - back) self.old.bytes.now)) }
+        ensures same { self.new.bytes.ghost_name ≡ self.old.bytes.ghost_name }
+        ensures left { Put self.old.bytes.now self.new.bytes.now self.old.top self.new.top (take n (drop (self.old.top - back) self.old.bytes.now)) }
     {
         self.room(n);
         self.repeat(self.top - back, n);
@@ -99,7 +105,8 @@ impl Stack<'_> {
     fn piece(&mut self, low: usize, d: usize, word: &[u8], x: u8)
         requires { (low + d ≤ self.old.top)
             × (self.old.top + length (at_slot (take d (drop low self.old.bytes.now) ++ word.now) x) ≤ stack_bytes) }
-        ensures { Grown self.old.bytes.now self.new.bytes.now self.old.top self.new.top
+        ensures same { self.new.bytes.ghost_name ≡ self.old.bytes.ghost_name }
+        ensures left { Grown self.old.bytes.now self.new.bytes.now self.old.top self.new.top
             (at_slot (take d (drop low self.old.bytes.now) ++ word.now) x) }
     {
         if x == 1 {
@@ -113,7 +120,8 @@ impl Stack<'_> {
     fn pieces(&mut self, n: usize, d: usize, word: &[u8])
         requires { (d + n ≤ self.old.top)
             × (self.old.top + length (at_slots (below_newest self.old.bytes.now self.old.top n d ++ word.now) (newest self.old.bytes.now self.old.top n)) ≤ stack_bytes) }
-        ensures { Grown self.old.bytes.now self.new.bytes.now self.old.top self.new.top
+        ensures same { self.new.bytes.ghost_name ≡ self.old.bytes.ghost_name }
+        ensures left { Grown self.old.bytes.now self.new.bytes.now self.old.top self.new.top
             (at_slots (below_newest self.old.bytes.now self.old.top n d ++ word.now) (newest self.old.bytes.now self.old.top n)) }
     {
         let from = self.top - n;
@@ -127,7 +135,8 @@ impl Stack<'_> {
     pub fn weave(&mut self, n: usize, d: usize, word: &[u8])
         requires { (d + n ≤ self.old.top) × ((d + n ≤ kept_bytes) × ((length word.now ≤ most_text_bytes)
             × (n + slots_in (newest self.old.bytes.now self.old.top n) * (d + length word.now) ≤ most_text_bytes))) }
-        ensures { Put self.old.bytes.now self.new.bytes.now self.old.top self.new.top
+        ensures same { self.new.bytes.ghost_name ≡ self.old.bytes.ghost_name }
+        ensures left { Put self.old.bytes.now self.new.bytes.now self.old.top self.new.top
             (at_slots (below_newest self.old.bytes.now self.old.top n d ++ word.now) (newest self.old.bytes.now self.old.top n)) }
     {
         let holes = self.slots(n);

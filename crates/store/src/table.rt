@@ -41,6 +41,7 @@ impl Table<'_> {
     // The text becomes the next entry.
     pub fn push(&mut self, word: &[u8])
         requires { (self.old.count < most_entries) × (self.old.used + length word.now ≤ most_entry_bytes) }
+        ensures same { (self.new.bytes.ghost_name ≡ self.old.bytes.ghost_name) × (self.new.ends.ghost_name ≡ self.old.ends.ghost_name) }
         ensures entries { (l : List Text) → Entries l self.old.bytes.now self.old.ends.now self.old.count self.old.used
             → Entries (l ++ (word.now ∷ [])) self.new.bytes.now self.new.ends.now self.new.count self.new.used }
         ensures size { (self.new.count ≡ self.old.count + 1) × (self.new.used ≡ self.old.used + length word.now) }

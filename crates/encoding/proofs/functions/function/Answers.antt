@@ -9,7 +9,7 @@ pub returns-in_err-list : goal.returns-in_err-list
 unfolding b
 returns-in_err-list c =
     let p = err_from_is_err_and c.from_residual.result c.from_residual.ensures.1 in
-    let z = puts_of c.args.d.now c.put.new.self c.put.ensures in
+    let z = puts_of c.args.d.now c.put.new.self c.put.ensures.left in
     rw (p.1, p.2) (record {
       symbol = c.in_err-list.ensures.symbol;
       is = λ base at t σ h. items_refused z c.in_err-list.ensures.is c.args.cv.from c.args.cv.to h refl refl;
@@ -18,25 +18,25 @@ returns-in_err-list c =
 pub lone_void-requires : goal.lone_void-requires
 unfolding b
 lone_void-requires c =
-    let z = puts_of c.args.d.now c.put.new.self c.put.ensures in
+    let z = puts_of c.args.d.now c.put.new.self c.put.ensures.left in
     let h = (list z c.in_ok-list.ensures.is c.requires.0.1 refl).stands.holds in
     (omega (arith, h.place, ap (λ (x : _). length x) c.in_ok-list.ensures.symbol), list_least z c.in_ok-list.ensures.is c.requires.0.1 refl)
 
 pub cut-requires : goal.cut-requires
 unfolding b
 cut-requires c =
-    let z = puts_of c.args.d.now c.put.new.self c.put.ensures in
+    let z = puts_of c.args.d.now c.put.new.self c.put.ensures.left in
     let v = void_from c.items.new.d c.in_ok-list.ensures.symbol c.lone_void.ensures c.if-lone_void.true in
     omega (arith, void_room z c.in_ok-list.ensures.is c.requires.0.1 refl v)
 
 pub returns-then-lone_void : goal.returns-then-lone_void
 unfolding b
 returns-then-lone_void c =
-    let z = puts_of c.args.d.now c.put.new.self c.put.ensures in
+    let z = puts_of c.args.d.now c.put.new.self c.put.ensures.left in
     let e = c.in_ok-list.ensures.symbol in
     let v = void_from c.items.new.d e c.lone_void.ensures c.if-lone_void.true in
-    let u = cuts_of c.items.new.d c.cut.new.self c.cut.ensures in
-    let w = puts_of (record c.items.new.d { stack = c.cut.new.self }) c.put-then-lone_void.new.self c.put-then-lone_void.ensures in
+    let u = cuts_of c.items.new.d c.cut.new.self c.cut.ensures.left in
+    let w = puts_of (record c.items.new.d { stack = c.cut.new.self }) c.put-then-lone_void.new.self c.put-then-lone_void.ensures.left in
     record {
       symbol = c.qualified.ensures.symbol ∙ e;
       is = λ base at t σ h.
@@ -48,7 +48,7 @@ pub returns-in_err-m : goal.returns-in_err-m
 unfolding b
 returns-in_err-m c =
     let p = err_from_is_err_and c.from_residual-in_err-m.result c.from_residual-in_err-m.ensures.1 in
-    let z = puts_of c.args.d.now c.put.new.self c.put.ensures in
+    let z = puts_of c.args.d.now c.put.new.self c.put.ensures.left in
     let e = c.in_ok-list.ensures.symbol in
     let v = void_from c.items.new.d e c.lone_void.ensures c.if-lone_void.false in
     let g = given_err c.in_ok-list.list.n c.in_err-m.ensures in
@@ -75,11 +75,11 @@ qualified-requires-2 c =
 pub returns : goal.returns
 unfolding b
 returns c =
-    let z = puts_of c.args.d.now c.put.new.self c.put.ensures in
+    let z = puts_of c.args.d.now c.put.new.self c.put.ensures.left in
     let e = c.in_ok-list.ensures.symbol in
     let v = void_from c.items.new.d e c.lone_void.ensures c.if-lone_void.false in
     let g = given_ok c.in_ok-list.list.n c.in_ok-m.ensures in
-    let w = puts_of c.items.new.d c.put-2.new.self c.put-2.ensures in
+    let w = puts_of c.items.new.d c.put-2.new.self c.put-2.ensures.left in
     record {
       symbol = c.qualified-2.ensures.symbol ∙ e;
       is = λ base at t σ h.

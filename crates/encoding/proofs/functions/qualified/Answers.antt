@@ -17,7 +17,7 @@ loop-c-preserved c =
     elim c.match-qualifier.branch [
       | in-Some w ↦ rw (w.d-is, w.size-is) (
         ap (λ (x : Demangler). record x { stack = w.put.new.self }) c.loop-c.invariant.0,
-        qualifying_word c.loop-c.invariant.1 (omega arith) w.in-Some.ensures.0 (puts_of c.loop-c.d w.put.new.self w.put.ensures) w.sum-size.ensures,
+        qualifying_word c.loop-c.invariant.1 (omega arith) w.in-Some.ensures.0 (puts_of c.loop-c.d w.put.new.self w.put.ensures.left) w.sum-size.ensures,
       )
       | in_default w ↦ rw (w.d-is, w.size-is) (c.loop-c.invariant.0, qualifying_nothing c.loop-c.invariant.1 (omega arith) w.in_default.ensures.0)
     ]

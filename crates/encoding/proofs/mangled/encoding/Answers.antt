@@ -20,24 +20,24 @@ returns-in_default c =
 
 pub ty-requires : goal.ty-requires
 ty-requires c =
-    let u = puts_of (record c.args.d.now { state = record c.args.d.now.state { at = 2 } }) c.put.new.self c.put.ensures in
+    let u = puts_of (record c.args.d.now { state = record c.args.d.now.state { at = 2 } }) c.put.new.self c.put.ensures.left in
     (_, label_holds c.requires.0 c.requires.1.1 c.in-Some.ensures refl u)
 
 pub returns-in_err-n : goal.returns-in_err-n
 returns-in_err-n c =
     let p = err_from_is_err_and c.from_residual.result c.from_residual.ensures.1 in
-    let u = puts_of (record c.args.d.now { state = record c.args.d.now.state { at = 2 } }) c.put.new.self c.put.ensures in
+    let u = puts_of (record c.args.d.now { state = record c.args.d.now.state { at = 2 } }) c.put.new.self c.put.ensures.left in
     rw (p.1, p.2) (record { symbol = c.in_err-n.ensures.symbol; is = label_refused c.requires.0 c.requires.1.1 c.in-Some.ensures refl u c.in_err-n.ensures.reads refl })
 
 pub overflow_add-n : goal.overflow_add-n
 overflow_add-n c =
-    let u = puts_of (record c.args.d.now { state = record c.args.d.now.state { at = 2 } }) c.put.new.self c.put.ensures in
+    let u = puts_of (record c.args.d.now { state = record c.args.d.now.state { at = 2 } }) c.put.new.self c.put.ensures.left in
     let g = (label_got c.requires.0 c.requires.1.1 c.in-Some.ensures refl u c.in_ok-n.ensures.reads refl).wrote in
     omega (arith, g.size, g.short, c.in-Some.ensures.fits)
 
 pub returns : goal.returns
 returns c =
-    let u = puts_of (record c.args.d.now { state = record c.args.d.now.state { at = 2 } }) c.put.new.self c.put.ensures in
+    let u = puts_of (record c.args.d.now { state = record c.args.d.now.state { at = 2 } }) c.put.new.self c.put.ensures.left in
     record {
       symbol = c.in_ok-n.ensures.symbol;
       is = label_given c.requires.0 c.requires.1.1 c.in-Some.ensures refl u c.in_ok-n.ensures.reads refl

@@ -20,7 +20,7 @@ pub name-n-requires : goal.name-n-requires
 unfolding b
 name-n-requires c =
     let s = c.args.d.now.s.now in
-    (_, guard_holds s c.requires.0 c.requires.1.0 (second_lent 2 s) c.requires.1.1 (puts_of c.args.d.now c.put.new.self c.put.ensures))
+    (_, guard_holds s c.requires.0 c.requires.1.0 (second_lent 2 s) c.requires.1.1 (puts_of c.args.d.now c.put.new.self c.put.ensures.left))
 
 pub returns-in_err-n : goal.returns-in_err-n
 unfolding b
@@ -29,14 +29,14 @@ returns-in_err-n c =
     let p = err_from_is_err_and c.from_residual.result c.from_residual.ensures.1 in
     rw (p.1, p.2) (record {
       symbol = refl;
-      is = guard_refused s c.requires.0 c.requires.1.0 (second_lent 2 s) c.requires.1.1 (puts_of c.args.d.now c.put.new.self c.put.ensures) c.in_err-n.ensures.reads refl;
+      is = guard_refused s c.requires.0 c.requires.1.0 (second_lent 2 s) c.requires.1.1 (puts_of c.args.d.now c.put.new.self c.put.ensures.left) c.in_err-n.ensures.reads refl;
     })
 
 pub overflow_add-n : goal.overflow_add-n
 unfolding b
 overflow_add-n c =
     let s = c.args.d.now.s.now in
-    let w = (guard_got s c.requires.0 c.requires.1.0 (second_lent 2 s) c.requires.1.1 (puts_of c.args.d.now c.put.new.self c.put.ensures) c.in_ok-n.ensures.reads refl).wrote in
+    let w = (guard_got s c.requires.0 c.requires.1.0 (second_lent 2 s) c.requires.1.1 (puts_of c.args.d.now c.put.new.self c.put.ensures.left) c.in_ok-n.ensures.reads refl).wrote in
     omega (arith, w.size, w.short)
 
 pub returns : goal.returns
@@ -45,6 +45,6 @@ returns c =
     let s = c.args.d.now.s.now in
     record {
       symbol = refl;
-      is = guard_given s c.requires.0 c.requires.1.0 (second_lent 2 s) c.requires.1.1 (puts_of c.args.d.now c.put.new.self c.put.ensures) c.in_ok-n.ensures.reads refl refl
+      is = guard_given s c.requires.0 c.requires.1.0 (second_lent 2 s) c.requires.1.1 (puts_of c.args.d.now c.put.new.self c.put.ensures.left) c.in_ok-n.ensures.reads refl refl
           (given_by (state_of (record c.name-n.new.d { s = c.args.d.now.s; state = record c.name-n.new.d.state { at = length s } })) (c.in_ok-n.n + 19) c.given.ensures);
     }

@@ -13,7 +13,7 @@ loop-rest-init c = cloned_start c.args.d.now
 pub loop-rest-preserved : goal.loop-rest-preserved
 unfolding b
 loop-rest-preserved c =
-    cloned_more c.args.d.now c.loop-rest.invariant c.in-Some.rest c.put.new.self c.in-Some.ensures.cases.0 c.in-Some.ensures.cases.1 c.put.ensures c.sum-n.ensures
+    cloned_more c.args.d.now c.loop-rest.invariant c.in-Some.rest c.put.new.self c.in-Some.ensures.cases.0 c.in-Some.ensures.cases.1 c.put.ensures.left c.sum-n.ensures
 
 pub encoding-m-requires : goal.encoding-m-requires
 unfolding b

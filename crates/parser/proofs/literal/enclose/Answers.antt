@@ -18,15 +18,15 @@ cuts_by p u = record { same = refl; cut = u }
 
 pub cut-requires : goal.cut-requires
 cut-requires c =
-    let x = puts_least (stack_of c.args.stack.now) (puts_by fresh c.put.ensures) in
-    let y = puts_least c.put.ensures.stack (puts_by fresh c.again.ensures) in
-    omega (arith, x, simp (length-take, length-drop) at y, c.put.ensures.stack.size, c.put.ensures.stack.most, c.requires)
+    let x = puts_least (stack_of c.args.stack.now) (puts_by fresh c.put.ensures.left) in
+    let y = puts_least c.put.ensures.left.stack (puts_by fresh c.again.ensures.left) in
+    omega (arith, x, simp (length-take, length-drop) at y, c.put.ensures.left.stack.size, c.put.ensures.left.stack.most, c.requires)
 
 pub returns : goal.returns
 unfolding b
 returns c =
     record {
       stands = λ p {t = t} l h.
-          let w = stands_turned l (omega arith) h (puts_by p c.put.ensures) (puts_by p c.again.ensures) (cuts_by p c.cut.ensures) in
-          stands_size (stands_puts w (puts_by p c.put-2.ensures) refl) (c.args.n + 2) (simp length-append (omega (arith, h.size)));
+          let w = stands_turned l (omega arith) h (puts_by p c.put.ensures.left) (puts_by p c.again.ensures.left) (cuts_by p c.cut.ensures.left) in
+          stands_size (stands_puts w (puts_by p c.put-2.ensures.left) refl) (c.args.n + 2) (simp length-append (omega (arith, h.size)));
     }

@@ -14,4 +14,4 @@ put-requires c = (given_ok _ c.in_ok-n.ensures).0
 pub returns : goal.returns
 returns c l h =
     let e = given_ok _ c.in_ok-n.ensures in
-    rw (e.1, c.get-text.ensures l h) (recalls (omega (arith, e.0, ap length (c.get-text.ensures l h))) (rw (c.get-text.ensures l h) at c.put.ensures))
+    rw (e.1, c.get-text.ensures l h) (recalls (omega (arith, e.0, ap length (c.get-text.ensures l h))) (rw (c.get-text.ensures l h) at c.put.ensures.left))

@@ -103,7 +103,7 @@ type_inner-returns-in-Some t c =
       reads = λ σ h. let l = byte_inside h c.peek.ensures f in
           by (from_text (type_inner reading) σ (byte_at h c.peek.ensures f) (inner_letter _ _ σ _ (sym v.0)))
           (less (omega (arith, h.deep))
-          (gives_word c.args.d.now {d₁ = at_place c.args.d.now (c.args.d.now.state.at + 1)} c.put.new.self refl h (omega (arith, l)) (omega arith) (omega (arith, v.1)) c.put.ensures));
+          (gives_word c.args.d.now {d₁ = at_place c.args.d.now (c.args.d.now.state.at + 1)} c.put.new.self refl h (omega (arith, l)) (omega arith) (omega (arith, v.1)) c.put.ensures.left));
     }
 
 pub type_inner-returns-in-68 : goal.type_inner-returns-in-68
@@ -245,7 +245,7 @@ pub function_type-returns-in_err-list : goal.function_type-returns-in_err-list
 function_type-returns-in_err-list t c =
     let p = err_from_is_err_and c.from_residual-in_err-list.result c.from_residual-in_err-list.ensures.1 in
     let k = c.in_ok-r.ensures in
-    let z = puts_of c.ty.new.d c.put.new.self c.put.ensures in
+    let z = puts_of c.ty.new.d c.put.new.self c.put.ensures.left in
     let i = no_items_from Types (record c.ty.new.d { stack = c.put.new.self }) k.symbol _ c.in_err-list.ensures in
     rw (p.1, p.2) (record {
       symbol = c.in_err-list.ensures.symbol ∙ k.symbol;
@@ -257,7 +257,7 @@ pub function_type-returns-in_err-need : goal.function_type-returns-in_err-need
 function_type-returns-in_err-need t c =
     let p = err_from_is_err_and c.from_residual-in_err-need.result c.from_residual-in_err-need.ensures.1 in
     let k = c.in_ok-r.ensures in
-    let z = puts_of c.ty.new.d c.put.new.self c.put.ensures in
+    let z = puts_of c.ty.new.d c.put.new.self c.put.ensures.left in
     let i = items_from Types (record c.ty.new.d { stack = c.put.new.self }) k.symbol c.in_ok-list.list c.in_ok-list.ensures in
     let e = c.in_ok-list.ensures.symbol ∙ k.symbol in
     let o = lacked c.in_err-need.ensures in
@@ -271,7 +271,7 @@ function_type-returns-in_err-need t c =
 pub function_type-func_end-requires : goal.function_type-func_end-requires
 function_type-func_end-requires t c =
     let k = c.in_ok-r.ensures in
-    let z = puts_of c.ty.new.d c.put.new.self c.put.ensures in
+    let z = puts_of c.ty.new.d c.put.new.self c.put.ensures.left in
     let i = items_from Types (record c.ty.new.d { stack = c.put.new.self }) k.symbol c.in_ok-list.list c.in_ok-list.ensures in
     let e = c.in_ok-list.ensures.symbol ∙ k.symbol in
     let v = needed c.in_ok-need.ensures in
@@ -283,7 +283,7 @@ function_type-func_end-requires t c =
 pub function_type-returns : goal.function_type-returns
 function_type-returns t c =
     let k = c.in_ok-r.ensures in
-    let z = puts_of c.ty.new.d c.put.new.self c.put.ensures in
+    let z = puts_of c.ty.new.d c.put.new.self c.put.ensures.left in
     let i = items_from Types (record c.ty.new.d { stack = c.put.new.self }) k.symbol c.in_ok-list.list c.in_ok-list.ensures in
     let e = c.in_ok-list.ensures.symbol ∙ k.symbol in
     let v = needed c.in_ok-need.ensures in
@@ -339,10 +339,10 @@ pub array_type-returns : goal.array_type-returns
 array_type-returns t c =
     let v = needed c.in_ok-need.ensures in
     let j = parses_from (λ n. keep (n + 1)) c.args.d.now (c.before-to.result + 1) v.is c.in_ok-n.ensures in
-    let x = puts_of c.ty.new.d c.put.new.self c.put.ensures in
-    let y = puts_of (record c.ty.new.d { stack = c.put.new.self }) c.put-2.new.self c.put-2.ensures in
+    let x = puts_of c.ty.new.d c.put.new.self c.put.ensures.left in
+    let y = puts_of (record c.ty.new.d { stack = c.put.new.self }) c.put-2.new.self c.put-2.ensures.left in
     let y' = subst (λ (t : Text). Puts c.put.new.self.bytes.now c.put-2.new.self.bytes.now (state_of (record c.ty.new.d { stack = c.put.new.self })) (state_of (record c.ty.new.d { stack = c.put-2.new.self })) (part t c.args.d.now.state.at c.before-to.result)) j.symbol y in
-    let z = puts_of (record c.ty.new.d { stack = c.put-2.new.self }) c.put-3.new.self c.put-3.ensures in
+    let z = puts_of (record c.ty.new.d { stack = c.put-2.new.self }) c.put-3.new.self c.put-3.ensures.left in
     record {
       symbol = j.symbol;
       reads = λ σ h.
@@ -687,14 +687,14 @@ instance-returns t c =
 pub std_prefixed-unqualified_name-requires : goal.std_prefixed-unqualified_name-requires
 unfolding b
 std_prefixed-unqualified_name-requires t c =
-    let z = puts_of (at_place c.args.d.now (c.args.d.now.state.at + 2)) c.put.new.self c.put.ensures in
+    let z = puts_of (at_place c.args.d.now (c.args.d.now.state.at + 2)) c.put.new.self c.put.ensures.left in
     (omega (arith, c.decreases, std-inside c.args.d.now.s.now c.args.d.now.state.at c.requires.1), (_, word_holds refl z c.requires.0.1 (std-inside _ _ c.requires.1)))
 
 pub std_prefixed-returns-in_err-n : goal.std_prefixed-returns-in_err-n
 unfolding b
 std_prefixed-returns-in_err-n t c =
     let p = err_from_is_err_and c.from_residual.result c.from_residual.ensures.1 in
-    let z = puts_of (at_place c.args.d.now (c.args.d.now.state.at + 2)) c.put.new.self c.put.ensures in
+    let z = puts_of (at_place c.args.d.now (c.args.d.now.state.at + 2)) c.put.new.self c.put.ensures.left in
     let k = c.in_err-n.ensures in
     rw (p.1, p.2) (record {
       symbol = k.symbol;
@@ -705,14 +705,14 @@ std_prefixed-returns-in_err-n t c =
 pub std_prefixed-overflow_add-n : goal.std_prefixed-overflow_add-n
 unfolding b
 std_prefixed-overflow_add-n t c =
-    let z = puts_of (at_place c.args.d.now (c.args.d.now.state.at + 2)) c.put.new.self c.put.ensures in
+    let z = puts_of (at_place c.args.d.now (c.args.d.now.state.at + 2)) c.put.new.self c.put.ensures.left in
     let w = (got refl (c.in_ok-n.ensures.reads _ (word_holds refl z c.requires.0.1 (std-inside _ _ c.requires.1)))).wrote in
     omega (arith, w.size, w.short)
 
 pub std_prefixed-push_sub-requires : goal.std_prefixed-push_sub-requires
 unfolding b
 std_prefixed-push_sub-requires t c =
-    let z = puts_of (at_place c.args.d.now (c.args.d.now.state.at + 2)) c.put.new.self c.put.ensures in
+    let z = puts_of (at_place c.args.d.now (c.args.d.now.state.at + 2)) c.put.new.self c.put.ensures.left in
     let l = std-inside _ _ c.requires.1 in
     let k = c.in_ok-n.ensures in
     let w = (got refl (k.reads _ (word_holds refl z c.requires.0.1 l))).wrote in
@@ -723,7 +723,7 @@ pub std_prefixed-returns-in_err-push_sub : goal.std_prefixed-returns-in_err-push
 unfolding b onto
 std_prefixed-returns-in_err-push_sub t c =
     let p = err_from_is_err_and c.from_residual-in_err-push_sub.result c.from_residual-in_err-push_sub.ensures.1 in
-    let z = puts_of (at_place c.args.d.now (c.args.d.now.state.at + 2)) c.put.new.self c.put.ensures in
+    let z = puts_of (at_place c.args.d.now (c.args.d.now.state.at + 2)) c.put.new.self c.put.ensures.left in
     let l = std-inside _ _ c.requires.1 in
     let k = c.in_ok-n.ensures in
     let u = c.in_err-push_sub.ensures in
@@ -737,7 +737,7 @@ std_prefixed-returns-in_err-push_sub t c =
 pub std_prefixed-instance-requires : goal.std_prefixed-instance-requires
 unfolding b
 std_prefixed-instance-requires t c =
-    let z = puts_of (at_place c.args.d.now (c.args.d.now.state.at + 2)) c.put.new.self c.put.ensures in
+    let z = puts_of (at_place c.args.d.now (c.args.d.now.state.at + 2)) c.put.new.self c.put.ensures.left in
     let l = std-inside _ _ c.requires.1 in
     let k = c.in_ok-n.ensures in
     let u = c.in_ok-push_sub.ensures in
@@ -749,7 +749,7 @@ std_prefixed-instance-requires t c =
 pub std_prefixed-returns-then-here : goal.std_prefixed-returns-then-here
 unfolding b onto
 std_prefixed-returns-then-here t c =
-    let z = puts_of (at_place c.args.d.now (c.args.d.now.state.at + 2)) c.put.new.self c.put.ensures in
+    let z = puts_of (at_place c.args.d.now (c.args.d.now.state.at + 2)) c.put.new.self c.put.ensures.left in
     let l = std-inside _ _ c.requires.1 in
     let k = c.in_ok-n.ensures in
     let u = c.in_ok-push_sub.ensures in
@@ -768,7 +768,7 @@ std_prefixed-returns-then-here t c =
 pub std_prefixed-returns : goal.std_prefixed-returns
 unfolding b onto
 std_prefixed-returns t c =
-    let z = puts_of (at_place c.args.d.now (c.args.d.now.state.at + 2)) c.put.new.self c.put.ensures in
+    let z = puts_of (at_place c.args.d.now (c.args.d.now.state.at + 2)) c.put.new.self c.put.ensures.left in
     let l = std-inside _ _ c.requires.1 in
     let k = c.in_ok-n.ensures in
     let u = c.in_ok-push_sub.ensures in
@@ -882,7 +882,7 @@ local_name-returns-then-eat t c =
       reads = λ σ h.
           given_behind
           (λ m r. Refines (keep d.state.depth) d.state.depth d.s.now (window (memory_of d) (state_of d)) (d.state.at + 1) m r (local_name reading σ))
-          c.local_function.new.d c.put.new.self (c.in_ok-n.n + 16) v.is c.put.ensures c.given.ensures
+          c.local_function.new.d c.put.new.self (c.in_ok-n.n + 16) v.is c.put.ensures.left c.given.ensures
           (λ o u. local_string h e.past.ahead refl w.reads refl (ap (λ (t : Text). starts (drop c.local_function.new.d.state.at t) (115 ∷ [])) (sym w.symbol) ∙ v.past.ahead) refl u refl);
     }
 
@@ -892,7 +892,7 @@ local_name-name-requires t c =
     let d = c.args.d.now in
     let e = needed c.in_ok-need.ensures in
     let (w, x) = read_stayed c.if-eat.false c.eat.ensures (parses_from keep d (d.state.at + 1) e.is c.in_ok-n.ensures) in
-    let u = puts_of c.eat.new.self c.put-2.new.self c.put-2.ensures in
+    let u = puts_of c.eat.new.self c.put-2.new.self c.put-2.ensures.left in
     let m = done w (prepared_at {d = d} refl (omega (arith, e.past.inside)) c.requires) in
     (omega (arith, c.decreases, m.more, ap length m.symbol), (_, held_from (record c.eat.new.self { stack = c.put-2.new.self }) w.symbol (local_name_ready c.requires.1 e.past.ahead refl w.reads refl x u)))
 
@@ -903,7 +903,7 @@ local_name-returns-in_err-m t c =
     let p = err_from_is_err_and c.from_residual-in_err-m.result c.from_residual-in_err-m.ensures.1 in
     let e = needed c.in_ok-need.ensures in
     let (w, x) = read_stayed c.if-eat.false c.eat.ensures (parses_from keep d (d.state.at + 1) e.is c.in_ok-n.ensures) in
-    let u = puts_of c.eat.new.self c.put-2.new.self c.put-2.ensures in
+    let u = puts_of c.eat.new.self c.put-2.new.self c.put-2.ensures.left in
     rw (p.1, p.2) (record {
       symbol = c.in_err-m.ensures.symbol ∙ w.symbol;
       reads = λ σ h. local_name_refused h e.past.ahead refl w.reads refl x u (reads_from w.symbol c.in_err-m.ensures) refl;
@@ -927,7 +927,7 @@ local_name-overflow_add-n-2 t c =
     let d = c.args.d.now in
     let e = needed c.in_ok-need.ensures in
     let w = read_stayed c.if-eat.false c.eat.ensures (parses_from keep d (d.state.at + 1) e.is c.in_ok-n.ensures) in
-    omega (arith, local_fits c.put-2.new.self c.requires.1 e w c.put-2.ensures c.in_ok-m.ensures)
+    omega (arith, local_fits c.put-2.new.self c.requires.1 e w c.put-2.ensures.left c.in_ok-m.ensures)
 
 pub local_name-overflow_add-n-3 : goal.local_name-overflow_add-n-3
 unfolding b
@@ -935,7 +935,7 @@ local_name-overflow_add-n-3 t c =
     let d = c.args.d.now in
     let e = needed c.in_ok-need.ensures in
     let w = read_stayed c.if-eat.false c.eat.ensures (parses_from keep d (d.state.at + 1) e.is c.in_ok-n.ensures) in
-    omega (arith, local_fits c.put-2.new.self c.requires.1 e w c.put-2.ensures c.in_ok-m.ensures)
+    omega (arith, local_fits c.put-2.new.self c.requires.1 e w c.put-2.ensures.left c.in_ok-m.ensures)
 
 pub local_name-returns : goal.local_name-returns
 unfolding b
@@ -943,7 +943,7 @@ local_name-returns t c =
     let d = c.args.d.now in
     let e = needed c.in_ok-need.ensures in
     let (w, x) = read_stayed c.if-eat.false c.eat.ensures (parses_from keep d (d.state.at + 1) e.is c.in_ok-n.ensures) in
-    let u = puts_of c.eat.new.self c.put-2.new.self c.put-2.ensures in
+    let u = puts_of c.eat.new.self c.put-2.new.self c.put-2.ensures.left in
     record {
       symbol = c.in_ok-m.ensures.symbol ∙ w.symbol;
       reads = λ σ h.
@@ -976,7 +976,7 @@ pub local_function-items-requires : goal.local_function-items-requires
 unfolding b
 local_function-items-requires t c =
     let (k, x) = read_stayed c.if-eat.false c.eat.ensures c.in_ok-n.ensures in
-    let u = puts_of c.eat.new.self c.put.new.self c.put.ensures in
+    let u = puts_of c.eat.new.self c.put.new.self c.put.ensures.left in
     let m = done k c.requires in
     (omega (arith, c.decreases, m.more, ap length m.symbol), (_, held_from (record c.eat.new.self { stack = c.put.new.self }) k.symbol (fn_items_ready c.requires.1 k.reads refl x u)))
 
@@ -985,7 +985,7 @@ unfolding b
 local_function-returns-in_err-list t c =
     let p = err_from_is_err_and c.from_residual-in_err-list.result c.from_residual-in_err-list.ensures.1 in
     let (k, x) = read_stayed c.if-eat.false c.eat.ensures c.in_ok-n.ensures in
-    let u = puts_of c.eat.new.self c.put.new.self c.put.ensures in
+    let u = puts_of c.eat.new.self c.put.new.self c.put.ensures.left in
     let i = no_items_from Types (record c.eat.new.self { stack = c.put.new.self }) k.symbol _ c.in_err-list.ensures in
     rw (p.1, p.2) (record {
       symbol = c.in_err-list.ensures.symbol ∙ k.symbol;
@@ -997,7 +997,7 @@ unfolding b
 local_function-returns-in_err-m t c =
     let p = err_from_is_err_and c.from_residual-in_err-m.result c.from_residual-in_err-m.ensures.1 in
     let (k, x) = read_stayed c.if-eat.false c.eat.ensures c.in_ok-n.ensures in
-    let u = puts_of c.eat.new.self c.put.new.self c.put.ensures in
+    let u = puts_of c.eat.new.self c.put.new.self c.put.ensures.left in
     let i = items_from Types (record c.eat.new.self { stack = c.put.new.self }) k.symbol c.in_ok-list.list c.in_ok-list.ensures in
     let g = given_err c.in_ok-list.list.n c.in_err-m.ensures in
     rw (p.1, p.2, g.1) (record {
@@ -1010,7 +1010,7 @@ unfolding b
 local_function-returns-in_err-need t c =
     let p = err_from_is_err_and c.from_residual-in_err-need.result c.from_residual-in_err-need.ensures.1 in
     let (k, x) = read_stayed c.if-eat.false c.eat.ensures c.in_ok-n.ensures in
-    let u = puts_of c.eat.new.self c.put.new.self c.put.ensures in
+    let u = puts_of c.eat.new.self c.put.new.self c.put.ensures.left in
     let i = items_from Types (record c.eat.new.self { stack = c.put.new.self }) k.symbol c.in_ok-list.list c.in_ok-list.ensures in
     let e = c.in_ok-list.ensures.symbol ∙ k.symbol in
     let g = given_ok c.in_ok-list.list.n c.in_ok-m.ensures in
@@ -1035,7 +1035,7 @@ unfolding b
 local_function-returns t c =
     let d = c.args.d.now in
     let (k, x) = read_stayed c.if-eat.false c.eat.ensures c.in_ok-n.ensures in
-    let u = puts_of c.eat.new.self c.put.new.self c.put.ensures in
+    let u = puts_of c.eat.new.self c.put.new.self c.put.ensures.left in
     let i = items_from Types (record c.eat.new.self { stack = c.put.new.self }) k.symbol c.in_ok-list.list c.in_ok-list.ensures in
     let e = c.in_ok-list.ensures.symbol ∙ k.symbol in
     let g = given_ok c.in_ok-list.list.n c.in_ok-m.ensures in
@@ -1045,7 +1045,7 @@ local_function-returns t c =
       reads = λ σ h.
           given_behind
           (λ m r. Refines (keep d.state.depth) d.state.depth d.s.now (window (memory_of d) (state_of d)) (d.state.at + 1) m r (local_encoding reading σ))
-          c.items.new.d c.put-2.new.self (c.in_ok-n.n + c.in_ok-list.list.n + 2) v.is c.put-2.ensures (c.given-2.ensures ∙ ap (λ (j : ℕ). given_length (c.in_ok-n.n + j + 2)) g.1)
+          c.items.new.d c.put-2.new.self (c.in_ok-n.n + c.in_ok-list.list.n + 2) v.is c.put-2.ensures.left (c.given-2.ensures ∙ ap (λ (j : ℕ). given_length (c.in_ok-n.n + j + 2)) g.1)
           (λ o w. fn_given h k.reads refl x u i refl g.0 (ap (λ (t : Text). starts (drop c.items.new.d.state.at t) (69 ∷ [])) (sym e) ∙ v.past.ahead) refl w refl);
     }
 
@@ -1139,7 +1139,7 @@ operator_name-returns-in-Some t c =
       reads = λ σ h.
           by (operator_word s c.args.d.now.state.at σ h.rest l _
           (ap (λ (z : ℕ). word_for operators (z ∷ slice_index_or s (c.args.d.now.state.at + 1) 0 ∷ [])) v.past.byte ∙ ap (λ (z : ℕ). word_for operators (c.in_ok-a.a ∷ z ∷ [])) (two_second v w) ∙ sym f.0))
-          (less (omega (arith, h.deep)) (gives_word c.args.d.now c.put.new.self (two_is v w) h (omega (arith, l)) (omega arith) (omega (arith, f.1)) c.put.ensures));
+          (less (omega (arith, h.deep)) (gives_word c.args.d.now c.put.new.self (two_is v w) h (omega (arith, l)) (omega arith) (omega (arith, f.1)) c.put.ensures.left));
     }
 
 pub operator_name-returns-then-a-ne99 : goal.operator_name-returns-then-a-ne99
@@ -1162,7 +1162,7 @@ unfolding b
 operator_name-ty-requires t c =
     let v = took c.in_ok-a.ensures in
     let w = took c.in_ok-c.ensures in
-    let z = put_at c.args.d.now c.put-2.new.self (two_is v w) c.put-2.ensures in
+    let z = put_at c.args.d.now c.put-2.new.self (two_is v w) c.put-2.ensures.left in
     (omega (arith, c.decreases, two_inside v w, ap (λ (x : Demangler). x.state.at) (two_is v w), ap (λ (x : Demangler). length x.s.now) (two_is v w)), subst (λ (x : Demangler). Prepared (record x { stack = c.put-2.new.self })) (sym (two_is v w)) (_, oper_holds c.requires.1 (two_inside v w) refl z))
 
 pub operator_name-returns-in_err-n : goal.operator_name-returns-in_err-n
@@ -1174,7 +1174,7 @@ operator_name-returns-in_err-n t c =
     let s = c.args.d.now.s.now in
     let n = ap (λ (z : ℕ). word_for operators (z ∷ slice_index_or s (c.args.d.now.state.at + 1) 0 ∷ [])) v.past.byte ∙ ap (λ (z : ℕ). word_for operators (c.in_ok-a.a ∷ z ∷ [])) (two_second v w)
     ∙ sym (spelled_not operators (c.in_ok-a.a ∷ c.in_ok-c.c ∷ []) c.operator_name.ensures c.in_default.is) in
-    let z = put_at c.args.d.now c.put-2.new.self (two_is v w) c.put-2.ensures in
+    let z = put_at c.args.d.now c.put-2.new.self (two_is v w) c.put-2.ensures.left in
     let j = parses_put c.args.d.now c.put-2.new.self (two_is v w) (λ i. keep (i + 1)) c.in_err-n.ensures in
     rw (p.1, p.2) (record {
       symbol = j.symbol;
@@ -1186,7 +1186,7 @@ unfolding b
 operator_name-overflow_add-n t c =
     let v = took c.in_ok-a.ensures in
     let w = took c.in_ok-c.ensures in
-    let z = put_at c.args.d.now c.put-2.new.self (two_is v w) c.put-2.ensures in
+    let z = put_at c.args.d.now c.put-2.new.self (two_is v w) c.put-2.ensures.left in
     let j = parses_put c.args.d.now c.put-2.new.self (two_is v w) (λ i. keep (i + 1)) c.in_ok-n.ensures in
     let g = got refl (j.reads _ (oper_holds c.requires.1 (two_inside v w) refl z)) in
     omega (arith, g.wrote.size, g.wrote.short)
@@ -1199,7 +1199,7 @@ operator_name-returns t c =
     let s = c.args.d.now.s.now in
     let n = ap (λ (z : ℕ). word_for operators (z ∷ slice_index_or s (c.args.d.now.state.at + 1) 0 ∷ [])) v.past.byte ∙ ap (λ (z : ℕ). word_for operators (c.in_ok-a.a ∷ z ∷ [])) (two_second v w)
     ∙ sym (spelled_not operators (c.in_ok-a.a ∷ c.in_ok-c.c ∷ []) c.operator_name.ensures c.in_default.is) in
-    let z = put_at c.args.d.now c.put-2.new.self (two_is v w) c.put-2.ensures in
+    let z = put_at c.args.d.now c.put-2.new.self (two_is v w) c.put-2.ensures.left in
     let j = parses_put c.args.d.now c.put-2.new.self (two_is v w) (λ i. keep (i + 1)) c.in_ok-n.ensures in
     record {
       symbol = j.symbol;
@@ -1593,30 +1593,30 @@ template_args-returns-in_err-enter t c =
 
 pub template_args-items-requires : goal.template_args-items-requires
 template_args-items-requires t c =
-    let o = opened c.put.new.self (needed c.in_ok-need.ensures) c.in_ok-enter.ensures c.put.ensures in
+    let o = opened c.put.new.self (needed c.in_ok-need.ensures) c.in_ok-enter.ensures c.put.ensures.left in
     (omega (arith, c.decreases, o.inside, ap (λ (x : Demangler). x.state.at) o.is, ap (λ (x : Demangler). length x.s.now) o.is), (_, opened_held o c.requires.1))
 
 pub template_args-returns-in_err-list : goal.template_args-returns-in_err-list
 template_args-returns-in_err-list t c =
     let p = err_from_is_err_and c.from_residual-in_err-list.result c.from_residual-in_err-list.ensures.1 in
-    let o = opened c.put.new.self (needed c.in_ok-need.ensures) c.in_ok-enter.ensures c.put.ensures in
+    let o = opened c.put.new.self (needed c.in_ok-need.ensures) c.in_ok-enter.ensures c.put.ensures.left in
     rw (p.1, p.2) (args_no_list o c.in_err-list.ensures)
 
 pub template_args-returns-in_err-need-2 : goal.template_args-returns-in_err-need-2
 template_args-returns-in_err-need-2 t c =
     let p = err_from_is_err_and c.from_residual-in_err-need-2.result c.from_residual-in_err-need-2.ensures.1 in
-    let o = opened c.put.new.self (needed c.in_ok-need.ensures) c.in_ok-enter.ensures c.put.ensures in
+    let o = opened c.put.new.self (needed c.in_ok-need.ensures) c.in_ok-enter.ensures c.put.ensures.left in
     rw (p.1, p.2) (args_unclosed o c.in_ok-list.ensures (lacked c.in_err-need-2.ensures))
 
 pub template_args-newest-requires : goal.template_args-newest-requires
 template_args-newest-requires t c =
-    let o = opened c.put.new.self (needed c.in_ok-need.ensures) c.in_ok-enter.ensures c.put.ensures in
+    let o = opened c.put.new.self (needed c.in_ok-need.ensures) c.in_ok-enter.ensures c.put.ensures.left in
     let q = needed c.in_ok-need-2.ensures in
     omega (arith, stands_some (bracketed o c.in_ok-list.ensures q c.requires.1) (omega arith), ap (λ (x : Demangler). x.stack.top) (c.leave.ensures ∙ ap (λ (x : Demangler). at_depth x c.need.new.self.state.depth) q.is))
 
 pub template_args-sum-requires : goal.template_args-sum-requires
 template_args-sum-requires t c =
-    let o = opened c.put.new.self (needed c.in_ok-need.ensures) c.in_ok-enter.ensures c.put.ensures in
+    let o = opened c.put.new.self (needed c.in_ok-need.ensures) c.in_ok-enter.ensures c.put.ensures.left in
     let z : length c.if-eq.close.now ≤ 2 = elim c.if-eq.branch [
       | template_args-then-eq w ↦ omega (arith, ap (λ (x : Bor Text). length x.now) w.close-is)
       | template_args-else-eq w ↦ omega (arith, ap (λ (x : Bor Text). length x.now) w.close-is)
@@ -1626,7 +1626,7 @@ template_args-sum-requires t c =
 pub template_args-returns : goal.template_args-returns
 template_args-returns t c =
     let e = needed c.in_ok-need.ensures in
-    let o = opened c.put.new.self e c.in_ok-enter.ensures c.put.ensures in
+    let o = opened c.put.new.self e c.in_ok-enter.ensures c.put.ensures.left in
     let q = needed c.in_ok-need-2.ensures in
     let v = bracketed o c.in_ok-list.ensures q c.requires.1 in
     let i = c.leave.ensures ∙ ap (λ (x : Demangler). at_depth x c.need.new.self.state.depth) q.is in
@@ -1637,7 +1637,7 @@ template_args-returns t c =
       | template_args-else-eq w ↦ ap (λ (x : Bor Text). x.now) w.close-is ∙ ap close_of (sym w.if-eq.false)
     ] in
     args_closed o c.in_ok-list.ensures q c.leave.ensures (ap (λ (x : Demangler). x.state.depth) e.is)
-    (newest_byte _ _ 62 g (omega (arith, top, stands_some v (omega arith))) c.newest.ensures c.as_slice.ensures c.eq.ensures) z c.put-2.ensures c.sum.ensures c.given.ensures
+    (newest_byte _ _ 62 g (omega (arith, top, stands_some v (omega arith))) c.newest.ensures c.as_slice.ensures c.eq.ensures) z c.put-2.ensures.left c.sum.ensures c.given.ensures
 
 -- ---------------------------------------------------------------- template_arg
 
@@ -1674,7 +1674,7 @@ template_arg-returns-then-eat t c =
     record {
       symbol = ap (λ (x : Demangler). x.s.now) e.is;
       reads = λ σ h. by (arg_skipped c.args.d.now.s.now c.args.d.now.state.at σ h.rest (ap (λ (t : Text). starts t (88 ∷ [])) h.rest ∙ e.past.ahead) k.0)
-          (less (omega (arith, h.deep)) (gives_word c.args.d.now c.put.new.self (ap (λ (x : Demangler). at_place x c.in_ok-d.field-0) e.is) h k.1.1 k.1.0 (omega arith) c.put.ensures));
+          (less (omega (arith, h.deep)) (gives_word c.args.d.now c.put.new.self (ap (λ (x : Demangler). at_place x c.in_ok-d.field-0) e.is) h k.1.1 k.1.0 (omega arith) c.put.ensures.left));
     }
 
 pub template_arg-pack-requires : goal.template_arg-pack-requires

@@ -19,4 +19,4 @@ returns c =
     let i = k.past.inside in
     cycle.structor (omega arith)
     (e ∙ ap (λ (n : ℕ). record d { state = record d.state { at = n }; stack = c.put.new.self }) {x = d.state.at + 1 + 1} {y = d.state.at + 2} (omega arith))
-    (rw k.is at c.put.ensures)
+    (rw k.is at c.put.ensures.left)

@@ -4,4 +4,4 @@ use Rattle.reader.proofs.lists.comma.Goals as goal
 
 pub returns-then-n-gt0 : goal.returns-then-n-gt0
 unfolding b
-returns-then-n-gt0 c = put_some (b ", ") c.args.n c.if-n-gt0.true c.put.ensures
+returns-then-n-gt0 c = put_some (b ", ") c.args.n c.if-n-gt0.true c.put.ensures.left

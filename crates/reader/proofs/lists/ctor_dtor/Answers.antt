@@ -31,7 +31,7 @@ again-requires c =
     let o = between q.count (ap (λ (z : Parts). z.n) c.longer-more.ensures) c.if-n-gt-BYTES.false (omega (arith, c.min-m.ensures)) y in
     let back : ℕ = q.last - r.from in
     let u = puts_of d c.separate.new.stack c.separate.ensures in
-    let v = puts_of (record d { stack = c.separate.new.stack }) c.put.new.self c.put.ensures in
+    let v = puts_of (record d { stack = c.separate.new.stack }) c.put.new.self c.put.ensures.left in
     let size = colons_size q.count in
     let a = puts_top back (stack_of d.stack) u (omega (arith, c.requires.1, c.if-n-gt-BYTES.false)) (omega (arith, c.requires.1, c.if-n-gt-BYTES.false)) in
     let e = puts_top (back + length (before_part q.count)) (stack_of c.separate.new.stack) v a (omega (arith, size, c.requires.1, c.if-n-gt-BYTES.false)) in
@@ -52,10 +52,10 @@ returns c =
     let n = exact q.count (ap (λ (z : Parts). z.n) c.longer-more.ensures) c.if-n-gt-BYTES.false m y in
     let r : Classed (newest d.stack.bytes.now d.stack.top q.last) c.class_of-class.result = subst (λ (z : Text). Classed z c.class_of-class.result) c.newest.ensures c.class_of-class.ensures in
     let put : Put c.separate.new.stack.bytes.now c.put.new.self.bytes.now c.separate.new.stack.top c.put.new.self.top (tilde_of c.args.c) =
-    subst (λ (z : Text). Put c.separate.new.stack.bytes.now c.put.new.self.bytes.now c.separate.new.stack.top c.put.new.self.top z) tilde c.put.ensures in
+    subst (λ (z : Text). Put c.separate.new.stack.bytes.now c.put.new.self.bytes.now c.separate.new.stack.top c.put.new.self.top z) tilde c.put.ensures.left in
     let u = puts_of d c.separate.new.stack c.separate.ensures in
     let v = puts_of (record d { stack = c.separate.new.stack }) c.put.new.self put in
-    let w = puts_of (record d { stack = c.put.new.self }) c.again.new.self c.again.ensures in
+    let w = puts_of (record d { stack = c.put.new.self }) c.again.new.self c.again.ensures.left in
     let size = ap length tilde in
     let last = ap (λ (z : Parts). z.last) c.longer-more.ensures in
     rw (ap (λ (z : Parts). z.count) c.longer-more.ensures) (record {

@@ -19,13 +19,13 @@ recorded-requires c =
       arith,
       c.requires.1.1.1,
       c.lone_void.ensures.four c.if-lone_void.true,
-      c.cut.ensures.top_is,
-      top_size c.cut.ensures.stack,
-      top_size c.put.ensures.stack,
-      c.put.ensures.most,
-      ap length c.put.ensures.is,
-      length-append (drop c.put.ensures.lost w) (41 ∷ []),
-      length-drop c.put.ensures.lost w,
+      c.cut.ensures.left.top_is,
+      top_size c.cut.ensures.left.stack,
+      top_size c.put.ensures.left.stack,
+      c.put.ensures.left.most,
+      ap length c.put.ensures.left.is,
+      length-append (drop c.put.ensures.left.lost w) (41 ∷ []),
+      length-drop c.put.ensures.left.lost w,
     )
 
 pub returns-then-lone_void : goal.returns-then-lone_void
@@ -37,11 +37,11 @@ returns-then-lone_void c = record {
       let q = sym (c.lone_void.ensures.is ts g f (λ i. newest_four t (join (b ", ") ts) h (omega (arith, e, c.requires.1.0)) (omega (arith, f, i)))) ∙ c.if-lone_void.true in
       let j : length (join (b ", ") ts) ≡ 4 = ap length (void_text ts q) in
       let l : length t ≤ most_text_bytes = omega (arith, e, c.requires.1.0) in
-      let w = stands_without t (join (b ", ") ts) h l j (keep d.state.depth) (omega arith) (omega arith) (cuts_of d c.cut.new.self c.cut.ensures) in
+      let w = stands_without t (join (b ", ") ts) h l j (keep d.state.depth) (omega arith) (omega arith) (cuts_of d c.cut.new.self c.cut.ensures.left) in
       let d₁ = record d { stack = c.cut.new.self } in
       by (ap (λ (x : Text). recorded x σ) (function_bare t ts q))
       (c.recorded.ensures.is (keep d.state.depth) d.state.depth s base from _ σ
-      (stands_puts w (puts_of d₁ c.put.new.self c.put.ensures) (omega (arith, e, l, length-append (t ++ opening) (41 ∷ []), length-append t opening))));
+      (stands_puts w (puts_of d₁ c.put.new.self c.put.ensures.left) (omega (arith, e, l, length-append (t ++ opening) (41 ∷ []), length-append t opening))));
 }
 
 pub returns : goal.returns
@@ -55,5 +55,5 @@ returns c = record {
       by (ap (λ (x : Text). recorded x σ) (function_listed t ts no))
       (less (omega arith)
       (c.recorded-2.ensures.is (keep (d.state.depth + 1)) d.state.depth s base from _ σ
-      (stands_puts h (puts_of d c.put-2.new.self c.put-2.ensures) (omega (arith, z, h.size, c.sum.ensures)))));
+      (stands_puts h (puts_of d c.put-2.new.self c.put-2.ensures.left) (omega (arith, z, h.size, c.sum.ensures)))));
 }

@@ -73,5 +73,5 @@ returns c =
       others = others_by c.args.self.now (ap (λ (x : Demangler). record x { stack = c.put.new.self }) n.is);
       is = λ rest σ e h.
           by (known σ (e ∙ ap (λ (z : Text). 68 ∷ z) (behind-d c.args.self.now.s.now c.args.self.now.state.at (sym h.rest ∙ e) ∙ n.past.there)) w.0)
-          (gives_word c.args.self.now c.put.new.self n.is h (omega (arith, n.past.inside)) (omega arith) (omega (arith, w.1)) c.put.ensures);
+          (gives_word c.args.self.now c.put.new.self n.is h (omega (arith, n.past.inside)) (omega arith) (omega (arith, w.1)) c.put.ensures.left);
     }

@@ -15,5 +15,5 @@ pub loop-preserved : goal.loop-preserved
 loop-preserved c =
     record {
       others = ap (λ (x : Demangler). record x { stack = c.put.new.self }) c.loop.invariant.others;
-      adds = rw (← closers_more c.loop.counter) (adds_more c.loop.invariant.adds (puts_of c.loop.self c.put.new.self c.put.ensures));
+      adds = rw (← closers_more c.loop.counter) (adds_more c.loop.invariant.adds (puts_of c.loop.self c.put.new.self c.put.ensures.left));
     }

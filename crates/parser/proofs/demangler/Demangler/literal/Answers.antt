@@ -51,8 +51,8 @@ returns-after-eq c =
       is = λ k l s base from t σ h i j.
           let (e, f, o) = stands_newest h (omega arith) in
           let w = said t v (kind_by c.of.ensures c.newest.ensures o c.in-Truth.is) in
-          let bare = stands_bare w.1 j h (cuts_of d c.cut.new.self c.cut.ensures) in
-          let all = stands_puts bare (puts_of (record d { stack = c.cut.new.self }) c.put.new.self c.put.ensures) refl in
+          let bare = stands_bare w.1 j h (cuts_of d c.cut.new.self c.cut.ensures.left) in
+          let all = stands_puts bare (puts_of (record d { stack = c.cut.new.self }) c.put.new.self c.put.ensures.left) refl in
           answers (ap (λ (x : Text). give x σ) (w.0 ∙ told.0) ∙ give_short c.if-eq.word.now σ (omega (arith, told.1)))
           (short_enough (stands_size all (length c.if-eq.word.now) (omega (arith, told.1))) (omega (arith, told.1)));
     }
@@ -66,9 +66,9 @@ returns-in-Suffix c =
           let d = c.args.self.now in
           let v = c.args.value.now in
           let w = said t v (kind_by c.of.ensures c.newest.ensures o c.in-Suffix.is) in
-          let bare = stands_bare w.1 j h (cuts_of d c.cut-in-Suffix.new.self c.cut-in-Suffix.ensures) in
+          let bare = stands_bare w.1 j h (cuts_of d c.cut-in-Suffix.new.self c.cut-in-Suffix.ensures.left) in
           let valued = stands_more (value_adds (record d { stack = c.cut-in-Suffix.new.self }) c.put_value.new.stack c.put_value.ensures) bare in
-          let all = stands_puts valued (puts_of (record d { stack = c.put_value.new.stack }) c.put-in-Suffix.new.self c.put-in-Suffix.ensures) refl in
+          let all = stands_puts valued (puts_of (record d { stack = c.put_value.new.stack }) c.put-in-Suffix.new.self c.put-in-Suffix.ensures.left) refl in
           rw (c.given.ensures, outcome_given) (by (ap (λ (x : Text). give x σ) w.0)
           (given_refines (stands_size all _ (simp length-append (omega (arith, length_signed v, w.2))))));
     }

@@ -21,4 +21,4 @@ returns c =
     let e = marked_text c.write_decimal-start.ensures refl z 84 in
     let n = marked_size c.write_decimal-start.ensures refl z 84 in
     leaf_reads refl
-    (λ σ h. by (ap (λ (t : Text). give t σ) (sym e)) (wrote_one h (puts_of c.args.self.now c.put.new.self c.put.ensures) (ap length e ∙ n) (omega (arith, ap length e, n)) (omega arith)))
+    (λ σ h. by (ap (λ (t : Text). give t σ) (sym e)) (wrote_one h (puts_of c.args.self.now c.put.new.self c.put.ensures.left) (ap length e ∙ n) (omega (arith, ap length e, n)) (omega arith)))

@@ -109,7 +109,7 @@ overflow_sub-part c = omega (arith, (here c.args.self.now c.loop-part.self c.loo
 
 pub returns-then-not-eat : goal.returns-then-not-eat
 returns-then-not-eat c =
-    ending c.args.self.now c.loop-part.self c.loop-part.invariant c.identifier.ensures c.in_ok-part.ensures.value c.put.new.self c.put.ensures
+    ending c.args.self.now c.loop-part.self c.loop-part.invariant c.identifier.ensures c.in_ok-part.ensures.value c.put.new.self c.put.ensures.left
     (ate_none c.if-not-eat.true c.eat.ensures) c.close_tags.ensures c.sum-n.ensures c.sum.ensures c.given.ensures
 
 pub loop-part-smaller : goal.loop-part-smaller
@@ -117,7 +117,7 @@ loop-part-smaller c =
     let i = c.loop-part.invariant in
     let o = c.args.self.now in
     let h = here o c.loop-part.self i c.identifier.ensures c.in_ok-part.ensures.value in
-    let z = place o c.loop-part.self i c.identifier.ensures c.in_ok-part.ensures.value c.put.new.self c.put.ensures c.put-in-loop-part.new.self (ate c.if-not-eat.false c.eat.ensures) in
+    let z = place o c.loop-part.self i c.identifier.ensures c.in_ok-part.ensures.value c.put.new.self c.put.ensures.left c.put-in-loop-part.new.self (ate c.if-not-eat.false c.eat.ensures) in
     omega (arith, h.behind, h.some, h.inside, z.0, ap length z.1, ap length (same o c.loop-part.self i))
 
 pub loop-part-preserved : goal.loop-part-preserved
@@ -126,6 +126,6 @@ loop-part-preserved c =
     let o = c.args.self.now in
     let d = c.loop-part.self in
     let z = ate c.if-not-eat.false c.eat.ensures in (
-      others o d i c.identifier.ensures c.in_ok-part.ensures.value c.put.new.self c.put.ensures c.put-in-loop-part.new.self z,
-      more o d i c.identifier.ensures c.in_ok-part.ensures.value c.put.new.self c.put.ensures c.put-in-loop-part.new.self z c.put-in-loop-part.ensures c.sum-n.ensures c.sum-n-in-loop-part.ensures,
+      others o d i c.identifier.ensures c.in_ok-part.ensures.value c.put.new.self c.put.ensures.left c.put-in-loop-part.new.self z,
+      more o d i c.identifier.ensures c.in_ok-part.ensures.value c.put.new.self c.put.ensures.left c.put-in-loop-part.new.self z c.put-in-loop-part.ensures.left c.sum-n.ensures c.sum-n-in-loop-part.ensures,
     )

@@ -37,7 +37,7 @@ module _ (p : Progress) {text text₁ text₂ : Text} {i j c m : ℕ} (h : Stack
       }
 
 pub cut-requires : goal.cut-requires
-cut-requires c = omega (arith, room (state_of c.args.self.now) (stack_of c.args.self.now.stack) c.requires c.put.ensures c.again.ensures)
+cut-requires c = omega (arith, room (state_of c.args.self.now) (stack_of c.args.self.now.stack) c.requires c.put.ensures.left c.again.ensures.left)
 
 pub returns : goal.returns
-returns c = record { others = refl; turned = turned (state_of c.args.self.now) (stack_of c.args.self.now.stack) c.requires c.put.ensures c.again.ensures c.cut.ensures }
+returns c = record { others = refl; turned = turned (state_of c.args.self.now) (stack_of c.args.self.now.stack) c.requires c.put.ensures.left c.again.ensures.left c.cut.ensures.left }

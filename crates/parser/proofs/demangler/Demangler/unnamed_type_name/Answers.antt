@@ -42,7 +42,7 @@ returns-then-kind-eq108 c =
     let f : c.numbered-self.result ≡ behind_number d.s.now (closing (at_place d (d.state.at + 1)) + 1) =
     c.numbered-self.ensures.0 ∙ ap (λ (x : Demangler). behind_number x.s.now (c.before-end.result + 1)) n.is ∙ ap (λ (i : ℕ). behind_number d.s.now (i + 1)) e in
     leaf_gives d c.put.new.self (ap (λ (x : Demangler). at_place x c.numbered-self.result) n.is) (omega (arith, l, c.numbered-self.ensures.1))
-    (omega (arith, f, number_more d.s.now (closing (at_place d (d.state.at + 1)) + 1))) (omega arith) c.put.ensures
+    (omega (arith, f, number_more d.s.now (closing (at_place d (d.state.at + 1)) + 1))) (omega arith) c.put.ensures.left
     (λ σ h. unnamed_lambda d.s.now d.state.at σ h.rest n.past.inside (n.past.byte ∙ c.if-kind-eq108.true) (omega (arith, e, l, c.if-self-end.false))
     ∙ ap (λ (i : ℕ). give lambda (moved (drop i d.s.now) σ)) (sym f))
 
@@ -53,5 +53,5 @@ returns c =
     let l = ap (λ (x : Demangler). length x.s.now) n.is in
     let f : c.numbered-self-2.result ≡ behind_number d.s.now (d.state.at + 1) = c.numbered-self-2.ensures.0 ∙ ap (λ (x : Demangler). behind_number x.s.now x.state.at) n.is in
     leaf_gives d c.put-2.new.self (ap (λ (x : Demangler). at_place x c.numbered-self-2.result) n.is) (omega (arith, l, c.numbered-self-2.ensures.1))
-    (omega (arith, f, number_more d.s.now (d.state.at + 1))) (omega arith) c.put-2.ensures
+    (omega (arith, f, number_more d.s.now (d.state.at + 1))) (omega arith) c.put-2.ensures.left
     (λ σ h. unnamed_other d.s.now d.state.at σ h.rest n.past.inside (λ z. c.if-kind-eq108.false (sym n.past.byte ∙ z)) ∙ ap (λ (i : ℕ). give no_name (moved (drop i d.s.now) σ)) (sym f))

@@ -40,16 +40,16 @@ returns-then-size-gt-TEXT c = record {
 
 pub cut-requires : goal.cut-requires
 cut-requires c =
-    omega (arith, room c.args.self.now c.weave.new.self c.args.word.now c.requires.1.1.1.0 c.requires.1.0 c.requires.0 c.slots.ensures.0 c.weave.ensures, c.woven-size.ensures, c.if-size-gt-TEXT.false)
+    omega (arith, room c.args.self.now c.weave.new.self c.args.word.now c.requires.1.1.1.0 c.requires.1.0 c.requires.0 c.slots.ensures.0 c.weave.ensures.left, c.woven-size.ensures, c.if-size-gt-TEXT.false)
 
 pub recorded-requires : goal.recorded-requires
 recorded-requires c =
     omega (
       arith,
-      room c.args.self.now c.weave.new.self c.args.word.now c.requires.1.1.1.0 c.requires.1.0 c.requires.0 c.slots.ensures.0 c.weave.ensures,
+      room c.args.self.now c.weave.new.self c.args.word.now c.requires.1.1.1.0 c.requires.1.0 c.requires.0 c.slots.ensures.0 c.weave.ensures.left,
       c.woven-size.ensures,
       c.if-size-gt-TEXT.false,
-      c.cut.ensures.top_is,
+      c.cut.ensures.left.top_is,
     )
 
 pub returns : goal.returns
@@ -63,11 +63,11 @@ returns c = record {
       let u = subst (Puts c.args.self.now.stack.bytes.now c.weave.new.self.bytes.now _ _)
       (ap₂ (λ (v t : Text). at_slots (v ++ c.args.word.now) t)
       (ap₂ (λ (v j : ℕ). below_newest c.args.self.now.stack.bytes.now c.args.self.now.stack.top v j) (sym f) (sym e) ∙ below_text x y h i) q)
-      (puts_of c.args.self.now c.weave.new.self c.weave.ensures) in
+      (puts_of c.args.self.now c.weave.new.self c.weave.ensures.left) in
       let some_slots : c.slots.result ≡ 0 → ⊥ = λ v. c.requires.1.1.1.1 (sym c.slots.ensures.0 ∙ v) in
       let r = mul-le-mul_right {m = 1} {n = c.slots.result} (c.args.d + length c.args.word.now) (omega (arith, some_slots)) in
       c.recorded.ensures.is k l s base from _ σ
-      (stands_replaced h u (cuts_of (record c.args.self.now { stack = c.weave.new.self }) c.cut.new.self c.cut.ensures)
+      (stands_replaced h u (cuts_of (record c.args.self.now { stack = c.weave.new.self }) c.cut.new.self c.cut.ensures.left)
       (length-append x y ∙ ap₂ (λ (v j : ℕ). v + j) e f) (omega (arith, z, c.woven-size.ensures, c.if-size-gt-TEXT.false))
       (omega (arith, r, c.woven-size.ensures, c.if-size-gt-TEXT.false)) (omega (arith, c.requires.0, c.requires.1.0)) (omega (arith, c.if-size-gt-TEXT.false)));
 }

@@ -61,7 +61,7 @@ returns-in_err-word-2 c = record {
 
 pub recorded-requires : goal.recorded-requires
 recorded-requires c =
-    omega (arith, puts_top c.args.n (stack_of c.args.self.now.stack) (puts_of c.args.self.now c.put.new.self c.put.ensures) c.requires.0 (omega (arith, c.requires.1)))
+    omega (arith, puts_top c.args.n (stack_of c.args.self.now.stack) (puts_of c.args.self.now c.put.new.self c.put.ensures.left) c.requires.0 (omega (arith, c.requires.1)))
 
 pub returns : goal.returns
 returns c = record {
@@ -74,5 +74,5 @@ returns c = record {
       (behind t (at_slots (b u.1) t) (t ++ b u.0) (ap slots_in (sym (newest_text h (omega (arith, i, c.requires.1)))) ∙ sym c.slots.ensures.0 ∙ c.if-slots-ne0.false)
       ∙ ap (λ (y : Text). t ++ y) f))
       (c.recorded.ensures.is k l s base from _ σ
-      (stands_puts h (puts_of c.args.self.now c.put.new.self c.put.ensures) (omega (arith, length-append t c.in_ok-word-2.word.now, i, x.1, c.requires.1))));
+      (stands_puts h (puts_of c.args.self.now c.put.new.self c.put.ensures.left) (omega (arith, length-append t c.in_ok-word-2.word.now, i, x.1, c.requires.1))));
 }

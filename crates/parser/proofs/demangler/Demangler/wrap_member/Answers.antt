@@ -33,7 +33,7 @@ pub recorded-requires : goal.recorded-requires
 recorded-requires c =
     omega (
       arith,
-      puts_top (c.args.m + 1 + c.args.c) (stack_of c.turned.new.self.stack) (puts_of c.turned.new.self c.put.new.self c.put.ensures) c.turned.ensures.turned.least (omega (arith, c.requires.0, c.requires.1.0)),
+      puts_top (c.args.m + 1 + c.args.c) (stack_of c.turned.new.self.stack) (puts_of c.turned.new.self c.put.new.self c.put.ensures.left) c.turned.ensures.turned.least (omega (arith, c.requires.0, c.requires.1.0)),
     )
 
 pub returns : goal.returns
@@ -46,5 +46,5 @@ returns c = record {
       by (ap (λ (t : Text). recorded t σ)
       (behind y (at_slots (x ++ b "::*") y) (y ++ b " " ++ x ++ b "::*") (ap slots_in (sym (member x y h i f)) ∙ sym c.slots.ensures.0 ∙ c.if-slots-ne0.false)))
       (c.recorded.ensures.is k l s base from _ σ
-      (stands_puts (turns_stands c.turned.ensures x y e f h) (puts_of c.turned.new.self c.put.new.self c.put.ensures) z));
+      (stands_puts (turns_stands c.turned.ensures x y e f h) (puts_of c.turned.new.self c.put.new.self c.put.ensures.left) z));
 }

@@ -4,4 +4,4 @@ use Rattle.reader.proofs.lists.Parts.separate.Goals as goal
 
 pub returns-then-self-gt0 : goal.returns-then-self-gt0
 unfolding b
-returns-then-self-gt0 c = put_some (b "::") c.args.self.count c.if-self-gt0.true c.put.ensures
+returns-then-self-gt0 c = put_some (b "::") c.args.self.count c.if-self-gt0.true c.put.ensures.left

@@ -13,7 +13,7 @@ pub place-requires : goal.place-requires
 place-requires c =
     omega (
       arith,
-      c.repeat.ensures.top_is,
+      c.repeat.ensures.left.top_is,
       part_size c.args.low c.args.d (stack_of c.args.self.now) c.requires.0,
       slot_room c.args.low c.args.d c.args.word.now c.args.x (stack_of c.args.self.now) c.requires.0 c.requires.1 c.if-x-eq1.true,
     )
@@ -25,17 +25,17 @@ place-requires-2 c =
     elim c.if-x-eq1.branch [
       | then-x-eq1 u ↦ rw u.self-is (omega (
         arith,
-        u.repeat.ensures.top_is,
-        u.place.ensures.top_is,
+        u.repeat.ensures.left.top_is,
+        u.place.ensures.left.top_is,
         part_size c.args.low c.args.d (stack_of c.args.self.now) c.requires.0,
         slot_room c.args.low c.args.d c.args.word.now c.args.x (stack_of c.args.self.now) c.requires.0 c.requires.1 u.if-x-eq1.true,
       ))
       | else-x-eq1 u ↦ rw u.self-is (omega (arith, c.requires.1, ap length (at_slot_no w c.args.x u.if-x-eq1.false)))
     ]
 
-pub returns : goal.returns
-returns c =
+pub returns-clause-left : goal.returns-clause-left
+returns-clause-left c =
     elim c.if-x-eq1.branch [
-      | then-x-eq1 u ↦ slot_put c.args.low c.args.d c.args.word.now c.args.x u.if-x-eq1.true u.repeat.ensures u.place.ensures (rw u.self-is at c.place-2.ensures)
-      | else-x-eq1 u ↦ byte_put c.args.low c.args.d c.args.word.now c.args.x u.if-x-eq1.false (rw u.self-is at c.place-2.ensures)
+      | then-x-eq1 u ↦ slot_put c.args.low c.args.d c.args.word.now c.args.x u.if-x-eq1.true u.repeat.ensures.left u.place.ensures.left (rw u.self-is at c.place-2.ensures.left)
+      | else-x-eq1 u ↦ byte_put c.args.low c.args.d c.args.word.now c.args.x u.if-x-eq1.false (rw u.self-is at c.place-2.ensures.left)
     ]

@@ -5,11 +5,11 @@ use Rattle.store.proofs.stack.Stack.weave.Goals as goal
 
 pub pieces-requires : goal.pieces-requires
 pieces-requires c = (
-  omega (arith, c.room.ensures.long),
-  weave_fits c.args.n c.args.d (stack_of c.args.self.now) c.room.ensures c.requires.0 c.requires.1.0 c.args.word.now
+  omega (arith, c.room.ensures.left.long),
+  weave_fits c.args.n c.args.d (stack_of c.args.self.now) c.room.ensures.left c.requires.0 c.requires.1.0 c.args.word.now
       (ap (λ (k : ℕ). c.args.n + k * (c.args.d + length c.args.word.now)) c.slots-holes.ensures.0),
 )
 
-pub returns : goal.returns
-returns c =
-    weave_put c.args.n c.args.d (stack_of c.args.self.now) c.room.ensures c.requires.0 c.requires.1.0 c.args.word.now c.pieces.ensures
+pub returns-clause-left : goal.returns-clause-left
+returns-clause-left c =
+    weave_put c.args.n c.args.d (stack_of c.args.self.now) c.room.ensures.left c.requires.0 c.requires.1.0 c.args.word.now c.pieces.ensures.left
