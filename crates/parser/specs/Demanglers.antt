@@ -29,6 +29,10 @@ state_of d = record {
 abbrev pub memory_of : Demangler → Memory
 memory_of d = mem d.stack.bytes.now (record { low = d.subs.bytes.now; high = d.args.bytes.now }) (record { low = d.subs.ends.now; high = d.args.ends.now })
 
+-- the slices that it was lent, each by its ghost name
+abbrev pub lent : Demangler → List ℕ
+lent d = d.stack.bytes.ghost_name ∷ d.subs.bytes.ghost_name ∷ d.subs.ends.ghost_name ∷ d.args.bytes.ghost_name ∷ d.args.ends.ghost_name ∷ []
+
 abbrev pub Held : Demangler → State → Type 0
 Held d σ = Holds d.s.now (memory_of d) (state_of d) σ
 
@@ -89,11 +93,20 @@ outcome p (Err e) = Refused e
 -- the method is a reader of the grammar, from every state that the demangler holds
 pub record Parses (f : Reader Text) (k from : ℕ) (d d' : Demangler) (r : Result ℕ Refusal) : Type 0 where
   pub symbol : d'.s.now ≡ d.s.now
+  pub same : lent d' ≡ lent d
   pub reads : Reads f k from d.s.now (memory_of d) (memory_of d') (state_of d) (outcome (state_of d') r)
 
 -- all is as it was, but for the place and the texts on the stack
 abbrev pub OthersStay : Demangler → Demangler → Type 0
 OthersStay d d' = d' ≡ record d { state = record d.state { at = d'.state.at }; stack = d'.stack }
+
+-- all is as it was, but for the texts on the stack
+abbrev pub StackAlone : Demangler → Demangler → Type 0
+StackAlone d d' = d' ≡ record d { stack = d'.stack }
+
+-- and for the substitutions
+abbrev pub StackAndSubs : Demangler → Demangler → Type 0
+StackAndSubs d d' = d' ≡ record d { stack = d'.stack; subs = d'.subs }
 
 -- a reading that calls no other back: whatever it answers, it moves in the symbol and puts texts on the stack, and leaves all else
 pub record Leaf (f : Reader Text) (k from : ℕ) (d d' : Demangler) (r : Result ℕ Refusal) : Type 0 where
@@ -115,7 +128,8 @@ pub record Turned (c m : ℕ) (text text' : List ℕ) (p p' : Progress) : Type 0
   pub least : m + 1 + c ≤ p'.top
 
 pub record Turns (c m : ℕ) (d d' : Demangler) : Type 0 where
-  pub others : d' ≡ record d { stack = d'.stack }
+  pub others : StackAlone d d'
+  pub same : lent d' ≡ lent d
   pub turned : Turned c m d.stack.bytes.now d'.stack.bytes.now (state_of d) (state_of d')
 
 -- ---------------------------------------------------------------- entries
@@ -127,6 +141,7 @@ pushed_as p n (Err e) = Refused e
 -- the newest n bytes were pushed onto a table, as the grammar's push does, or there was no room; all else is as in o
 pub record PushesOnto (push : Text → Reader (Unit {0})) (n : ℕ) (d o d' : Demangler) (r : Result (Unit {0}) Refusal) : Type 0 where
   pub others : d' ≡ o
+  pub same : lent d' ≡ lent d
   pub prepared : Prepared d → Prepared d'
   pub is :
       (k l : ℕ) (s base : Text) (from : ℕ) (t : Text) (σ : State) → Stands k l s base from (memory_of d) (state_of d) n t σ →
@@ -142,6 +157,7 @@ PushesArg n d d' r = PushesOnto push_arg n d (record d { args = d'.args }) d' r
 -- the newest n bytes became an entry and were returned
 pub record Records (n : ℕ) (d d' : Demangler) (r : Result ℕ Refusal) : Type 0 where
   pub others : d' ≡ record d { subs = d'.subs }
+  pub same : lent d' ≡ lent d
   pub is :
       (k l : ℕ) (s base : Text) (from : ℕ) (t : Text) (σ : State) → Stands k l s base from (memory_of d) (state_of d) n t σ →
       Refines k l s base from (memory_of d') (outcome (state_of d') r) (recorded t σ)
@@ -164,6 +180,7 @@ Newest n d q =
 pub record BuiltinD (d d' : Demangler) (r : Result ℕ Refusal) : Type 0 where
   pub symbol : d'.s.now ≡ d.s.now
   pub others : OthersStay d d'
+  pub same : lent d' ≡ lent d
   pub is :
       (rest : Text) (σ : State) → σ.rest ≡ 68 ∷ rest → Held d σ →
       Refines kept_bytes d.state.depth d.s.now (window (memory_of d) (state_of d)) (d.state.at + 2) (memory_of d') (outcome (state_of d') r)
@@ -172,6 +189,8 @@ pub record BuiltinD (d d' : Demangler) (r : Result ℕ Refusal) : Type 0 where
 -- a wrapper, whose byte is c, was put at each slot of the newest n bytes, or behind them
 pub record Wraps (c n : ℕ) (d d' : Demangler) (r : Result ℕ Refusal) : Type 0 where
   pub symbol : d'.s.now ≡ d.s.now
+  pub others : StackAndSubs d d'
+  pub same : lent d' ≡ lent d
   pub is :
       (k l : ℕ) (s base : Text) (from : ℕ) (t : Text) (σ : State) (u : Wrapper) → ((rest : Text) → find wrappers (c ∷ rest) ≡ some (u, rest)) →
       Stands k l s base from (memory_of d) (state_of d) n t σ →
@@ -181,6 +200,8 @@ pub record Wraps (c n : ℕ) (d d' : Demangler) (r : Result ℕ Refusal) : Type 
 -- the newest n bytes, with the c below them and the word at each slot, came in the place of all of them: an entry
 pub record Weaves (n c : ℕ) (word : Text) (d d' : Demangler) (r : Result ℕ Refusal) : Type 0 where
   pub symbol : d'.s.now ≡ d.s.now
+  pub others : StackAndSubs d d'
+  pub same : lent d' ≡ lent d
   pub is :
       (k l : ℕ) (s base : Text) (from : ℕ) (x y : Text) (σ : State) → length x ≡ c → length y ≡ n →
       Stands k l s base from (memory_of d) (state_of d) (c + n) (x ++ y) σ →
@@ -189,6 +210,8 @@ pub record Weaves (n c : ℕ) (word : Text) (d d' : Demangler) (r : Result ℕ R
 -- the newest m bytes are a member, the c below them its class
 pub record WrapsMember (c m : ℕ) (d d' : Demangler) (r : Result ℕ Refusal) : Type 0 where
   pub symbol : d'.s.now ≡ d.s.now
+  pub others : StackAndSubs d d'
+  pub same : lent d' ≡ lent d
   pub is :
       (k l : ℕ) (s base : Text) (from : ℕ) (x y : Text) (σ : State) → length x ≡ c → length y ≡ m →
       Stands k l s base from (memory_of d) (state_of d) (c + m) (x ++ y) σ →
@@ -197,7 +220,8 @@ pub record WrapsMember (c m : ℕ) (d d' : Demangler) (r : Result ℕ Refusal) :
 
 -- the newest n bytes, a type's text, were replaced by the literal of that type
 pub record Prints (value : Text) (n : ℕ) (d d' : Demangler) (r : Result ℕ Refusal) : Type 0 where
-  pub others : d' ≡ record d { stack = d'.stack }
+  pub others : StackAlone d d'
+  pub same : lent d' ≡ lent d
   pub is :
       (k l : ℕ) (s base : Text) (from : ℕ) (t : Text) (σ : State) →
       Stands (k + 18) l s base from (memory_of d) (state_of d) n t σ → length t ≤ most_text_bytes → most_entry_bytes ≤ k →

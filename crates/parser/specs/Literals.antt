@@ -29,10 +29,12 @@ truth_of v = if same (signed v) (b "1") then b "true" otherwise b "false"
 
 -- the value was put on the stack, perhaps in two parts; the newest 34,816 bytes, at least, are there
 pub record PutsValue (v : Text) (k k' : Stack) : Type 0 where
+  pub same : k'.bytes.ghost_name ≡ k.bytes.ghost_name
   pub tail : Tail kept_bytes (take k'.top k'.bytes.now) (take k.top k.bytes.now ++ signed v)
 
 -- the newest n bytes were put in parentheses
 pub record Encloses (n : ℕ) (k k' : Stack) : Type 0 where
+  pub same : k'.bytes.ghost_name ≡ k.bytes.ghost_name
   pub stands :
       (p : Progress) {l d : ℕ} {s base : Text} {from : ℕ} {store ends : Halves} {t : Text} {σ : State} →
       length t ≤ most_text_bytes → Stands l d s base from (mem k.bytes.now store ends) (raised_to p k.top) n t σ →

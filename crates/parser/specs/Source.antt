@@ -4,7 +4,7 @@ use Rattle.grammar.specs.Text.{Text, if◌then◌otherwise◌, starts, run, digi
 use Rattle.grammar.specs.declared.part.Part.{Part}
 use Rattle.parser.specs.declared.demangler.Demangler.{Demangler}
 use Rattle.parser.specs.Adds.{Adds}
-use Rattle.parser.specs.Demanglers.{state_of}
+use Rattle.parser.specs.Demanglers.{state_of, lent, StackAlone}
 
 -- the place behind digits and an underscore, if there are any
 unfoldable pub behind_number : Text → ℕ → ℕ
@@ -25,5 +25,6 @@ closers (suc k) = 93 ∷ closers k
 
 -- a closing bracket for each of so many tags was put
 pub record Closes (tags : ℕ) (d d' : Demangler) : Type 0 where
-  pub others : d' ≡ record d { stack = d'.stack }
+  pub others : StackAlone d d'
+  pub same : lent d' ≡ lent d
   pub adds : Adds d.stack.bytes.now d'.stack.bytes.now (state_of d) (state_of d') (closers tags)

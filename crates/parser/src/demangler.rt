@@ -32,7 +32,8 @@ impl<'a> Demangler<'a> {
         ends: &'a mut [u16],
     ) -> Demangler<'a>
         requires { Least text.old store.old ends.old }
-        ensures { Begins s.now text.old store.old ends.old result }
+        ensures same { result.stack.bytes.ghost_name ≡ text.entry.ghost_name }
+        ensures begins { Begins s.now text.old store.old ends.old result }
     {
         let (low, high) = store.split_at_mut(Parser::BYTES);
         let (low_ends, high_ends) = ends.split_at_mut(Parser::ENTRIES);

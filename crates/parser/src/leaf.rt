@@ -40,62 +40,96 @@ fn digit(c: u8) -> bool
     c.is_ascii_digit()
 }
 
+// The place behind the qualifiers of a nested name.
+pub fn qualifiers(s: &[u8], at: usize) -> usize
+    requires { at ≤ length s.now }
+    ensures { (result ≡ at + length (run qualifies (drop at s.now))) × (result ≤ length s.now) }
+{
+    let rest = &s[at..];
+    at + rest
+        .iter()
+        .position(|c| !qualifier(*c))
+        .unwrap_or(rest.len())
+}
+
+// The place behind the E that closes an expression.
+pub fn expression(s: &[u8], at: usize) -> Option<usize>
+    requires { (at ≤ length s.now) × (length s.now ≤ most_text_bytes) }
+    ensures { Skips s.now at result }
+{
+    let mut d: usize = 1;
+    for end in at..s.len() {
+        d = opened(s[end], d);
+        if d == 0 {
+            return Some(end + 1);
+        }
+    }
+    None
+}
+
+// A digit.
+pub fn digit_ahead(s: &[u8], at: usize) -> bool
+    ensures { result ≡ digit_ahead (drop at s.now) }
+{
+    at < s.len() && digit(s[at])
+}
+
+// C or D, and a digit or C.
+pub fn structor(s: &[u8], at: usize) -> bool
+    requires { at ≤ length s.now }
+    ensures { result ≡ structor_ahead (drop at s.now) }
+{
+    match &s[at..] {
+        [b'C' | b'D', y, ..] => digit(*y) || *y == b'C',
+        _ => false,
+    }
+}
+
+// St, and a digit, C or D.
+pub fn std_ahead(s: &[u8], at: usize) -> bool
+    requires { at ≤ length s.now }
+    ensures { result ≡ std_ahead (drop at s.now) }
+{
+    match &s[at..] {
+        [b'S', b't', z, ..] => digit(*z) || c_or_d(*z),
+        _ => false,
+    }
+}
+
+// The same at the place of a reading.
 impl Demangler<'_> {
-    // The place behind the qualifiers of a nested name.
     pub fn qualifiers(&self) -> usize
         requires { self.now.state.at ≤ length self.now.s.now }
         ensures { (result ≡ self.now.state.at + length (run qualifies (drop self.now.state.at self.now.s.now))) × (result ≤ length self.now.s.now) }
     {
-        let rest = &self.s[self.state.at..];
-        self.state.at
-            + rest
-                .iter()
-                .position(|c| !qualifier(*c))
-                .unwrap_or(rest.len())
+        qualifiers(self.s, self.state.at)
     }
 
-    // The place behind the E that closes an expression.
     pub fn expression(&self) -> Option<usize>
         requires { (self.now.state.at ≤ length self.now.s.now) × (length self.now.s.now ≤ most_text_bytes) }
         ensures { Skips self.now.s.now self.now.state.at result }
     {
-        let mut d: usize = 1;
-        for end in self.state.at..self.s.len() {
-            d = opened(self.s[end], d);
-            if d == 0 {
-                return Some(end + 1);
-            }
-        }
-        None
+        expression(self.s, self.state.at)
     }
 
-    // A digit.
     pub fn digit_ahead(&self) -> bool
         ensures { result ≡ digit_ahead (drop self.now.state.at self.now.s.now) }
     {
-        self.peek().is_some_and(|c| digit(c))
+        digit_ahead(self.s, self.state.at)
     }
 
-    // C or D, and a digit or C.
     pub fn structor_ahead(&self) -> bool
         requires { self.now.state.at ≤ length self.now.s.now }
         ensures { result ≡ structor_ahead (drop self.now.state.at self.now.s.now) }
     {
-        match &self.s[self.state.at..] {
-            [b'C' | b'D', y, ..] => digit(*y) || *y == b'C',
-            _ => false,
-        }
+        structor(self.s, self.state.at)
     }
 
-    // St, and a digit, C or D.
     pub fn std_ahead(&self) -> bool
         requires { self.now.state.at ≤ length self.now.s.now }
         ensures { result ≡ std_ahead (drop self.now.state.at self.now.s.now) }
     {
-        match &self.s[self.state.at..] {
-            [b'S', b't', z, ..] => digit(*z) || c_or_d(*z),
-            _ => false,
-        }
+        std_ahead(self.s, self.state.at)
     }
 }
 

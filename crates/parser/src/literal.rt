@@ -43,7 +43,7 @@ impl Kind {
 }
 
 // The value, with - for n in front.
-fn put_value(stack: &mut Stack, value: &[u8])
+pub fn put_value(stack: &mut Stack, value: &[u8])
     requires { length value.now ≤ most_text_bytes }
     ensures { PutsValue value.now stack.old stack.new }
 {

@@ -6,7 +6,7 @@ ghost use Rattle.grammar.specs.Limits.{most_text_bytes, most_entry_bytes, most_l
 ghost use Rattle.grammar.specs.Reader.{Reader, give, refuse};
 ghost use Rattle.store.specs.Table.{Entries};
 ghost use Rattle.parser.specs.Recalls.{Recalls};
-ghost use Rattle.parser.specs.Demanglers.{Prepared, Leaf, given_length, Turns, PushesSub, PushesArg, Records, TooLong, Newest};
+ghost use Rattle.parser.specs.Demanglers.{Prepared, StackAlone, Leaf, given_length, Turns, PushesSub, PushesArg, Records, TooLong, Newest};
 
 use crate::demangler::Demangler;
 use grammar::refusal::Refusal;
@@ -35,7 +35,8 @@ pub fn given(n: usize) -> Result<usize, Refusal>
 // Entry k of a table onto the stack: 11 where it is too long.
 fn entry(stack: &mut Stack, table: &Table, k: usize) -> Result<usize, Refusal>
     requires { (l : List Text) × ((Entries l table.now.bytes.now table.now.ends.now table.now.count table.now.used) × (k < table.now.count)) }
-    ensures { (l : List Text) → Entries l table.now.bytes.now table.now.ends.now table.now.count table.now.used → Recalls (get_or l k []) stack.old stack.new result }
+    ensures same { stack.new.bytes.ghost_name ≡ stack.old.bytes.ghost_name }
+    ensures recalls { (l : List Text) → Entries l table.now.bytes.now table.now.ends.now table.now.count table.now.used → Recalls (get_or l k []) stack.old stack.new result }
 {
     let text = table.get(k);
     let n = given(text.len())?;
@@ -101,7 +102,8 @@ impl Demangler<'_> {
     // Entry k of the substitutions onto the stack: 7 where there is none.
     pub fn recall(&mut self, k: usize) -> Result<usize, Refusal>
         requires { Prepared self.old }
-        ensures { Leaf (λ σ. choose (get_elem? σ.subs k) give (refuse 7) σ) kept_bytes self.old.state.at self.old self.new result }
+        ensures others { StackAlone self.old self.new }
+        ensures reads { Leaf (λ σ. choose (get_elem? σ.subs k) give (refuse 7) σ) kept_bytes self.old.state.at self.old self.new result }
     {
         if self.subs.count <= k {
             return Err(Refusal::PastTable);
@@ -112,7 +114,8 @@ impl Demangler<'_> {
     // Template argument k, which there is, onto the stack.
     pub fn recall_arg(&mut self, k: usize) -> Result<usize, Refusal>
         requires { (Prepared self.old) × (k < self.old.args.count) }
-        ensures { (f : Reader Text) → Leaf (λ σ. choose (get_elem? σ.args k) give f σ) kept_bytes self.old.state.at self.old self.new result }
+        ensures others { StackAlone self.old self.new }
+        ensures reads { (f : Reader Text) → Leaf (λ σ. choose (get_elem? σ.args k) give f σ) kept_bytes self.old.state.at self.old self.new result }
     {
         entry(&mut self.stack, &self.args, k)
     }

@@ -26,27 +26,27 @@ pub fn numbered(s: &[u8], at: usize) -> usize
     if here(s, end, b'_') { end + 1 } else { end }
 }
 
-impl Demangler<'_> {
-    // The identifier behind its length.
-    fn identifier(&self) -> Option<Part>
-        requires { (self.now.state.at ≤ length self.now.s.now) × (length self.now.s.now ≤ most_text_bytes) }
-        ensures { result ≡ identified self.now.s.now self.now.state.at }
-    {
-        let length = digits::<10>(self.s, self.state.at);
-        let from = length.next;
-        if length.value == 0 {
-            return None;
-        }
-        let left = (self.s.len() - from) as u64;
-        if left < length.value {
-            return None;
-        }
-        Some(Part {
-            from,
-            to: from + length.value as usize,
-        })
+// The identifier behind its length.
+pub fn identifier(s: &[u8], at: usize) -> Option<Part>
+    requires { (at ≤ length s.now) × (length s.now ≤ most_text_bytes) }
+    ensures { result ≡ identified s.now at }
+{
+    let length = digits::<10>(s, at);
+    let from = length.next;
+    if length.value == 0 {
+        return None;
     }
+    let left = (s.len() - from) as u64;
+    if left < length.value {
+        return None;
+    }
+    Some(Part {
+        from,
+        to: from + length.value as usize,
+    })
+}
 
+impl Demangler<'_> {
     // A closing bracket for each tag.
     fn close_tags(&mut self, tags: usize)
         ensures { Closes tags self.old self.new }
@@ -65,7 +65,7 @@ impl Demangler<'_> {
         let mut n: usize = 0;
         let mut tags: usize = 0;
         loop {
-            let part = self.identifier().ok_or(Refusal::NoRule)?;
+            let part = identifier(self.s, self.state.at).ok_or(Refusal::NoRule)?;
             self.state.at = part.to;
             self.stack.put(&self.s[part.from..part.to]);
             n = sum(n, part.to - part.from);
@@ -136,7 +136,7 @@ impl Demangler<'_> {
     }
 
     // Template argument i, or T and i.
-    fn argument(&mut self, i: u64) -> Result<usize, Refusal>
+    pub fn argument(&mut self, i: u64) -> Result<usize, Refusal>
         requires { Prepared self.old }
         ensures { Leaf (λ σ. choose (get_elem? σ.args i) give (give (84 ∷ decimal 20 i)) σ) kept_bytes self.old.state.at self.old self.new result }
     {
@@ -147,7 +147,7 @@ impl Demangler<'_> {
     }
 
     // T and the number in decimal.
-    fn number(&mut self, i: u64) -> usize
+    pub fn number(&mut self, i: u64) -> usize
         ensures { Leaf (give (84 ∷ decimal 20 i)) kept_bytes self.old.state.at self.old self.new (Ok result) }
     {
         let mut text = [0u8; 21];

@@ -1,7 +1,7 @@
 -- Laws of what a demangler's methods promise: what is known behind each answer, and equations of a demangler. Assumes nothing.
 use Rattle.std.specs.Prelude.{◌≡◌, ℕ, ◌+◌, ◌<◌, ◌≤◌, min, Bool, true, false, List, [], ◌∷◌, ◌++◌, leb, length, drop, Result, Ok, Err, IsErrAnd}
 use Rattle.std.proofs.Math.Path.{refl, sym}
-use Rattle.std.proofs.Common.{ap, subst, ◌∙◌, arith, length-append, leb-true, leb-false}
+use Rattle.std.proofs.Common.{ap, ap₂, subst, ◌∙◌, arith, length-append, leb-true, leb-false}
 use Rattle.grammar.specs.Limits.{most_open, most_text_bytes, kept_bytes}
 use Rattle.grammar.specs.Text.{Text, b, if◌then◌otherwise◌, starts}
 use Rattle.grammar.specs.Reader.{State, Reader, refused, onto, give, recorded}
@@ -17,10 +17,11 @@ use Rattle.store.specs.Stack.{Put, Cut, newest}
 use Rattle.store.specs.Table.{Entries, Room}
 use Rattle.store.specs.Laws.Tails.{size, top_size}
 use Rattle.store.specs.declared.stack.Stack.{Stack}
+use Rattle.store.specs.declared.table.Table.{Table}
 use Rattle.parser.specs.Holds.{Halves, mem, Holds, Stands, Refines, refuses, Reads, Puts, Cuts, window, given_of}
 use Rattle.parser.specs.Recalls.{Recalls, recalls, long}
-use Rattle.parser.specs.Demanglers.{state_of, memory_of, Held, Prepared, at_place, at_depth, Takes, takes, ends, Eats, eats, stays, Needs, needs, lacks, Enters, enters, deep, outcome}
-use Rattle.parser.specs.Demanglers.{given_length, Parses, OthersStay, Leaf, PushesOnto, PushesSub, Turns}
+use Rattle.parser.specs.Demanglers.{state_of, memory_of, lent, Held, Prepared, at_place, at_depth, Takes, takes, ends, Eats, eats, stays, Needs, needs, lacks, Enters, enters, deep, outcome}
+use Rattle.parser.specs.Demanglers.{given_length, Parses, OthersStay, StackAndSubs, Leaf, PushesOnto, PushesSub, Turns}
 use Rattle.parser.specs.Laws.Holds.{at_level, by, refused_on, puts_by, cuts_by, got, holds_moved, holds_entered, sooner}
 use Rattle.parser.specs.Laws.Halves.{Pushed, pushes_not, pushes_entry, give_long, wrote_one, recorded_given}
 use Rattle.parser.specs.Laws.Wraps.{newest_text}
@@ -69,7 +70,7 @@ module _ {c : ℕ} {d d' : Demangler} where
 pub lacked_parses :
     {f : Reader Text} {k from c : ℕ} {d d' : Demangler} {e : Refusal} → (starts (drop d.state.at d.s.now) (c ∷ []) ≡ false → (σ : State) → Held d σ → f σ ≡ refused 4) →
     Needs c d d' (Err e) → Parses f k from d d' (Err e)
-lacked_parses o (lacks n e) = record { symbol = ap (λ (x : Demangler). x.s.now) e; reads = λ σ h. by (o n σ h) refuses }
+lacked_parses o (lacks n e) = record { symbol = ap (λ (x : Demangler). x.s.now) e; same = ap lent e; reads = λ σ h. by (o n σ h) refuses }
 
 -- what a `?` hands back
 pub failed : {A : Type 0} {e : Refusal} (r : Result A Refusal) → IsErrAnd r (λ x. x ≡ e) → r ≡ Err e
@@ -94,12 +95,12 @@ module _ {d d' : Demangler} (e : d' ≡ d) where
 module _ {f g : Reader Text} {k from : ℕ} {d d' : Demangler} where
   -- a reading that is another one
   pub parses_as : {r : Result ℕ Refusal} → ((σ : State) → Held d σ → g σ ≡ f σ) → Parses f k from d d' r → Parses g k from d d' r
-  parses_as o h = record { symbol = h.symbol; reads = λ σ u. by (o σ u) (h.reads σ u) }
+  parses_as o h = record { symbol = h.symbol; same = h.same; reads = λ σ u. by (o σ u) (h.reads σ u) }
 
   -- a reading that begins with one that is refused
   pub parses_none :
       {l to : ℕ} {e : Refusal} (m : Text → Reader Text) → ((σ : State) → Held d σ → g σ ≡ onto m (f σ)) → Parses f k from d d' (Err e) → Parses g l to d d' (Err e)
-  parses_none m o h = record { symbol = h.symbol; reads = λ σ u. by (o σ u) (refused_on m refl (h.reads σ u)) }
+  parses_none m o h = record { symbol = h.symbol; same = h.same; reads = λ σ u. by (o σ u) (refused_on m refl (h.reads σ u)) }
 
 -- ---------------------------------------------------------------- all but the place and the stack
 
@@ -110,10 +111,29 @@ module _ (d : Demangler) {d' : Demangler} where
   pub others_then : {d'' : Demangler} → OthersStay d d' → OthersStay d' d'' → OthersStay d d''
   others_then {d''} e f = f ∙ ap (λ (y : Demangler). record y { state = record y.state { at = d''.state.at }; stack = d''.stack }) e
 
+-- ---------------------------------------------------------------- the slices that were lent
+
+pub lent_stack : (d : Demangler) (x : Stack) → x.bytes.ghost_name ≡ d.stack.bytes.ghost_name → lent (record d { stack = x }) ≡ lent d
+lent_stack d x e = ap (λ (n : ℕ). n ∷ d.subs.bytes.ghost_name ∷ d.subs.ends.ghost_name ∷ d.args.bytes.ghost_name ∷ d.args.ends.ghost_name ∷ []) e
+
+pub lent_moved : (d : Demangler) {d₁ : Demangler} (x : Stack) {at : ℕ} → d₁ ≡ at_place d at → x.bytes.ghost_name ≡ d₁.stack.bytes.ghost_name → lent (record d₁ { stack = x }) ≡ lent d
+lent_moved d {d₁} x e n = lent_stack d₁ x n ∙ ap lent e
+
+pub lent_subs : (d : Demangler) (x : Table) → (x.bytes.ghost_name ≡ d.subs.bytes.ghost_name) × (x.ends.ghost_name ≡ d.subs.ends.ghost_name) → lent (record d { subs = x }) ≡ lent d
+lent_subs d x e = ap₂ (λ (m n : ℕ). d.stack.bytes.ghost_name ∷ m ∷ n ∷ d.args.bytes.ghost_name ∷ d.args.ends.ghost_name ∷ []) e.0 e.1
+
+pub lent_args : (d : Demangler) (x : Table) → (x.bytes.ghost_name ≡ d.args.bytes.ghost_name) × (x.ends.ghost_name ≡ d.args.ends.ghost_name) → lent (record d { args = x }) ≡ lent d
+lent_args d x e = ap₂ (λ (m n : ℕ). d.stack.bytes.ghost_name ∷ d.subs.bytes.ghost_name ∷ d.subs.ends.ghost_name ∷ m ∷ n ∷ []) e.0 e.1
+
+pub texts_by : (d : Demangler) {d' : Demangler} {x : Stack} {y : Table} → d' ≡ record d { stack = x; subs = y } → StackAndSubs d d'
+texts_by d e = subst (λ (z : Demangler). StackAndSubs d z) (sym e) refl
+
+-- ---------------------------------------------------------------- readings that call no other back
+
 pub leaf_reads :
-    {f : Reader Text} {k from : ℕ} {d d' : Demangler} {r : Result ℕ Refusal} → OthersStay d d' → Reads f k from d.s.now (memory_of d) (memory_of d') (state_of d) (outcome (state_of d') r) →
+    {f : Reader Text} {k from : ℕ} {d d' : Demangler} {r : Result ℕ Refusal} → OthersStay d d' → lent d' ≡ lent d → Reads f k from d.s.now (memory_of d) (memory_of d') (state_of d) (outcome (state_of d') r) →
     Leaf f k from d d' r
-leaf_reads e h = record { parses = record { symbol = ap (λ (y : Demangler). y.s.now) e; reads = h }; others = e }
+leaf_reads e s h = record { parses = record { symbol = ap (λ (y : Demangler). y.s.now) e; same = s; reads = h }; others = e }
 
 -- a leaf whose first byte was not there
 pub lacked_leaf :
@@ -142,7 +162,7 @@ module _ {d d' : Demangler} {at : ℕ} (e : d' ≡ at_place d at) where
   pub leaf_moved :
       {f g : Reader Text} {k from : ℕ} {d'' : Demangler} {r : Result ℕ Refusal} → at ≤ length d.s.now → from ≤ at →
       ((σ : State) → Held d σ → g σ ≡ f (moved (drop at d.s.now) σ)) → Leaf f k d'.state.at d' d'' r → Leaf g k from d d'' r
-  leaf_moved l u o h = leaf_reads (others_then d (others_by d e) h.others) (λ σ g. by (o σ g) (parses_at h.parses g l u))
+  leaf_moved l u o h = leaf_reads (others_then d (others_by d e) h.others) (h.parses.same ∙ ap lent e) (λ σ g. by (o σ g) (parses_at h.parses g l u))
 
 -- what is known behind a reading that returned n, of every demangler that was prepared
 pub record Done (k from n : ℕ) (d d' : Demangler) : Type 0 where
@@ -223,16 +243,17 @@ module _
     (is : (t : Text) (σ : State) → push t σ ≡ Pushed (of σ ++ (t ∷ [])) (to (of σ ++ (t ∷ [])) σ) (refusal_number j))
     {d : Demangler} {ys zs : List ℕ} {c i n : ℕ} {q : Bool} (holds : (s : Text) (σ : State) → Holds s (memory_of d) (state_of d) σ → Entries (of σ) ys zs c i) (room : Room c i n q) where
   pub pushes_full : q ≡ false → PushesOnto push n d d d (Err j)
-  pushes_full e = record { others = refl; prepared = λ g. g; is = λ k l s base from t σ h. pushes_not h (holds s σ h.holds) room (to (of σ ++ (t ∷ [])) σ) j (is t σ) e }
+  pushes_full e = record { others = refl; same = refl; prepared = λ g. g; is = λ k l s base from t σ h. pushes_not h (holds s σ h.holds) room (to (of σ ++ (t ∷ [])) σ) j (is t σ) e }
 
   pub pushes_more :
-      {d' : Demangler} {ys' zs' : List ℕ} {c' i' : ℕ} {w : Text} {u : Unit {0}} → d'.s.now ≡ d.s.now →
+      {d' : Demangler} {ys' zs' : List ℕ} {c' i' : ℕ} {w : Text} {u : Unit {0}} → d'.s.now ≡ d.s.now → lent d' ≡ lent d →
       ((s : Text) (σ : State) (l : List Text) → Holds s (memory_of d) (state_of d) σ → Entries l ys' zs' c' i' → Holds s (memory_of d') (state_of d') (to l σ)) →
       q ≡ true → w ≡ newest d.stack.bytes.now d.stack.top n → ((l : List Text) → Entries l ys zs c i → Entries (l ++ (w ∷ [])) ys' zs' c' i') →
       PushesOnto push n d d' d' (Ok u)
-  pushes_more {w = w} same hold e f more = record {
+  pushes_more {w = w} symbol same hold e f more = record {
     others = refl;
-    prepared = λ (σ, h). (to (of σ ++ (w ∷ [])) σ, rw same (hold d.s.now σ _ h (more (of σ) (holds d.s.now σ h))));
+    same = same;
+    prepared = λ (σ, h). (to (of σ ++ (w ∷ [])) σ, rw symbol (hold d.s.now σ _ h (more (of σ) (holds d.s.now σ h))));
     is = λ k l s base from t σ h.
         pushes_entry h (holds s σ h.holds) room (to (of σ ++ (t ∷ [])) σ) j (is t σ) e
         (hold s σ _ h.holds (rw (f ∙ newest_text h (omega (arith, h.size, room.yes e))) at (more (of σ) (holds s σ h.holds))));
@@ -272,9 +293,9 @@ gives_word d {d₁} x {at} {from} {w} {σ} e h l i j u =
 -- a leaf that does so
 pub leaf_gives :
     (d : Demangler) {d₁ : Demangler} (x : Stack) {f : Reader Text} {at from : ℕ} {w : Text} → d₁ ≡ at_place d at → at ≤ length d.s.now → from ≤ at →
-    length w ≤ most_text_bytes → Put d₁.stack.bytes.now x.bytes.now d₁.stack.top x.top w → ((σ : State) → Held d σ → f σ ≡ give w (moved (drop at d.s.now) σ)) →
+    length w ≤ most_text_bytes → x.bytes.ghost_name ≡ d₁.stack.bytes.ghost_name → Put d₁.stack.bytes.now x.bytes.now d₁.stack.top x.top w → ((σ : State) → Held d σ → f σ ≡ give w (moved (drop at d.s.now) σ)) →
     Leaf f kept_bytes from d (record d₁ { stack = x }) (Ok (length w))
-leaf_gives d x e l i j u o = leaf_reads (others_by d (ap (λ (y : Demangler). record y { stack = x }) e)) (λ σ h. by (o σ h) (gives_word d x e h l i j u))
+leaf_gives d x e l i j n u o = leaf_reads (others_by d (ap (λ (y : Demangler). record y { stack = x }) e)) (lent_moved d x e n) (λ σ h. by (o σ h) (gives_word d x e h l i j u))
 
 abbrev bytes_of : Demangler → Halves
 bytes_of d = record { low = d.subs.bytes.now; high = d.args.bytes.now }

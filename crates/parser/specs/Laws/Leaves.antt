@@ -102,6 +102,15 @@ unfolding digit_ahead
 digit_peeked [] o {r} Q e h k = subst (λ (v : Returned ℕ). MatchOption v (r ≡ false) Q) e h
 digit_peeked (x ∷ t) o {r} Q e h k = k x (subst (λ (v : Returned ℕ). MatchOption v (r ≡ false) Q) e h)
 
+module _ (s : Text) (at : ℕ) where
+  pub digit_at : at < length s → digit 10 (get_or s at 0) ≡ digit_ahead (drop at s)
+  unfolding digit_ahead
+  digit_at l = ap digit_ahead (sym (rest_some s at l))
+
+  pub digit_past : length s ≤ at → false ≡ digit_ahead (drop at s)
+  unfolding digit_ahead
+  digit_past l = ap digit_ahead (sym (rest_none s at l))
+
 -- u is the slice t, as it was passed over
 module _ {t u : Text} (f : t ≡ u) where
   pub structor_short : length t < 2 → false ≡ structor_ahead u

@@ -2,7 +2,7 @@
 use Rattle.std.specs.Prelude.{Bool, true, false, List, [], ◌∷◌, ◌++◌, ◌≡◌, ℕ, ◌+◌, ◌^◌, ◌≤◌, ◌<◌, min, ltb, length, drop, get_or, Option as Returned, Some, None, Result as Answer, Ok, Err, ok_or}
 use Rattle.std.proofs.Math.Option.{Option, none, some}
 use Rattle.std.proofs.Math.Path.{refl, ap}
-use Rattle.std.proofs.Common.{sym, ◌∙◌, arith, lt-ltb, le-ltb, ⊎_elim, eq-or-lt_of_le}
+use Rattle.std.proofs.Common.{sym, ap₂, ◌∙◌, arith, lt-ltb, le-ltb, ⊎_elim, eq-or-lt_of_le}
 use native.Mathlib.Nat.{min-le_left}
 use Rattle.std.proofs.Math.ListN.{get_elem?}
 use Rattle.grammar.specs.Text.{Text, b, if◌then◌otherwise◌, choose, starts, run, past, digit, number, decimal}
@@ -19,9 +19,9 @@ use Rattle.grammar.specs.Laws.Runs.{every_at, need_here, need_not}
 use Rattle.grammar.specs.declared.refusal.Refusal.{Refusal}
 use Rattle.grammar.specs.declared.refusal.Refusal.TheVariants.{NoRule}
 use Rattle.parser.specs.declared.demangler.Demangler.{Demangler}
-use Rattle.parser.specs.Demanglers.{Held, Prepared, Leaf}
+use Rattle.parser.specs.Demanglers.{lent, Held, Prepared, Leaf}
 use Rattle.parser.specs.Holds.{refuses}
-use Rattle.parser.specs.References.{referred, entry_at, digits_at, behind_digits, index_of, Indexes, indexes, unended}
+use Rattle.parser.specs.References.{referred, entry_of, entry_at, digits_at, behind_digits, index_of, Indexes, indexes, unended}
 use Rattle.parser.specs.Laws.Holds.{by}
 use Rattle.parser.specs.Laws.Halves.{none_given}
 use Rattle.parser.specs.Laws.Demanglers.{Passed, held_at, prepared_at, others_by, leaf_reads, leaf_moved}
@@ -46,6 +46,10 @@ unfolding index
 index_some base [] e = absurd (e refl)
 index_some base (x ∷ t) e = refl
 
+-- whether an underscore stands at a place
+ends_as : (s : Text) {x y : ℕ} → x ≡ y → starts (drop x s) (95 ∷ []) ≡ starts (drop y s) (95 ∷ [])
+ends_as s e = ap (λ (x : ℕ). starts (drop x s) (95 ∷ [])) e
+
 module _ (base : ℕ) (f : Text → Reader Text) (s : Text) (at : ℕ) (σ : State) (e : σ.rest ≡ drop at s) where
   abbrev digits : Text
   digits = run (digit base) (drop at s)
@@ -62,6 +66,19 @@ module _ (base : ℕ) (f : Text → Reader Text) (s : Text) (at : ℕ) (σ : Sta
   unfolding onto b
   referred_is h = by_digits ∙ ap (onto (λ _. f digits)) (need_here "_" s (at + length digits) (moved (drop (at + length digits) s) σ) refl h)
 
+-- `next` is the place behind the digits
+module _ (s : Text) (at : ℕ) (σ : State) (e : σ.rest ≡ drop at s) {next : ℕ} (n : next ≡ at + length (run (digit 36) (drop at s))) where
+  pub entry_open : starts (drop next s) (95 ∷ []) ≡ false → entry_at σ ≡ refused 4
+  unfolding entry_at
+  entry_open h = referred_open 36 entry_of s at σ e (sym (ends_as s n) ∙ h)
+
+  pub entry_is : (k : ℕ) → index 36 (run (digit 36) (drop at s)) ≡ k → starts (drop next s) (95 ∷ []) ≡ true
+      → entry_at σ ≡ choose (get_elem? σ.subs k) give (refuse 7) (moved (drop (next + 1) s) σ)
+  unfolding entry_at onto
+  entry_is k i h =
+      referred_is 36 entry_of s at σ e (sym (ends_as s n) ∙ h)
+      ∙ ap₂ (λ (j x : ℕ). choose (get_elem? σ.subs j) give (refuse 7) (moved (drop (x + 1) s) σ)) i (sym n)
+
 -- ---------------------------------------------------------------- an index passed over
 
 module _ {base : ℕ} {d d' : Demangler} where
@@ -71,7 +88,7 @@ module _ {base : ℕ} {d d' : Demangler} where
   module _ (f : Text → Reader Text) {k : ℕ} where
     -- no underscore
     pub index_refused : {e : Refusal} → Indexes base d d' (Err e) → Leaf (referred base f) k d.state.at d d' (Err e)
-    index_refused (unended n e) = leaf_reads (others_by d e) (λ σ h. by (referred_open base f d.s.now d.state.at σ h.rest n) refuses)
+    index_refused (unended n e) = leaf_reads (others_by d e) (ap lent e) (λ σ h. by (referred_open base f d.s.now d.state.at σ h.rest n) refuses)
 
     -- what is read by an index, and behind it
     pub index_read :
@@ -170,6 +187,23 @@ param_T : (s : Text) (at : ℕ) (σ : State) → σ.rest ≡ drop at s → start
 unfolding production template_param onto b
 param_T s at σ e h = reading_is ⟨template-param⟩ σ ∙ ap (onto (λ _. referred 10 argument_of)) (need_here "T" s at σ e h)
 
+module _ (s : Text) (at : ℕ) (σ : State) (e : σ.rest ≡ drop at s) (h : starts (drop at s) (84 ∷ []) ≡ true) {next : ℕ} (n : next ≡ at + 1 + length (run (digit 10) (drop (at + 1) s))) where
+  pub param_open : starts (drop next s) (95 ∷ []) ≡ false → reading ⟨template-param⟩ σ ≡ refused 4
+  param_open g = param_T s at σ e h ∙ referred_open 10 argument_of s (at + 1) (moved (drop (at + 1) s) σ) refl (sym (ends_as s n) ∙ g)
+
+  module _ (g : starts (drop next s) (95 ∷ []) ≡ true) (i : ℕ) (f : index 10 (run (digit 10) (drop (at + 1) s)) ≡ i) where
+    by_index : reading ⟨template-param⟩ σ ≡ argument_of (run (digit 10) (drop (at + 1) s)) (moved (drop (next + 1) s) σ)
+    by_index =
+        param_T s at σ e h
+        ∙ referred_is 10 argument_of s (at + 1) (moved (drop (at + 1) s) σ) refl (sym (ends_as s n) ∙ g)
+        ∙ ap (λ (x : ℕ). argument_of (run (digit 10) (drop (at + 1) s)) (moved (drop (x + 1) s) σ)) (sym n)
+
+    pub param_past : 18446744073709551616 ≤ i → reading ⟨template-param⟩ σ ≡ refused 4
+    param_past l = by_index ∙ argument_past (run (digit 10) (drop (at + 1) s)) (moved (drop (next + 1) s) σ) {i = most + 1} (omega (arith, f, l)) (omega arith)
+
+    pub param_given : i < 18446744073709551616 → reading ⟨template-param⟩ σ ≡ choose (get_elem? σ.args i) give (give (84 ∷ decimal 20 i)) (moved (drop (next + 1) s) σ)
+    param_given l = by_index ∙ argument_is (run (digit 10) (drop (at + 1) s)) (moved (drop (next + 1) s) σ) (omega (arith, f, l)) (omega (arith, l))
+
 -- behind T
 module _ {d d₁ : Demangler} (p : Passed 84 d d₁) where
   param_behind : {d'' : Demangler} {r : Answer ℕ Refusal} → Leaf (referred 10 argument_of) kept_bytes d₁.state.at d₁ d'' r → Leaf (reading ⟨template-param⟩) kept_bytes (d.state.at + 1) d d'' r
@@ -179,8 +213,8 @@ module _ {d d₁ : Demangler} (p : Passed 84 d d₁) where
   param_unended i = param_behind (index_refused _ i)
 
   module _ {d' : Demangler} {o : Returned ℕ} (i : Indexes 10 d₁ d' (Ok o)) where
-    pub param_past : most < index_of o → Leaf (reading ⟨template-param⟩) kept_bytes (d.state.at + 1) d d' (Err NoRule)
-    param_past l = param_behind (index_read _ i (λ t e σ h. argument_past t σ e l) (leaf_reads refl (λ σ h. refuses)))
+    pub param_unfit : most < index_of o → Leaf (reading ⟨template-param⟩) kept_bytes (d.state.at + 1) d d' (Err NoRule)
+    param_unfit l = param_behind (index_read _ i (λ t e σ h. argument_past t σ e l) (leaf_reads refl refl (λ σ h. refuses)))
 
     pub param_read :
         {n : ℕ} {d'' : Demangler} {r : Answer ℕ Refusal} → index_of o ≡ n → (n ≡ most + 1 → ⊥) →

@@ -9,19 +9,19 @@ use Rattle.demangle.proofs.reading.read.Goals as goal
 
 pub mangled_name-requires : goal.mangled_name-requires
 mangled_name-requires c =
-    (omega (arith, c.requires.0, ap length c.new-d.ensures.symbol), begun_by c.new-d.result c.new-d.ensures.state)
+    (omega (arith, c.requires.0, ap length c.new-d.ensures.begins.symbol), begun_by c.new-d.result c.new-d.ensures.begins.state)
 
 pub returns-in_err-n : goal.returns-in_err-n
 returns-in_err-n c =
     let p = err_from_is_err_and c.from_residual.result c.from_residual.ensures.1 in
     rw (p.1, p.2)
-    (tells_as (ap (λ (s : Text). within (length c.args.out.now) (mangled_name s)) c.new-d.ensures.symbol) (tells_unread c.args.out.now c.in_err-n.ensures))
+    (tells_as (ap (λ (s : Text). within (length c.args.out.now) (mangled_name s)) c.new-d.ensures.begins.symbol) (tells_unread c.args.out.now c.in_err-n.ensures))
 
 pub print-requires : goal.print-requires
 print-requires c =
-    read_fits c.new-d.result c.new-d.ensures.state c.in_ok-n.ensures
+    read_fits c.new-d.result c.new-d.ensures.begins.state c.in_ok-n.ensures
 
 pub returns : goal.returns
 returns c =
-    tells_as (ap (λ (s : Text). within (length c.args.out.now) (mangled_name s)) c.new-d.ensures.symbol)
-    (tells_read c.new-d.result c.new-d.ensures.state c.in_ok-n.ensures c.print.ensures)
+    tells_as (ap (λ (s : Text). within (length c.args.out.now) (mangled_name s)) c.new-d.ensures.begins.symbol)
+    (tells_read c.new-d.result c.new-d.ensures.begins.state c.in_ok-n.ensures c.print.ensures)

@@ -1,5 +1,5 @@
 use Rattle.std.proofs.Math.Path.{refl}
-use Rattle.std.proofs.Common.{ℕ, ◌+◌, arith, length-append, length-take, length-drop}
+use Rattle.std.proofs.Common.{ℕ, ◌+◌, ◌∙◌, arith, length-append, length-take, length-drop}
 use Rattle.grammar.specs.Text.{Text, b}
 use Rattle.grammar.specs.States.{Progress, fresh, raised_to}
 use Rattle.store.specs.Stack.{Put, Cut}
@@ -26,6 +26,7 @@ pub returns : goal.returns
 unfolding b
 returns c =
     record {
+      same = c.put-2.ensures.same ∙ c.cut.ensures.same ∙ c.again.ensures.same ∙ c.put.ensures.same;
       stands = λ p {t = t} l h.
           let w = stands_turned l (omega arith) h (puts_by p c.put.ensures.left) (puts_by p c.again.ensures.left) (cuts_by p c.cut.ensures.left) in
           stands_size (stands_puts w (puts_by p c.put-2.ensures.left) refl) (c.args.n + 2) (simp length-append (omega (arith, h.size)));

@@ -6,10 +6,11 @@ use Rattle.grammar.specs.Reader.{State, Reader, refused, refuse, by_code, find, 
 use Rattle.grammar.specs.Laws.Agree.{moved}
 use Rattle.grammar.specs.Laws.Finds.{by_word, all_of}
 use Rattle.parser.specs.declared.demangler.Demangler.{Demangler}
+use Rattle.parser.specs.Demanglers.{lent}
 use Rattle.parser.specs.Holds.{refuses}
 use Rattle.parser.specs.Laws.Holds.{by}
 use Rattle.parser.specs.Laws.Wraps.{spelled_some, spelled_none}
-use Rattle.parser.specs.Laws.Demanglers.{failed, took, took_none, others_by, gives_word}
+use Rattle.parser.specs.Laws.Demanglers.{failed, took, took_none, others_by, lent_moved, gives_word}
 use Rattle.parser.proofs.demangler.Demangler.builtin_d.Goals as goal
 
 behind-d : (s : Text) (at : ℕ) {x : ℕ} {rest : Text} → drop at s ≡ x ∷ rest → rest ≡ drop (at + 1) s
@@ -49,6 +50,7 @@ returns-in_err-c c =
     rw (failed c.from_residual.result c.from_residual.ensures.1, n.why_is) (record {
       symbol = ap (λ (x : Demangler). x.s.now) n.is;
       others = others_by c.args.self.now n.is;
+      same = ap lent n.is;
       is = λ rest σ e h. by (ended σ (e ∙ ap (λ (z : Text). 68 ∷ z) (behind-d c.args.self.now.s.now c.args.self.now.state.at (sym h.rest ∙ e) ∙ n.so))) refuses;
     })
 
@@ -60,6 +62,7 @@ returns-in_err-word c =
     rw (failed c.from_residual-in_err-word.result c.from_residual-in_err-word.ensures.1, w.1) (record {
       symbol = ap (λ (x : Demangler). x.s.now) n.is;
       others = others_by c.args.self.now n.is;
+      same = ap lent n.is;
       is = λ rest σ e h. by (unknown σ (e ∙ ap (λ (z : Text). 68 ∷ z) (behind-d c.args.self.now.s.now c.args.self.now.state.at (sym h.rest ∙ e) ∙ n.past.there)) w.0) refuses;
     })
 
@@ -71,6 +74,7 @@ returns c =
     record {
       symbol = ap (λ (x : Demangler). x.s.now) n.is;
       others = others_by c.args.self.now (ap (λ (x : Demangler). record x { stack = c.put.new.self }) n.is);
+      same = lent_moved c.args.self.now c.put.new.self n.is c.put.ensures.same;
       is = λ rest σ e h.
           by (known σ (e ∙ ap (λ (z : Text). 68 ∷ z) (behind-d c.args.self.now.s.now c.args.self.now.state.at (sym h.rest ∙ e) ∙ n.past.there)) w.0)
           (gives_word c.args.self.now c.put.new.self n.is h (omega (arith, n.past.inside)) (omega arith) (omega (arith, w.1)) c.put.ensures.left);

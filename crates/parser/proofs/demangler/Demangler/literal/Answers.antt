@@ -16,7 +16,7 @@ use Rattle.parser.specs.Laws.Holds.{by, less, answers, given_refines, short_enou
 use Rattle.parser.specs.Laws.Halves.{give_short}
 use Rattle.parser.specs.Laws.Adds.{stands_more}
 use Rattle.parser.specs.Laws.Wraps.{stands_puts}
-use Rattle.parser.specs.Laws.Demanglers.{puts_of, cuts_of, outcome_given}
+use Rattle.parser.specs.Laws.Demanglers.{puts_of, cuts_of, lent_stack, outcome_given}
 use Rattle.parser.specs.Laws.Literals.{said, one_same, length_signed, stands_bare, stands_size, stands_newest}
 use Rattle.parser.proofs.demangler.Demangler.literal.Goals as goal
 use Rattle.parser.proofs.demangler.Demangler.literal.Goals.{then-eq, else-eq}
@@ -48,6 +48,7 @@ returns-after-eq c =
     ] in
     record {
       others = refl;
+      same = lent_stack c.args.self.now c.put.new.self (c.put.ensures.same ∙ c.cut.ensures.same);
       is = λ k l s base from t σ h i j.
           let (e, f, o) = stands_newest h (omega arith) in
           let w = said t v (kind_by c.of.ensures c.newest.ensures o c.in-Truth.is) in
@@ -61,6 +62,7 @@ pub returns-in-Suffix : goal.returns-in-Suffix
 returns-in-Suffix c =
     record {
       others = refl;
+      same = lent_stack c.args.self.now c.put-in-Suffix.new.self (c.put-in-Suffix.ensures.same ∙ c.put_value.ensures.same ∙ c.cut-in-Suffix.ensures.same);
       is = λ k l s base from t σ h i j.
           let (e, f, o) = stands_newest h (omega arith) in
           let d = c.args.self.now in
@@ -77,6 +79,7 @@ pub returns-in-Cast : goal.returns-in-Cast
 returns-in-Cast c =
     record {
       others = refl;
+      same = lent_stack c.args.self.now c.put_value-in-Cast.new.stack (c.put_value-in-Cast.ensures.same ∙ c.enclose.ensures.same);
       is = λ k l s base from t σ h i j.
           let (e, f, o) = stands_newest h (omega arith) in
           let d = c.args.self.now in

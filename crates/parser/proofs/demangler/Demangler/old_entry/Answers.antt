@@ -18,4 +18,4 @@ returns c =
       | in-None w ↦ rw (w.in-None.is, w.k-is) (omega arith)
       | in-Some w ↦ rw (w.in-Some.is, w.k-is) (omega (arith, w.saturating_add-k.ensures))
     ])
-    c.recall.ensures
+    c.recall.ensures.reads

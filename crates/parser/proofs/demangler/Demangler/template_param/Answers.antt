@@ -1,6 +1,6 @@
 use Rattle.std.proofs.Math.Path.{refl}
 use Rattle.std.proofs.Common.{arith}
-use Rattle.parser.specs.Laws.References.{index_prepared, param_none, param_unended, param_past, param_read}
+use Rattle.parser.specs.Laws.References.{index_prepared, param_none, param_unended, param_unfit, param_read}
 use Rattle.parser.specs.Laws.Demanglers.{failed, needed, lacked_leaf, prepared_at}
 use Rattle.parser.proofs.demangler.Demangler.template_param.Goals as goal
 use Rattle.parser.proofs.demangler.Demangler.template_param.Goals.{in-None, in-Some}
@@ -14,7 +14,7 @@ returns-in_err-index c =
     rw (failed c.from_residual-in_err-index.result c.from_residual-in_err-index.ensures.1) (param_unended (needed c.in_ok-need.ensures) c.in_err-index.ensures)
 
 pub returns-in-Some-eq18446744073709551615 : goal.returns-in-Some-eq18446744073709551615
-returns-in-Some-eq18446744073709551615 c = param_past (needed c.in_ok-need.ensures) c.in_ok-index.ensures (rw c.in-Some-eq18446744073709551615.is (omega arith))
+returns-in-Some-eq18446744073709551615 c = param_unfit (needed c.in_ok-need.ensures) c.in_ok-index.ensures (rw c.in-Some-eq18446744073709551615.is (omega arith))
 
 pub argument-requires : goal.argument-requires
 argument-requires c =

@@ -1,5 +1,5 @@
 use Rattle.std.proofs.Math.Path.{refl}
-use Rattle.std.proofs.Common.{ℕ, [], ◌∷◌, ◌+◌, ◌-◌, ◌≤◌, arith, take, drop, length-drop, length-take-le}
+use Rattle.std.proofs.Common.{ℕ, [], ◌∷◌, ◌+◌, ◌-◌, ◌≤◌, ◌∙◌, arith, take, drop, length-drop, length-take-le}
 use Rattle.grammar.specs.Text.{Text, b}
 use Rattle.grammar.specs.Limits.{most_text_bytes}
 use Rattle.grammar.specs.States.{Progress, raised_to}
@@ -8,6 +8,7 @@ use Rattle.store.specs.Laws.Tails.{stack_of}
 use Rattle.parser.specs.Demanglers.{Turned, state_of}
 use Rattle.parser.specs.Holds.{Puts, Cuts}
 use Rattle.parser.specs.Laws.Holds.{holds_puts}
+use Rattle.parser.specs.Laws.Demanglers.{lent_stack}
 use Rattle.parser.specs.Laws.Wraps.{holds_cuts, puts_top, stands_turned}
 use Rattle.parser.proofs.demangler.Demangler.turned.Goals as goal
 
@@ -40,4 +41,4 @@ pub cut-requires : goal.cut-requires
 cut-requires c = omega (arith, room (state_of c.args.self.now) (stack_of c.args.self.now.stack) c.requires c.put.ensures.left c.again.ensures.left)
 
 pub returns : goal.returns
-returns c = record { others = refl; turned = turned (state_of c.args.self.now) (stack_of c.args.self.now.stack) c.requires c.put.ensures.left c.again.ensures.left c.cut.ensures.left }
+returns c = record { others = refl; same = lent_stack c.args.self.now c.cut.new.self (c.cut.ensures.same ∙ c.again.ensures.same ∙ c.put.ensures.same); turned = turned (state_of c.args.self.now) (stack_of c.args.self.now.stack) c.requires c.put.ensures.left c.again.ensures.left c.cut.ensures.left }

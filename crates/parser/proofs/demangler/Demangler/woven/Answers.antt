@@ -11,7 +11,7 @@ use Rattle.parser.specs.declared.demangler.Demangler.{Demangler}
 use Rattle.parser.specs.Demanglers.{memory_of}
 use Rattle.parser.specs.Holds.{Puts}
 use Rattle.parser.specs.Laws.Wraps.{puts_top, newest_size, below_text, end_text, woven_size, stands_replaced}
-use Rattle.parser.specs.Laws.Demanglers.{puts_of, cuts_of}
+use Rattle.parser.specs.Laws.Demanglers.{puts_of, cuts_of, lent_stack, texts_by}
 use Rattle.parser.proofs.demangler.Demangler.woven.Goals as goal
 
 woven : {text : Text} {top slots : ℕ} (d n : ℕ) (word : Text) → Stack text top → d + n ≤ top → slots ≡ slots_in (newest text top n)
@@ -31,6 +31,8 @@ room d x {c} {n} word l i j e p =
 pub returns-then-size-gt-TEXT : goal.returns-then-size-gt-TEXT
 returns-then-size-gt-TEXT c = record {
   symbol = refl;
+  others = refl;
+  same = refl;
   is = λ k l s base from x y σ e f h.
       let i : length (x ++ y) ≤ most_entry_bytes = omega (arith, length-append x y, e, f, c.requires.0, c.requires.1.0) in
       let g = ap slots_in (sym (ap (newest c.args.self.now.stack.bytes.now c.args.self.now.stack.top) (sym f) ∙ end_text x y h i)) ∙ sym c.slots.ensures.0 in
@@ -55,6 +57,8 @@ recorded-requires c =
 pub returns : goal.returns
 returns c = record {
   symbol = ap (λ (x : Demangler). x.s.now) c.recorded.ensures.others;
+  others = texts_by c.args.self.now c.recorded.ensures.others;
+  same = c.recorded.ensures.same ∙ lent_stack c.args.self.now c.cut.new.self (c.cut.ensures.same ∙ c.weave.ensures.same);
   is = λ k l s base from x y σ e f h.
       let i : length (x ++ y) ≤ most_entry_bytes = omega (arith, length-append x y, e, f, c.requires.0, c.requires.1.0) in
       let q : newest c.args.self.now.stack.bytes.now c.args.self.now.stack.top c.args.n ≡ y = ap (newest c.args.self.now.stack.bytes.now c.args.self.now.stack.top) (sym f) ∙ end_text x y h i in

@@ -13,7 +13,7 @@ use Rattle.parser.specs.declared.demangler.Demangler.{Demangler}
 use Rattle.parser.specs.Wraps.{Wrapper}
 use Rattle.parser.specs.Laws.Holds.{by}
 use Rattle.parser.specs.Laws.Wraps.{spelled_some, spelled_none, some_is, some_not, puts_top, stands_puts, newest_text, behind, inside}
-use Rattle.parser.specs.Laws.Demanglers.{puts_of}
+use Rattle.parser.specs.Laws.Demanglers.{puts_of, lent_stack, texts_by}
 use Rattle.parser.proofs.demangler.Demangler.wrap.Goals as goal
 
 abbrev pair_of : Option Text → Option Text → Option (Text × Text)
@@ -37,12 +37,16 @@ words_of x u e =
 pub returns-in_err-word : goal.returns-in_err-word
 returns-in_err-word c = record {
   symbol = refl;
+  others = refl;
+  same = refl;
   is = λ k l s base from t σ u e h. absurd (some_not (sym (words_of _ u e).1 ∙ (spelled_none c.slot_wrapper.result c.in_err-word.ensures.value c.slot_wrapper.ensures).0));
 }
 
 pub returns-then-slots-ne0 : goal.returns-then-slots-ne0
 returns-then-slots-ne0 c = record {
   symbol = c.woven.ensures.symbol;
+  others = c.woven.ensures.others;
+  same = c.woven.ensures.same;
   is = λ k l s base from t σ u e h.
       let f = some_is (sym (words_of _ u e).1 ∙ (spelled_some c.slot_wrapper.result _ c.in_ok-word.ensures.value c.slot_wrapper.ensures).0) in
       let i : length t ≡ c.args.n = omega (arith, h.size, c.requires.1) in
@@ -56,6 +60,8 @@ returns-then-slots-ne0 c = record {
 pub returns-in_err-word-2 : goal.returns-in_err-word-2
 returns-in_err-word-2 c = record {
   symbol = refl;
+  others = refl;
+  same = refl;
   is = λ k l s base from t σ u e h. absurd (some_not (sym (words_of _ u e).0 ∙ (spelled_none c.wrapper.result c.in_err-word-2.ensures.value c.wrapper.ensures).0));
 }
 
@@ -66,6 +72,8 @@ recorded-requires c =
 pub returns : goal.returns
 returns c = record {
   symbol = ap (λ (x : Demangler). x.s.now) c.recorded.ensures.others;
+  others = texts_by c.args.self.now c.recorded.ensures.others;
+  same = c.recorded.ensures.same ∙ lent_stack c.args.self.now c.put.new.self c.put.ensures.same;
   is = λ k l s base from t σ u e h.
       let x = spelled_some c.wrapper.result _ c.in_ok-word-2.ensures.value c.wrapper.ensures in
       let f = some_is (sym (words_of _ u e).0 ∙ x.0) in

@@ -10,7 +10,7 @@ use Rattle.grammar.specs.States.{Progress}
 use Rattle.parser.specs.declared.demangler.Demangler.{Demangler}
 use Rattle.parser.specs.Laws.Holds.{by}
 use Rattle.parser.specs.Laws.Wraps.{puts_top, end_text, stands_puts, behind, inside}
-use Rattle.parser.specs.Laws.Demanglers.{puts_of, turns_stands}
+use Rattle.parser.specs.Laws.Demanglers.{puts_of, lent_stack, texts_by, turns_stands}
 use Rattle.parser.proofs.demangler.Demangler.wrap_member.Goals as goal
 
 member :
@@ -22,6 +22,8 @@ pub returns-then-slots-ne0 : goal.returns-then-slots-ne0
 unfolding b
 returns-then-slots-ne0 c = record {
   symbol = c.woven.ensures.symbol;
+  others = c.woven.ensures.others;
+  same = c.woven.ensures.same;
   is = λ k l s base from x y σ e f h.
       let i : length (x ++ y) ≤ most_entry_bytes = omega (arith, length-append x y, e, f, c.requires.0, c.requires.1.0) in
       by (ap (λ (t : Text). recorded t σ)
@@ -40,6 +42,9 @@ pub returns : goal.returns
 unfolding b
 returns c = record {
   symbol = ap (λ (x : Demangler). x.s.now) c.recorded.ensures.others ∙ ap (λ (x : Demangler). x.s.now) c.turned.ensures.others;
+  others = texts_by c.args.self.now
+      (c.recorded.ensures.others ∙ ap (λ (x : Demangler). record x { stack = c.put.new.self; subs = c.recorded.new.self.subs }) c.turned.ensures.others);
+  same = c.recorded.ensures.same ∙ lent_stack c.turned.new.self c.put.new.self c.put.ensures.same ∙ c.turned.ensures.same;
   is = λ k l s base from x y σ e f h.
       let i : length (x ++ y) ≤ most_entry_bytes = omega (arith, length-append x y, e, f, c.requires.0, c.requires.1.0) in
       let z : c.args.m + c.args.c + 4 ≡ min (length ((y ++ b " " ++ x) ++ b "::*")) most_length = simp length-append (omega (arith, e, f, c.requires.0, c.requires.1.0)) in
