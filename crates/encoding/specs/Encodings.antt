@@ -13,7 +13,7 @@ use Rattle.grammar.specs.declared.part.Part.{Part}
 use Rattle.grammar.specs.States.{Progress, Read, read, Refused, fresh, raised_to}
 use Rattle.parser.specs.Holds.{Memory, window, part, Stands, Refines, keep}
 use Rattle.parser.specs.declared.demangler.Demangler.{Demangler}
-use Rattle.parser.specs.Demanglers.{state_of, memory_of, at_place, outcome}
+use Rattle.parser.specs.Demanglers.{state_of, memory_of, at_place, outcome, lent}
 use Rattle.reader.specs.declared.lists.Joined.{Joined}
 use Rattle.reader.specs.Cycle.{Kept}
 use Rattle.grammar.specs.Refusals.{refusal_number}
@@ -92,9 +92,10 @@ pub data Encodes (k : ℕ) (s base : Text) (m : Memory) : Read → Result Text �
   encodes : {p : Progress} {n : ℕ} {t : Text} {σ : State} → Prints k s base m p n t σ → Encodes k s base m (read p n) (ok t σ)
   refuses : {r : Refusal} → Encodes k s base m (Refused r) (refused (refusal_number r))
 
--- the same of a demangler, whose symbol stays
+-- the same of a demangler, whose symbol and lent slices stay
 pub record Encoded (d d' : Demangler) (r : Result' ℕ Refusal) (f : Result Text) : Type 0 where
   pub symbol : d'.s.now ≡ d.s.now
+  pub same : lent d' ≡ lent d
   pub is : Encodes (keep 0) d.s.now (window (memory_of d) (state_of d)) (memory_of d') (outcome (state_of d') r) f
 
 -- ---------------------------------------------------------------- thunks

@@ -17,8 +17,8 @@ use Rattle.store.specs.Stack.{Put}
 use Rattle.store.specs.declared.stack.Stack.{Stack}
 use Rattle.parser.specs.Holds.{Holds, window, keep}
 use Rattle.parser.specs.declared.demangler.Demangler.{Demangler}
-use Rattle.parser.specs.Demanglers.{state_of, memory_of, Held, Prepared, at_place, Eats, eats, stays, Needs, needs, lacks, outcome, given_length, Parses}
-use Rattle.parser.specs.Laws.Demanglers.{held_at, puts_of, reads_of, given_by}
+use Rattle.parser.specs.Demanglers.{state_of, memory_of, Held, Prepared, at_place, Eats, eats, stays, Needs, needs, lacks, outcome, given_length, Parses, lent}
+use Rattle.parser.specs.Laws.Demanglers.{held_at, puts_of, reads_of, given_by, lent_stack}
 use Rattle.parser.specs.Laws.Holds.{holds_puts}
 use Rattle.encoding.specs.Encodings.{Begun, Encodes, refuses, Encoded, Stepped, past, stopped, StepsOver, two_offsets}
 use Rattle.encoding.specs.Laws.Answers.{encodes_by, encodes_refines}
@@ -191,7 +191,7 @@ module _ {d : Demangler} (w : Text) {f : Reader (Unit {0})} (row : rows (start d
   unlabelled_by {d'} {e} g =
       let z = stepped_none (g (opened d.s.now) refl) in
       subst (λ (x : Refusal). Encoded d d' (Err x) (rows (start d.s.now))) (sym z.why)
-      (record { symbol = ap (λ (x : Demangler). x.s.now) z.next; is = encodes_by (row ∙ ap (onto (λ _. labelled w base)) z.is) refuses })
+      (record { symbol = ap (λ (x : Demangler). x.s.now) z.next; same = ap lent z.next; is = encodes_by (row ∙ ap (onto (λ _. labelled w base)) z.is) refuses })
 
 module _ (d : Demangler) where
   module _ (e : starts d.s.now (84 ∷ 104 ∷ []) ≡ true) where
@@ -218,7 +218,7 @@ module _ (d : Demangler) where
 pub plain_encoded : {d d' : Demangler} {r : Result' ℕ Refusal} → length d.s.now ≤ most_text_bytes → Begun d → starts d.s.now (84 ∷ 104 ∷ []) ≡ false →
     starts d.s.now (84 ∷ 118 ∷ []) ≡ false →
     Parses base (keep d.state.depth) (d.state.at + 1) d d' r → Encoded d d' r (rows (start d.s.now))
-plain_encoded {d} l h e f g = record { symbol = g.symbol; is = encodes_by (no_thunk d.s.now e f) (encodes_refines (omega arith) (g.reads (start d.s.now) (fresh_holds l h))) }
+plain_encoded {d} l h e f g = record { symbol = g.symbol; same = g.same; is = encodes_by (no_thunk d.s.now e f) (encodes_refines (omega arith) (g.reads (start d.s.now) (fresh_holds l h))) }
 
 module _ {d d' : Demangler} {w : Text} (l : length d.s.now ≤ most_text_bytes) (h : Begun d) (i : Labelled d d' w) where
   abbrev there : State
@@ -234,13 +234,16 @@ module _ {d d' : Demangler} {w : Text} (l : length d.s.now ≤ most_text_bytes) 
   labelled_holds = subst (λ (t : Text). Holds t (memory_of d') (state_of d') there) labelled_symbol labelled_held
 
   -- the word is put, and a reading goes on behind it
-  module _ (x : Stack) (u : Put d'.stack.bytes.now x.bytes.now d'.stack.top x.top w) where
+  module _ (x : Stack) (u : Put d'.stack.bytes.now x.bytes.now d'.stack.top x.top w) (n : x.bytes.ghost_name ≡ d'.stack.bytes.ghost_name) where
     pub put_prepared : Prepared (record d' { stack = x })
     put_prepared = (there, holds_puts (puts_of d' x u) labelled_held)
 
+    put_lent : lent (record d' { stack = x }) ≡ lent d
+    put_lent = lent_stack d' x n ∙ ap lent i.next
+
     module _ {d₂ : Demangler} where
       pub labelled_refused : {e : Refusal} → Parses base (keep d'.state.depth) (d'.state.at + 1) (record d' { stack = x }) d₂ (Err e) → Encoded d d₂ (Err e) (rows (start d.s.now))
-      labelled_refused g = record { symbol = g.symbol ∙ labelled_symbol; is = encodes_by i.is (behind_refused labelled_holds (puts_of d' x u) (reads_of labelled_symbol g) refl) }
+      labelled_refused g = record { symbol = g.symbol ∙ labelled_symbol; same = g.same ∙ put_lent; is = encodes_by i.is (behind_refused labelled_holds (puts_of d' x u) (reads_of labelled_symbol g) refl) }
 
       pub labelled_short : {n : ℕ} → Parses base (keep d'.state.depth) (d'.state.at + 1) (record d' { stack = x }) d₂ (Ok n) → n ≤ most_text_bytes
       labelled_short g = let v = (behind_got labelled_holds (puts_of d' x u) (reads_of labelled_symbol g) refl).wrote in omega (arith, v.size, v.short)
@@ -249,6 +252,7 @@ module _ {d d' : Demangler} {w : Text} (l : length d.s.now ≤ most_text_bytes) 
           Encoded d d₂ r (rows (start d.s.now))
       labelled_given {n} {r} g e = record {
         symbol = g.symbol ∙ labelled_symbol;
+        same = g.same ∙ put_lent;
         is = encodes_by i.is
             (subst (λ (y : Demangler). Encodes (keep 0) d.s.now (window (memory_of y) (state_of y)) (memory_of d₂) (outcome (state_of d₂) r) (labelled w base there)) i.next
             (behind_given labelled_holds (puts_of d' x u) (reads_of labelled_symbol g) (omega arith) i.fits refl (given_by (state_of d₂) (n + length w) e)));

@@ -13,7 +13,7 @@ loop-rest-init c = cloned_start c.args.d.now
 pub loop-rest-preserved : goal.loop-rest-preserved
 unfolding b
 loop-rest-preserved c =
-    cloned_more c.args.d.now c.loop-rest.invariant c.in-Some.rest c.put.new.self c.in-Some.ensures.cases.0 c.in-Some.ensures.cases.1 c.put.ensures.left c.sum-n.ensures
+    cloned_more c.args.d.now c.loop-rest.invariant c.in-Some.rest c.put.new.self c.in-Some.ensures.cases.0 c.in-Some.ensures.cases.1 c.put.ensures.left c.put.ensures.same c.sum-n.ensures
 
 pub encoding-m-requires : goal.encoding-m-requires
 unfolding b
@@ -25,18 +25,19 @@ encoding-m-requires c = (
 pub returns-in_err-m : goal.returns-in_err-m
 returns-in_err-m c =
     let p = err_from_is_err_and c.from_residual.result c.from_residual.ensures.1 in
-    rw (p.1, p.2) (record { symbol = refl; is = clones_refused c.loop-rest.invariant.clones c.in_err-m.ensures.is })
+    rw (p.1, p.2) (record { symbol = refl; same = c.in_err-m.ensures.same ∙ c.loop-rest.invariant.same; is = clones_refused c.loop-rest.invariant.clones c.in_err-m.ensures.is })
 
 pub returns-then-alone : goal.returns-then-alone
 returns-then-alone c =
     let v = c.loop-rest.invariant.clones in
-    record { symbol = refl; is = clones_alone v c.in_ok-m.ensures.is c.if-alone.true }
+    record { symbol = refl; same = c.in_ok-m.ensures.same ∙ c.loop-rest.invariant.same; is = clones_alone v c.in_ok-m.ensures.is c.if-alone.true }
 
 pub returns : goal.returns
 returns c =
     let s = c.args.d.now.s.now in
     record {
       symbol = refl;
+      same = c.in_ok-m.ensures.same ∙ c.loop-rest.invariant.same;
       is = clones_given c.loop-rest.invariant.clones c.in_ok-m.ensures.is c.if-alone.false refl refl c.sum.ensures
           (given_by (state_of (record c.encoding-m.new.d { s = c.args.d.now.s; state = record c.encoding-m.new.d.state { at = length s } })) c.sum.result c.given.ensures);
     }
