@@ -50,8 +50,9 @@ returns-in_err-write_some-clause-turns g c =
 pub returns-then-n-eq0-clause-turns : goal.returns-then-n-eq0-clause-turns
 returns-then-n-eq0-clause-turns g c =
     let none : c.loop-buffer.buffer.from ≡ c.loop-buffer.buffer.start = omega arith in
-    λ h. ends c.loop-buffer.invariant.goes (eq-eqb c.in_ok-n.n 0 c.if-n-eq0.true) none
-    (c.in_ok-n.ensures.ended c.if-n-eq0.true (omega (arith, h, c.read_some.auto.chunk, c.loop.auto.chunk)))
+    let last : c.in_ok-n.n ≡ 0 = omega (arith, c.if-n-eq0.true) in
+    λ h. ends c.loop-buffer.invariant.goes (eq-eqb c.in_ok-n.n 0 last) none
+    (c.in_ok-n.ensures.ended last (omega (arith, h, c.read_some.auto.chunk, c.loop.auto.chunk)))
 
 pub returns-clause-turns : goal.returns-clause-turns
 returns-clause-turns g c = stops c.loop.invariant.goes (Keeps-refl _)
