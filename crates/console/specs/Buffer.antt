@@ -29,6 +29,7 @@ pub record Nothing (l : Text) (r : Buffer) : Type 0 where
   pub end : r.end ≡ 0
 
 pub record Skips (n : ℕ) (b r : Buffer) : Type 0 where
+  pub lent : r.lines.ghost_name ≡ b.lines.ghost_name
   pub lines : r.lines.now ≡ b.lines.now
   pub from : r.from ≡ b.from + n
   pub start : r.start ≡ b.start
@@ -42,6 +43,7 @@ pub record Moves (b r : Buffer) : Type 0 where
   pub from : r.from ≡ 0
   pub start : r.start ≡ 0
   pub end : r.end ≡ kept b
+  pub lent : r.lines.ghost_name ≡ b.lines.ghost_name
 
 -- what completes a line that has n bytes
 unfoldable pub closing : ℕ → Text
@@ -52,6 +54,7 @@ pub record EndsLine (b r : Buffer) : Type 0 where
   pub ends : r.end ≡ b.end + 1
   pub from : r.from ≡ b.from
   pub start : r.start ≡ r.end
+  pub lent : r.lines.ghost_name ≡ b.lines.ghost_name
   pub size : length r.lines.now ≡ length b.lines.now
 
 pub record Completes (b r : Buffer) : Type 0 where
@@ -59,6 +62,7 @@ pub record Completes (b r : Buffer) : Type 0 where
   pub ends : r.end ≡ b.end + length (closing (kept b))
   pub from : r.from ≡ b.from
   pub start : r.start ≡ r.end
+  pub lent : r.lines.ghost_name ≡ b.lines.ghost_name
   pub size : length r.lines.now ≡ length b.lines.now
 
 -- the first bytes of a part were put behind the others, or all where the line has room for them
@@ -68,6 +72,7 @@ pub record Puts (part : Text) (b r : Buffer) : Type 0 where
   pub within : r.end ≤ b.end + length part
   pub from : r.from ≡ b.from
   pub start : r.start ≡ b.start
+  pub lent : r.lines.ghost_name ≡ b.lines.ghost_name
   pub size : length r.lines.now ≡ length b.lines.now
 
 -- behind the others stand the bytes that are kept of the chunk
@@ -75,6 +80,7 @@ pub record Keeps (chunk : Text) (b r : Buffer) : Type 0 where
   pub is : used r ≡ used b ++ cut_lines (kept b) chunk
   pub last : r.end ≡ r.start + column (kept b) chunk
   pub from : r.from ≡ b.from
+  pub lent : r.lines.ghost_name ≡ b.lines.ghost_name
   pub size : length r.lines.now ≡ length b.lines.now
 
 -- what `Keeps` says, as far as `rest` is left of the chunk
@@ -83,6 +89,7 @@ pub record Begun (chunk rest : Text) (b r : Buffer) : Type 0 where
   pub is : used b ++ cut_lines (kept b) chunk ≡ used r ++ cut_lines (kept r) rest
   pub last : column (kept b) chunk ≡ column (kept r) rest
   pub from : r.from ≡ b.from
+  pub lent : r.lines.ghost_name ≡ b.lines.ghost_name
   pub size : length r.lines.now ≡ length b.lines.now
 
 -- what a chunk adds to a line that has n bytes: an empty one is the end of the input, and completes it
@@ -95,6 +102,7 @@ pub record Adds (chunk : Text) (b r : Buffer) : Type 0 where
   pub is : used r ≡ part b.lines.now b.start b.end ++ cut_lines (kept b) (added (kept b) chunk)
   pub last : r.end ≡ r.start + column (kept b) (added (kept b) chunk)
   pub from : r.from ≡ 0
+  pub lent : r.lines.ghost_name ≡ b.lines.ghost_name
   pub size : length r.lines.now ≡ length b.lines.now
 
 -- ---------------------------------------------------------------- all chunks so far

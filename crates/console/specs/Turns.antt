@@ -19,6 +19,7 @@ pub record Reads (chunk : Text) (left left' : Known) (b b' : Buffer) (n : ℕ) :
   pub inside : n ≤ length chunk
   pub read : Consumes left left' (take n chunk)
   pub ended : n ≡ 0 → 0 < length chunk → IsAtEnd left'
+  pub lent : b'.lines.ghost_name ≡ b.lines.ghost_name
   pub size : length b'.lines.now ≡ length b.lines.now
 
 -- after a read that failed all is as it was
@@ -29,13 +30,16 @@ ReadsOn chunk left left' b b' r = MatchResult r (λ n. Reads chunk left left' b 
 abbrev pub Writes : {A : Type 0} → Known → Known → Text → Result A Failed → Type 0
 Writes has has' bytes r = MatchResult r (λ _. Appends has has' bytes) (λ e. (e ≡ Output) × ((n : ℕ) × Appends has has' (take n bytes)))
 
--- what is handed over, the first bytes of the output, is the listing of one line at least
+-- what is handed over, the first bytes of the output, is the listing of one line at least; of the buffer only `from` changes
 pub record WritesOn {A : Type 0} (kind : Kind) (out : Text) (has has' : Known) (b b' : Buffer) (r : Result A Failed) : Type 0 where
   pub put : ℕ
   pub fed : (ended : Bool) (all handed : Text) → Fed kind ended all handed b → Fed kind ended all (handed ++ take put out) b'
   pub inside : put ≤ length out
   pub more : (ended : Bool) (all handed : Text) → Fed kind ended all handed b → b.from < b'.from
   pub start : b'.start ≡ b.start
+  pub end : b'.end ≡ b.end
+  pub lines : b'.lines.now ≡ b.lines.now
+  pub lent : b'.lines.ghost_name ≡ b.lines.ghost_name
   pub written : Writes has has' (take put out) r
   pub size : length b'.lines.now ≡ length b.lines.now
 

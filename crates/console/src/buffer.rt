@@ -25,7 +25,8 @@ impl<'a> Buffer<'a> {
     ghost use Rattle.console.specs.Buffer.{Nothing, waiting, Skips, Moves, EndsLine, Completes, Puts, Keeps, Adds};
 
     pub fn new(lines: &'a mut [u8]) -> Buffer<'a>
-        ensures { Nothing lines.old result }
+        ensures nothing { Nothing lines.old result }
+        ensures lent { result.lines.ghost_name ≡ lines.entry.ghost_name }
     {
         Buffer {
             lines,

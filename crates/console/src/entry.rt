@@ -8,6 +8,7 @@ ghost use Rattle.console.specs.Turns.{Runs};
 use crate::buffer::MOST_KEPT;
 use crate::failed::Failed;
 use crate::output::Lister;
+use crate::stream::write_whole;
 use crate::turns::list_input;
 use answer::work;
 use answer::work::{Numbers, Work};
@@ -21,7 +22,7 @@ const CHUNK: usize = 65536;
 fn tell<E: Write>(errors: &mut E, failed: Failed) -> io::Result<()>
     ensures { OnOk result (Appends (E.contents errors.old) (E.contents errors.new) (told failed ++ line_feed ∷ [])) }
 {
-    writeln!(errors, "{failed}")
+    write_whole(errors, failed.line().as_bytes())
 }
 
 // Writes the header, and the listing of the input, one symbol a line. What fails is told to `errors`. The work slices are long

@@ -1,5 +1,6 @@
 // What ends a run before all of the input is listed.
-ghost use Rattle.std.specs.Prelude.{Some};
+ghost use Rattle.std.specs.Prelude.{Some, ◌≡◌, ◌++◌, ◌∷◌, []};
+ghost use Rattle.listing.specs.Listing.{line_feed};
 ghost use Rattle.console.specs.Failed.{told};
 
 use std::fmt;
@@ -11,14 +12,24 @@ pub enum Failed {
     Output,
 }
 
-// The line that standard error gets.
+impl Failed {
+    // The line that standard error gets.
+    pub fn line(self) -> &'static str
+        ensures { result.now ≡ told self ++ line_feed ∷ [] }
+    {
+        match self {
+            Failed::Input => "patch names: standard input can't be read\n",
+            Failed::Output => "patch names: standard output can't be written\n",
+        }
+    }
+}
+
+// The line without its line feed.
 impl fmt::Display for Failed {
     ghost output = { λ f. Some (told f) };
 
     fn fmt<W: fmt::Write>(&self, f: &mut fmt::Formatter<W>) -> fmt::Result {
-        match self {
-            Failed::Input => f.write_str("patch names: standard input can't be read"),
-            Failed::Output => f.write_str("patch names: standard output can't be written"),
-        }
+        let line = self.line();
+        f.write_str(&line[..line.len() - 1])
     }
 }

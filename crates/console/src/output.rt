@@ -39,6 +39,7 @@ pub struct Lister<'a> {
 
 impl Lister<'_> {
     ghost use Rattle.console.specs.Turns.{WritesOn};
+    ghost use Rattle.console.specs.Lister.{SameLister};
 
     // Writes the first n bytes of `out`.
     fn write_front<W: Write>(&self, output: &mut W, n: usize) -> Result<(), Failed>
@@ -56,7 +57,7 @@ impl Lister<'_> {
     ) -> Result<(), Failed>
         requires { buffer.old.from < buffer.old.start }
         ensures writes { WritesOn self.old.kind self.new.out.now (W.contents output.old) (W.contents output.new) buffer.old buffer.new result }
-        ensures kind { self.new.kind ≡ self.old.kind }
+        ensures same { SameLister self.old self.new }
     {
         let listed = list_lines(
             self.kind,

@@ -2,6 +2,7 @@
 ghost use Rattle.std.specs.Prelude.{◌+◌, ◌<◌, ◌≤◌, length, MatchResult};
 ghost use Rattle.listing.specs.Cut.{most_kept};
 ghost use Rattle.console.specs.Turns.{Ends, Stops};
+ghost use Rattle.console.specs.Lister.{SameLister};
 
 use crate::buffer::Buffer;
 use crate::failed::Failed;
@@ -19,7 +20,8 @@ pub fn list_input<R: Read, W: Write>(
     lister: &mut Lister<'_>,
 ) -> Result<(), Failed>
     requires { most_kept + 1 + length chunk.old ≤ length lines.old }
-    ensures { MatchResult result
+    ensures same { SameLister lister.old lister.new }
+    ensures turns { MatchResult result
         (λ _. 0 < length chunk.old → Ends lister.old.kind (R.remaining input.old) (R.remaining input.new) (W.contents output.old) (W.contents output.new))
         (λ _. Stops lister.old.kind (R.remaining input.old) (R.remaining input.new) (W.contents output.old) (W.contents output.new)) }
 {

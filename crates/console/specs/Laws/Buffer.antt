@@ -58,12 +58,12 @@ closing_none n h = ap (λ (q : Bool). if q then [] otherwise line_feed ∷ []) (
 pub completes : {b r : Buffer} → b.start < b.end → EndsLine b r → Completes b r
 completes {b} {r} h e =
     let c = closing_some (kept b) (omega arith) in
-    record { is = e.is ∙ ap (λ (t : Text). used b ++ t) c; ends = e.ends ∙ ap (λ (t : Text). b.end + length t) c; from = e.from; start = e.start; size = e.size }
+    record { is = e.is ∙ ap (λ (t : Text). used b ++ t) c; ends = e.ends ∙ ap (λ (t : Text). b.end + length t) c; from = e.from; start = e.start; lent = e.lent; size = e.size }
 
 pub completes_none : (b : Buffer) → b.end ≤ b.start → Completes b b
 completes_none b h =
     let c = closing_none (kept b) (omega arith) in
-    record { is = sym (append-nil (used b)) ∙ ap (λ (t : Text). used b ++ t) c; ends = omega (arith, ap length c); from = refl; start = omega (arith, b.second); size = refl }
+    record { is = sym (append-nil (used b)) ∙ ap (λ (t : Text). used b ++ t) c; ends = omega (arith, ap length c); from = refl; start = omega (arith, b.second); lent = refl; size = refl }
 
 added_none : (n : ℕ) (chunk : Text) → length chunk ≡ 0 → added n chunk ≡ closing n
 unfolding added
@@ -101,6 +101,7 @@ module _ {b m : Buffer} (w : Moves b m) where
         is = c.is ∙ ap₂ (λ (t u : Text). t ++ u) front_is (ap closing front_kept ∙ sym (ap (cut_lines (kept b)) a ∙ cut_closing (kept b)));
         last = omega (arith, c.start, ap (column (kept b)) a, column_closing (kept b));
         from = c.from ∙ w.from;
+        lent = c.lent ∙ w.lent;
         size = c.size ∙ moved_size;
       }
 
@@ -111,6 +112,7 @@ module _ {b m : Buffer} (w : Moves b m) where
         is = k.is ∙ ap₂ (λ (t u : Text). t ++ u) front_is (ap₂ cut_lines front_kept (sym a));
         last = k.last ∙ ap₂ (λ (j : ℕ) (t : Text). r.start + column j t) front_kept (sym a);
         from = k.from ∙ w.from;
+        lent = k.lent ∙ w.lent;
         size = k.size ∙ moved_size;
       }
 

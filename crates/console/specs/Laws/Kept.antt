@@ -22,6 +22,7 @@ module _ {chunk rest : Text} {b r : Buffer} (w : Begun chunk rest b r) where
         is = sym (w.is ∙ ap (λ (t : Text). used r ++ cut_lines (kept r) t) d ∙ append-nil (used r));
         last = omega (arith, w.last ∙ ap (column (kept r)) d);
         from = w.from;
+        lent = w.lent;
         size = w.size;
       }
 
@@ -47,6 +48,7 @@ module _ {chunk rest : Text} {b r : Buffer} (w : Begun chunk rest b r) where
               ∙ ap₂ (λ (t v : Text). t ++ v) (sym put) (ap₂ cut_lines z d');
           last = w.last ∙ f.last ∙ ap₂ column z d';
           from = p.from ∙ w.from;
+          lent = p.lent ∙ w.lent;
           size = p.size ∙ w.size;
         }
 
@@ -69,5 +71,6 @@ module _ {chunk rest : Text} {b r : Buffer} (w : Begun chunk rest b r) where
               ∙ ap₂ (λ (u : Text) (j : ℕ). u ++ cut_lines j left) (sym q.is) z;
           last = v.last ∙ ap (column (kept s)) next ∙ c ∙ ap₂ column z (sym after);
           from = q.from ∙ v.from;
+          lent = q.lent ∙ v.lent;
           size = q.size ∙ v.size;
         }

@@ -11,5 +11,6 @@ returns g c =
       inside = inside;
       read = search rules;
       ended = search rules;
+      lent = c.add_chunk.ensures.lent;
       size = c.add_chunk.ensures.size;
     }

@@ -28,6 +28,9 @@ returns-clause-writes g c =
       inside = omega (arith, (listed_inside _ c.args.buffer.now _ _ _ listed).1, c.list_lines.auto.out);
       more = λ ended all handed f. omega (arith, listed_more f _ _ listed sized s.room c.requires, c.skip.ensures.from);
       start = c.skip.ensures.start;
+      end = c.skip.ensures.end;
+      lines = c.skip.ensures.lines;
+      lent = c.skip.ensures.lent;
       written = c.write_front.ensures;
       size = ap length c.skip.ensures.lines;
     }
