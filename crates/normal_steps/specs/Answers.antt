@@ -7,6 +7,7 @@ use Rattle.catalogue.specs.Tree.{Kind, Ty, lit, kind_code}
 use Rattle.catalogue.specs.Class.{lit_ok}
 use Rattle.catalogue.specs.Recogniser.{Rd, rd, stop, with_code, all_kinds}
 use Rattle.normal_walk.specs.Walk.{name, reference, value as value_at, literal as literal_at}
+use Rattle.normal_steps.specs.Limits.{most_note}
 use Rattle.normal_steps.specs.Parts.{part}
 use Rattle.normal_steps.specs.declared.marks.Referred.{Referred}
 use Rattle.normal_steps.specs.declared.marks.Valued.{Valued}
@@ -34,6 +35,8 @@ pub record RefAt (s : Text) (at i end : ℕ) : Type 0 where
   pub index : ℕ
   pub is : reference (drop at s) ≡ rd index (drop end s)
   pub told : i ≡ min index most_index
+  -- and up to `most_note`, which no table reaches either
+  pub noted : min i most_note ≡ min index most_note
   pub behind : at < end
   pub inside : end ≤ length s
 

@@ -35,6 +35,25 @@ work out ends words tables chains = record { out = out; ends = ends; words = wor
 abbrev pub slices_of : Writer → Work
 slices_of w = work w.out.now w.ends.now w.words.now w.tables.now w.chains.now
 
+-- which slices a writer was lent, by their ghost names, and how long they are
+abbrev pub lent : Writer → List ℕ
+lent w =
+    w.out.ghost_name ∷ w.ends.ghost_name ∷ w.words.ghost_name ∷ w.tables.ghost_name ∷ w.chains.ghost_name
+    ∷ length w.out.now ∷ length w.ends.now ∷ length w.words.now ∷ length w.tables.now ∷ length w.chains.now ∷ []
+
+-- the slices but for those that a step may write: `out`, `tables`, both, or what is noted of a node
+abbrev pub but_out : Work → Work
+but_out ws = record ws { out = [] }
+
+abbrev pub but_tables : Work → Work
+but_tables ws = record ws { tables = [] }
+
+abbrev pub but_entry : Work → Work
+but_entry ws = but_tables (but_out ws)
+
+abbrev pub but_notes : Work → Work
+but_notes ws = record ws { ends = []; words = []; tables = []; chains = [] }
+
 -- the slices of numbers have their lengths
 pub record Sized (e w t c : Text) : Type 0 where
   pub ends : length e ≡ least_numbers
@@ -137,9 +156,17 @@ pub record Spent (k c b : ℕ) (p p' : State) : Type 0 where
 
 -- ---------------------------------------------------------------- what a step promises
 
--- the symbol stays, and A holds
+-- the symbol stays, the slices are still those that were lent and as long as they were, and A holds
 pub record Kept (w w' : Writer) (A : Type 0) : Type 0 where
   pub symbol : w'.s.now ≡ w.s.now
+  pub same : lent w' ≡ lent w
+  pub is : A
+
+-- the same of a step that writes in some of the slices alone: f of them stays as it was
+pub record KeptBut (f : Work → Work) (w w' : Writer) (A : Type 0) : Type 0 where
+  pub symbol : w'.s.now ≡ w.s.now
+  pub same : lent w' ≡ lent w
+  pub stays : f (slices_of w') ≡ f (slices_of w)
   pub is : A
 
 -- the answer is that of the walk with numbers, and L holds of the next state

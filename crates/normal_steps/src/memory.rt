@@ -10,7 +10,7 @@ ghost use Rattle.normal_steps.specs.Parts.{part};
 ghost use Rattle.normal_steps.specs.Seeks.{Sought};
 ghost use Rattle.normal_steps.specs.Rows.{node_at, nodes_of, node_of, Within};
 ghost use Rattle.normal_steps.specs.Chains.{bucket_of, Findable};
-ghost use Rattle.normal_steps.specs.Carries.{Held, Ready, Tag, Numbered, Stretch, Room, Kept, Steps, Does, Puts, notes_node};
+ghost use Rattle.normal_steps.specs.Carries.{Held, Ready, Tag, Numbered, Stretch, Room, KeptBut, Steps, Does, Puts, but_out, but_tables, but_notes, notes_node};
 
 use crate::state::{Row, Writer};
 use crate::write;
@@ -41,7 +41,7 @@ impl Writer<'_> {
     // A byte is written.
     pub fn put_byte(&mut self, c: u8)
         requires { self.old.state.out < length self.old.out.now }
-        ensures { Kept self.old self.new (Puts (c ∷ []) self.old self.new) }
+        ensures { KeptBut but_out self.old self.new (Puts (c ∷ []) self.old self.new) }
     {
         let end = self.state.out;
         self.out[end] = c;
@@ -52,7 +52,7 @@ impl Writer<'_> {
     pub fn put_part(&mut self, p: Part)
         requires inside { Within self.old.s.now p }
         requires room { self.old.state.out + (p.to - p.from) ≤ length self.old.out.now }
-        ensures { Kept self.old self.new (Puts (part self.old.s.now p.from p.to) self.old self.new) }
+        ensures { KeptBut but_out self.old self.new (Puts (part self.old.s.now p.from p.to) self.old self.new) }
     {
         let end = self.state.out;
         text::copy(self.out, end, &self.s[p.from..p.to]);
@@ -64,7 +64,7 @@ impl Writer<'_> {
         requires inside { Within self.old.s.now p }
         requires short { p.to - p.from ≤ most_symbol_bytes }
         requires room { self.old.state.out + length (name_bytes (part self.old.s.now p.from p.to)) ≤ length self.old.out.now }
-        ensures { Kept self.old self.new (Puts (name_bytes (part self.old.s.now p.from p.to)) self.old self.new) }
+        ensures { KeptBut but_out self.old self.new (Puts (name_bytes (part self.old.s.now p.from p.to)) self.old self.new) }
     {
         let end = self.state.out;
         self.state.out = write::write_name(self.out, end, &self.s[p.from..p.to]);
@@ -101,7 +101,7 @@ impl Writer<'_> {
     // Where what has the number d is in the table, its reference takes the place of what was written from `from` on.
     pub fn settle(&mut self, d: usize, from: usize)
         requires { (Numbered self.old.state d) × ((Stretch from self.old.state) × Ready self.old) }
-        ensures { Kept self.old self.new (Does 0 0 5 from (settled d from) self.old self.new) }
+        ensures { KeptBut but_out self.old self.new (Does 0 0 5 from (settled d from) self.old self.new) }
     {
         let kept = usize::from(self.tables[Writer::MIDDLE + (d - Writer::LEAST)]);
         if let Some(i) = kept.checked_sub(1) {
@@ -112,7 +112,7 @@ impl Writer<'_> {
     // What has the number d is the newest entry of the table.
     pub fn push(&mut self, d: usize)
         requires { (Numbered self.old.state d) × ((Room 0 1 self.old.state) × Ready self.old) }
-        ensures { Kept self.old self.new (Does 0 1 0 self.old.state.out (pushed d) self.old self.new) }
+        ensures { KeptBut but_tables self.old self.new (Does 0 1 0 self.old.state.out (pushed d) self.old self.new) }
     {
         let n = self.state.table;
         let m = self.state.firsts;
@@ -177,7 +177,7 @@ impl Writer<'_> {
     // The number of a node, which may be new.
     pub fn note(&mut self, x: Row) -> usize
         requires { ((x.tag < most_note) × (x.of < most_note)) × ((Within self.old.s.now x.word) × ((Room 1 0 self.old.state) × Ready self.old)) }
-        ensures { Kept self.old self.new (Steps 1 0 0 self.old.state.out (notes_node (node_of self.old.s.now x)) self.old self.new (Some result)) }
+        ensures { KeptBut but_notes self.old self.new (Steps 1 0 0 self.old.state.out (notes_node (node_of self.old.s.now x)) self.old self.new (Some result)) }
     {
         let head = self.bucket(x);
         if let Some(i) = self.node_place(x, head) {

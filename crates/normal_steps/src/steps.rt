@@ -1,10 +1,10 @@
 // The steps of the writing that call no reading back.
-ghost use Rattle.std.specs.Prelude.{◌||◌, [], ◌∷◌, ◌≡◌, ◌≤◌, ◌<◌, eqb, length, drop};
+ghost use Rattle.std.specs.Prelude.{◌||◌, [], ◌∷◌, ◌≡◌, ◌≤◌, ◌<◌, eqb, length, drop, None};
 ghost use Rattle.grammar.specs.Text.{starts};
 ghost use Rattle.grammar.specs.States.{peeked};
 ghost use Rattle.normal_nodes.specs.Nodes.{note_at_name, at_reference, a_bare, a_class, may_stand, signed_kind, entered, entered_nested};
-ghost use Rattle.normal_steps.specs.Carries.{Ready, Numbered, Stretch, Room, Spare, Kept, Reads, Steps, Does, Copies, Closes, most_number};
-ghost use Rattle.normal_steps.specs.Carries.{at_literal, at_part, counts_arg, wraps};
+ghost use Rattle.normal_steps.specs.Carries.{Ready, Numbered, Stretch, Room, Spare, Kept, KeptBut, Reads, Steps, Does, Copies, Closes, most_number};
+ghost use Rattle.normal_steps.specs.Carries.{at_literal, at_part, counts_arg, wraps, but_out, but_entry, but_notes};
 
 use crate::state::{Row, Writer};
 use crate::{marks, words};
@@ -74,7 +74,7 @@ impl Writer<'_> {
     // The next byte is written, and taken.
     pub fn copy_byte(&mut self)
         requires { (self.old.state.at < length self.old.s.now) × Ready self.old }
-        ensures { Kept self.old self.new (Copies self.old self.new) }
+        ensures { KeptBut but_out self.old self.new (Copies self.old self.new) }
     {
         let at = self.state.at;
         let c = self.s[at];
@@ -85,7 +85,7 @@ impl Writer<'_> {
     // E is written.
     pub fn close(&mut self)
         requires { (Spare 1 self.old.state) × Ready self.old }
-        ensures { Kept self.old self.new (Closes self.old self.new) }
+        ensures { KeptBut but_out self.old self.new (Closes self.old self.new) }
     {
         self.put_byte(b'E');
     }
@@ -111,7 +111,8 @@ impl Writer<'_> {
     // [<seq-id>] _, behind S: an entry of the table
     pub fn first_reference(&mut self) -> Option<usize>
         requires { (Spare 4 self.old.state) × Ready self.old }
-        ensures { Kept self.old self.new (Reads 1 self.old.state.out (at_reference self.old.state.out) self.old self.new result) }
+        ensures kept { KeptBut but_out self.old self.new (Reads 1 self.old.state.out (at_reference self.old.state.out) self.old self.new result) }
+        ensures refused { result ≡ None → self.new ≡ self.old }
     {
         let from = self.state.out;
         let reference = marks::reference(self.s, self.state.at)?;
@@ -165,7 +166,7 @@ impl Writer<'_> {
     // The argument x behind what has the number t
     pub fn arg(&mut self, t: usize, x: usize) -> usize
         requires { (t < most_number) × ((x < most_number) × ((Room 1 0 self.old.state) × Ready self.old)) }
-        ensures { Kept self.old self.new (Steps 1 0 0 self.old.state.out (counts_arg t x) self.old self.new (Some result)) }
+        ensures { KeptBut but_notes self.old self.new (Steps 1 0 0 self.old.state.out (counts_arg t x) self.old self.new (Some result)) }
     {
         let u = self.note(Row {
             tag: x + Writer::LEAST,
@@ -196,7 +197,7 @@ impl Writer<'_> {
     // What has the number u enters the table.
     pub fn enter(&mut self, u: usize, from: usize)
         requires { (Numbered self.old.state u) × ((Stretch from self.old.state) × ((Room 0 1 self.old.state) × Ready self.old)) }
-        ensures { Kept self.old self.new (Does 0 1 5 from (entered u from) self.old self.new) }
+        ensures { KeptBut but_entry self.old self.new (Does 0 1 5 from (entered u from) self.old self.new) }
     {
         self.settle(u, from);
         self.push(u);
@@ -205,7 +206,7 @@ impl Writer<'_> {
     // A nested type enters the table, where the newest entry is another.
     pub fn enter_nested(&mut self, u: usize, from: usize)
         requires { (Numbered self.old.state u) × ((Stretch from self.old.state) × ((Room 0 1 self.old.state) × Ready self.old)) }
-        ensures { Kept self.old self.new (Does 0 1 5 from (entered_nested u from) self.old self.new) }
+        ensures { KeptBut but_entry self.old self.new (Does 0 1 5 from (entered_nested u from) self.old self.new) }
     {
         if self.tag_of(u) == usize::from(b'N') && self.newest(u) {
             self.settle(u, from);

@@ -19,7 +19,7 @@ use Rattle.normal_nodes.specs.Laws.Nodes.{kind_below}
 use Rattle.normal_steps.specs.Limits.{most_note, out_length}
 use Rattle.normal_steps.specs.Parts.{part}
 use Rattle.normal_steps.specs.Laws.Parts.{part_length}
-use Rattle.normal_steps.specs.Answers.{NameAt, RefAt, Value}
+use Rattle.normal_steps.specs.Answers.{NameAt, RefAt, Value, most_index}
 use Rattle.normal_steps.specs.Laws.Leaves.{no_entry, entry_told}
 use Rattle.normal_steps.specs.States.{moved_to, written_to}
 use Rattle.normal_steps.specs.Carries.{Work, Carries, Room, Stretch, notes_node, at_literal, Passed}
@@ -88,7 +88,7 @@ module _ {s : Text} {at from to : ℕ} (x : NameAt s at from to) where
 
 module _ {s : Text} {ws : Work} {p : State} {σ : Notes} (h : Carries s ws p σ) {i end : ℕ} (x : RefAt s p.at i end) where
   same_entry : get_elem? σ.table x.index ≡ get_elem? σ.table i
-  same_entry = sym (entry_told σ.table x.index (omega arith)) ∙ ap (get_elem? σ.table) (sym x.told)
+  same_entry = sym (entry_told σ.table x.index {n = most_index} (omega arith)) ∙ ap (get_elem? σ.table) (sym x.told)
 
   abbrev found : ℕ → ℕ → Text → Got ℕ
   found from j r = choose (get_elem? σ.table j) (λ t. got t (settled t from (go_to r σ))) bad

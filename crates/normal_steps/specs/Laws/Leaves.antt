@@ -130,16 +130,17 @@ module _ (s : Text) (at end : ℕ) (e : end ≡ at + length (run (digit 36) (dro
       index = index 36 (run (digit 36) (drop at s));
       is = ref_by h ∙ rw p refl;
       told = m;
+      noted = omega (arith, m);
       behind = omega arith;
       inside = omega (arith, starts_inside s end 95 h);
     }
 
 -- the index that is told finds what the index finds
-pub entry_told : {A : Type 0} (vs : List A) (j : ℕ) → length vs ≤ most_index → get_elem? vs (min j most_index) ≡ get_elem? vs j
-entry_told vs j h = ⊎_elim
-    (λ (l : j < most_index). ap (get_elem? vs) {x = min j most_index} {y = j} (omega arith))
-    (λ (l : most_index ≤ j). no_entry vs (min j most_index) (omega arith) ∙ sym (no_entry vs j (omega arith)))
-    (lt_or_le j most_index)
+pub entry_told : {A : Type 0} (vs : List A) (j : ℕ) {n : ℕ} → length vs ≤ n → get_elem? vs (min j n) ≡ get_elem? vs j
+entry_told vs j {n} h = ⊎_elim
+    (λ (l : j < n). ap (get_elem? vs) {x = min j n} {y = j} (omega arith))
+    (λ (l : n ≤ j). no_entry vs (min j n) (omega arith) ∙ sym (no_entry vs j (omega arith)))
+    (lt_or_le j n)
 
 -- ---------------------------------------------------------------- literals
 

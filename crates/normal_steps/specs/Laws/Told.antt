@@ -1,6 +1,6 @@
 -- An answer of a step, taken apart and put together. Assumes nothing.
 use Rattle.std.specs.Prelude.{◌≡◌, refl, ℕ, ◌<◌, Option, Some, None}
-use Rattle.std.proofs.Common.{sym, subst}
+use Rattle.std.proofs.Common.{sym, subst, arith}
 use Rattle.grammar.specs.Text.{Text}
 use Rattle.normal_nodes.specs.Nodes.{Notes, Got, got, bad}
 use Rattle.normal_steps.specs.Carries.{Work, Carries, Refines, tells, refuses, Went, most_number}
@@ -32,6 +32,11 @@ module _ {s : Text} {L : State → Type 0} {ws : Work} {p : State} where
       let a : d ≡ e = cc in
       let b : w.state ≡ τ = cc in
       (subst (λ (ρ : Notes). Carries s ws p ρ) b w.holds, (w.limits, (a, w.small)))
+
+  -- and it is not refused
+  pub never : {r : Option ℕ} {e : ℕ} {τ : Notes} → Refines s L ws p r (got e τ) → r ≡ None → ⊥
+  never {e = e} {τ = τ} x q =
+      let i = refused (subst (λ (o : Option ℕ). Refines s L ws p o (got e τ)) q x) in let z : ◌≡◌ {A = ℕ} 0 1 = cc in omega arith
 
   pub went_as : {τ τ' : Notes} → τ' ≡ τ → Carries s ws p τ → L p → Went s ws L p τ'
   went_as e h l = record { holds = subst (λ (y : Notes). Carries s ws p y) (sym e) h; limits = l }

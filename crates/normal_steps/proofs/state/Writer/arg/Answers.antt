@@ -10,6 +10,8 @@ pub returns : goal.returns
 returns c =
     record {
       symbol = c.note-u.ensures.symbol;
+      same = c.note-u.ensures.same;
+      stays = c.note-u.ensures.stays;
       is = λ σ h.
           let t = told (c.note-u.ensures.is σ h) in
           let r = c.requires.1.1.0 in

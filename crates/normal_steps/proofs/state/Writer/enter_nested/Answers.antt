@@ -1,4 +1,5 @@
-use Rattle.std.proofs.Common.{sym, ◌∙◌}
+use Rattle.std.proofs.Common.{sym, ap, ◌∙◌}
+use Rattle.normal_steps.specs.Carries.{but_tables}
 use Rattle.normal_steps.specs.Laws.Limits.{took_less}
 use Rattle.normal_steps.specs.Laws.Told.{went_as}
 use Rattle.normal_steps.specs.Laws.Steps.{nested_newest, nested_old, nested_other}
@@ -9,6 +10,8 @@ pub returns-then-newest : goal.returns-then-newest
 returns-then-newest c =
     record {
       symbol = c.settle.ensures.symbol;
+      same = c.settle.ensures.same;
+      stays = ap but_tables c.settle.ensures.stays;
       is = λ σ h.
           let w = c.settle.ensures.is σ h in
           let e = sym (c.tag_of.ensures σ h) ∙ c.if-tag_of-from.true ∙ c.from.ensures in
@@ -20,6 +23,8 @@ pub returns : goal.returns
 returns c =
     record {
       symbol = c.enter.ensures.symbol;
+      same = c.enter.ensures.same;
+      stays = c.enter.ensures.stays;
       is = λ σ h.
           let w = c.enter.ensures.is σ h in
           let t = c.tag_of.ensures σ h in

@@ -10,7 +10,7 @@ use Rattle.normal_steps.proofs.state.Writer.literal.Goals as goal
 
 pub returns-in_err-literal : goal.returns-in_err-literal
 returns-in_err-literal c =
-    rw c.from_residual.ensures (record { symbol = refl; is = λ σ h. by (with_none _ (ap literal h.rest ∙ c.in_err-literal.ensures)) refuses })
+    rw c.from_residual.ensures (record { symbol = refl; same = refl; is = λ σ h. by (with_none _ (ap literal h.rest ∙ c.in_err-literal.ensures)) refuses })
 
 pub put_part-requires-clause-room : goal.put_part-requires-clause-room
 put_part-requires-clause-room c =
@@ -41,6 +41,7 @@ pub returns : goal.returns
 returns c =
     record {
       symbol = c.note-u.ensures.symbol ∙ c.put_part.ensures.symbol ∙ c.put_byte.ensures.symbol;
+      same = c.note-u.ensures.same ∙ c.put_part.ensures.same ∙ c.put_byte.ensures.same;
       is = λ σ h.
           let x = c.in_ok-literal.ensures in
           let v = x.0 in

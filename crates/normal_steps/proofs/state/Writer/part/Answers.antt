@@ -10,7 +10,7 @@ use Rattle.normal_steps.proofs.state.Writer.part.Goals as goal
 
 pub returns-in_err-word : goal.returns-in_err-word
 returns-in_err-word c =
-    rw c.from_residual.ensures (record { symbol = refl; is = λ σ h. by (with_none _ (ap name h.rest ∙ c.in_err-word.ensures)) refuses })
+    rw c.from_residual.ensures (record { symbol = refl; same = refl; is = λ σ h. by (with_none _ (ap name h.rest ∙ c.in_err-word.ensures)) refuses })
 
 pub put_name-requires-clause-room : goal.put_name-requires-clause-room
 put_name-requires-clause-room c = name_fits c.in_ok-word.ensures c.requires.1.1 refl
@@ -24,6 +24,7 @@ pub returns : goal.returns
 returns c =
     record {
       symbol = c.note-u.ensures.symbol ∙ c.put_name.ensures.symbol;
+      same = c.note-u.ensures.same ∙ c.put_name.ensures.same;
       is = λ σ h.
           let x = c.in_ok-word.ensures in
           let y = c.put_name.ensures.is in

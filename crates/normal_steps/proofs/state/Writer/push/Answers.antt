@@ -1,4 +1,4 @@
-use Rattle.std.proofs.Common.{refl, arith}
+use Rattle.std.proofs.Common.{refl, arith, length-set}
 use Rattle.normal_steps.specs.Laws.Slices.{firsts_most}
 use Rattle.normal_steps.specs.Laws.Memory.{push_known, push_new}
 use Rattle.normal_steps.proofs.state.Writer.push.Goals as goal
@@ -15,8 +15,8 @@ overflow_cast-self-then-kept-eq0 c =
 
 pub returns-then-kept-eq0 : goal.returns-then-kept-eq0
 returns-then-kept-eq0 c =
-    record { symbol = refl; is = λ σ h. push_new h c.args.d c.requires.0 c.requires.1.0 c.if-kept-eq0.true }
+    record { symbol = refl; same = simp length-set refl; stays = refl; is = λ σ h. push_new h c.args.d c.requires.0 c.requires.1.0 c.if-kept-eq0.true }
 
 pub returns-else-kept-eq0 : goal.returns-else-kept-eq0
 returns-else-kept-eq0 c =
-    record { symbol = refl; is = λ σ h. push_known h c.args.d c.requires.0 c.requires.1.0 c.if-kept-eq0.false }
+    record { symbol = refl; same = simp length-set refl; stays = refl; is = λ σ h. push_known h c.args.d c.requires.0 c.requires.1.0 c.if-kept-eq0.false }

@@ -14,6 +14,8 @@ pub returns-in-Some : goal.returns-in-Some
 returns-in-Some c =
     record {
       symbol = refl;
+      same = rw c.write_reference-self.auto.out refl;
+      stays = refl;
       is = λ σ h. settle_here h c.args.d c.args.from c.requires.0 c.requires.1.0 (rw c.from-kept.ensures at c.in-Some.ensures) c.write_reference-self.ensures;
     }
 
@@ -21,5 +23,7 @@ pub returns-in_default : goal.returns-in_default
 returns-in_default c =
     record {
       symbol = refl;
+      same = refl;
+      stays = refl;
       is = λ σ h. settle_not h c.args.d c.args.from c.requires.0 c.requires.1.0 (omega (arith, c.from-kept.ensures, c.in_default.ensures));
     }

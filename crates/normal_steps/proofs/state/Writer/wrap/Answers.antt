@@ -11,6 +11,7 @@ pub returns-then-not-may_stand : goal.returns-then-not-may_stand
 returns-then-not-may_stand c =
     record {
       symbol = refl;
+      same = refl;
       is = λ σ h. by (when_false _ (ap (may_stand c.args.c) (sym (c.tag_of.ensures σ h)) ∙ sym c.may_stand.ensures ∙ c.if-not-may_stand.true)) refuses;
     }
 
@@ -25,6 +26,7 @@ pub returns : goal.returns
 returns c =
     record {
       symbol = c.enter.ensures.symbol ∙ c.note-u.ensures.symbol;
+      same = c.enter.ensures.same ∙ c.note-u.ensures.same;
       is = λ σ h.
           let e = ap (may_stand c.args.c) (sym (c.tag_of.ensures σ h)) ∙ sym c.may_stand.ensures ∙ c.if-not-may_stand.false in
           let t = told (rw c.from.ensures at (c.note-u.ensures.is σ h)) in
