@@ -7,6 +7,7 @@ ghost use Rattle.store.specs.Stack.{Put, Cut, Room, Grown, slots_in, at_slot, ne
 
 use grammar::state::Parser;
 use grammar::text;
+use memchr::memchr;
 
 // How many of its newest bytes a full stack keeps: those of an entry, and what readings may drop above it.
 const KEPT: usize = Parser::BYTES + 2048;
@@ -18,9 +19,9 @@ pub const LENGTH: usize = KEPT + Parser::TEXT;
 pub fn slots(text: &[u8]) -> usize
     ensures { (result ≡ slots_in text.now) × (result ≤ length text.now) }
 {
-    if !text.contains(&1) {
+    let Some(_) = memchr(1, text) else {
         return 0;
-    }
+    };
     text.iter().filter(|x| **x == 1).count()
 }
 
