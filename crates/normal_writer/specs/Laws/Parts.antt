@@ -46,7 +46,7 @@ module _ (w w₁ w₂ : Writer) (z : w₁.s.now ≡ w.s.now) (k : Copies w w₁)
   nested_refused u c σ h m l t i = by (on_bad _ (refused (nested_at u h m l c t i))) refuses
 
   module _ {d : ℕ} (u : Fueled 1 5 w₁.state.out 0 (λ m. note_parts m w₁.state.out) w₁ w₂ (Some d)) where
-    nested_told : w.state.at < length w.s.now → (y : Ready w)
+    pub nested_told : w.state.at < length w.s.now → (y : Ready w)
         → Told (Spent 2 5 w.state.out w.state) w₂ d (behind_byte w (get_or w.s.now w.state.at 0) (drop (w.state.at + 1) w.s.now) (length w.s.now) y.0)
     nested_told l (σ, h) = answered (nested_at u h (length w.s.now) (omega arith) _ _ (first_byte h l))
 

@@ -182,7 +182,7 @@ module _ (w w₁ w₂ : Writer) (t : ℕ) (i : starts (drop w.state.at w.s.now) 
 
 module _ (w w₁ w₂ : Writer) (t : ℕ) (i : starts (drop w.state.at w.s.now) (73 ∷ []) ≡ true) (z : w₁.s.now ≡ w.s.now)
     (k : Copies w w₁) {d : ℕ} (u : Fueled 0 5 w₁.state.out 1 (λ m. note_args m t) w₁ w₂ (Some d)) where
-  args_told : (y : Ready w) → Told (Spent 1 5 w.state.out w.state) w₂ d (args_at t w (length w.s.now) y.0)
+  pub args_told : (y : Ready w) → Told (Spent 1 5 w.state.out w.state) w₂ d (args_at t w (length w.s.now) y.0)
   args_told (σ, h) = answered (args_read w w₁ w₂ t i z k u h (length w.s.now) (omega arith))
 
   pub args_next : Ready w → (Spare 1 w₂.state) × Ready w₂
