@@ -24,7 +24,7 @@ use Rattle.normal_steps.specs.Answers.{NameAt}
 use Rattle.normal_steps.specs.Laws.Found.{found_nothing}
 use Rattle.normal_steps.specs.Laws.Tabled.{tabled_nothing}
 use Rattle.normal_steps.specs.Rows.{nodes_of}
-use Rattle.normal_steps.specs.Carries.{slices_of, Carries, Held, Ready, Spent, Spare, Answers, Fueled, Puts, Tag, Closes, closed}
+use Rattle.normal_steps.specs.Carries.{slices_of, lent, Carries, Held, Ready, Spent, Spare, Answers, Fueled, Puts, Tag, Closes, closed}
 use Rattle.normal_writer.specs.Laws.Loops.{Told, gone}
 use Rattle.normal_writer.specs.Writes.{Begins, Writes, writes, outside, Heads, heads, nameless, Scoped, Plain, Functions, at_plain, Ended, ended, broken, Types}
 use Rattle.normal_steps.specs.declared.state.State.{State}
@@ -232,6 +232,7 @@ module _ (w : Writer) {g : Got (Unit {0})} (a : Goes w g) (here : w.state.at < l
 -- the turns of the loop so far, from w to w'
 pub record Turned (w w' : Writer) : Type 0 where
   pub source : w'.s.now ≡ w.s.now
+  pub same : lent w' ≡ lent w
   pub goes : (σ : Notes) → Held w σ → (m : ℕ) → length w.s.now + 1 ≤ m + w.state.at → Goes w' (note_at_end σ σ.rest (λ ρ. note_types m ρ))
 
 -- where the first state is ready, so is this one

@@ -8,7 +8,7 @@ use Rattle.catalogue.specs.Tree.{Letter, Wrap}
 use Rattle.catalogue.specs.Recogniser.{if_next, Lead, lead_letter, lead_wrap, lead_L, lead_none, lead}
 use Rattle.normal_nodes.specs.Nodes.{Notes, Noter, Got, got, next, when, put, go_to, entered, note_at_lead, note_at_name, at_reference, note_with_args, note_type, note_args, note_parts}
 use Rattle.normal_nodes.specs.Laws.Numbered.{TellsNode, args_tell}
-use Rattle.normal_steps.specs.Carries.{Held, Ready, Numbered, Stretch, Room, Spare, Spent, Tag}
+use Rattle.normal_steps.specs.Carries.{lent, Held, Ready, Numbered, Stretch, Room, Spare, Spent, Tag}
 use Rattle.normal_steps.specs.Carries.{Answers, tells, refuses, Reads, Fueled, Steps, Does, Copies, Closes, most_number, at_literal, counts_arg, wraps, closed}
 use Rattle.normal_writer.specs.Cycle.{Leads, WithArgs}
 use Rattle.normal_steps.specs.Laws.Told.{answered, refused, by, within}
@@ -297,8 +297,8 @@ module _ (w w₁ : Writer) (t : ℕ) where
             by (f ∙ byte_not c.holds 69 _ _ j)
             (within (λ x y. spent_stands c.limits.stands (spent_spent c.limits y)) (g c.state c.holds m (omega (arith, c.at, ap length z))))
 
-        pub args_again : {F : Writer → Option ℕ → Type 0} {w₀ : Writer} → SoFar F w₀ (ArgsFrom t w) w t → SoFar F w₀ (ArgsFrom d w₂) w₂ d
-        args_again y = let c = counted_next y.ready in one_more w₂ y z (omega (arith, c.at)) c.small (c.state, c.holds) args_more
+        pub args_again : {F : Writer → Option ℕ → Type 0} {w₀ : Writer} → lent w₂ ≡ lent w → SoFar F w₀ (ArgsFrom t w) w t → SoFar F w₀ (ArgsFrom d w₂) w₂ d
+        args_again n y = let c = counted_next y.ready in one_more w₂ y z n (omega (arith, c.at)) c.small (c.state, c.holds) args_more
 
 -- ---------------------------------------------------------------- ty
 
