@@ -23,6 +23,9 @@ const RESERVED: &[&[u8]] = &[
     b"false",
 ];
 
+// No reserved word is longer.
+const LONGEST: usize = 10;
+
 // A letter, a digit or `_`.
 #[tactic(auto, using(crate::specs::Laws::Tests::ranges))]
 fn word_byte(c: u8) -> bool
@@ -41,7 +44,7 @@ pub fn capital_byte(c: u8) -> bool
 fn is_reserved(word: &[u8]) -> bool
     ensures { result ≡ listed word.now reserved }
 {
-    RESERVED.iter().any(|w| word == *w)
+    word.len() <= LONGEST && RESERVED.iter().any(|w| word == *w)
 }
 
 // Whether a word may be a source name.

@@ -1,7 +1,7 @@
 // A whole symbol, read, and its normal symbol written.
 ghost use Rattle.std.specs.Prelude.{◌≡◌, ◌≤◌, length};
 ghost use Rattle.normal_nodes.specs.Nodes.{note_symbol};
-ghost use Rattle.normal_steps.specs.Carries.{Ready, Kept};
+ghost use Rattle.normal_steps.specs.Carries.{Ready, Kept, KeptBut, but_out};
 ghost use Rattle.normal_writer.specs.Writes.{Lent, Begins, Plain, Scoped, Functions, Types, Writes};
 
 use crate::cycle;
@@ -12,7 +12,7 @@ use normal_steps::{steps, words};
 // "_Z", "_ZN" or "_ZNK" is written, and taken.
 fn begin(w: &mut Writer, word: &[u8])
     requires { (length word.now ≤ 4) × Lent w.old }
-    ensures { Kept w.old w.new (Begins word.now w.new) }
+    ensures { KeptBut but_out w.old w.new (Begins word.now w.new) }
 {
     let n = word.len();
     text::copy(w.out, 0, word);
@@ -22,7 +22,7 @@ fn begin(w: &mut Writer, word: &[u8])
 // <source-name>: never with a K
 fn plain(w: &mut Writer) -> Option<bool>
     requires { Lent w.old }
-    ensures { Kept w.old w.new (Plain w.old.s.now w.new result) }
+    ensures { KeptBut but_out w.old w.new (Plain w.old.s.now w.new result) }
 {
     let word = words::source_name(w.s, 2)?;
     begin(w, b"_Z");

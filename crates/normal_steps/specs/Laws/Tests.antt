@@ -1,18 +1,19 @@
 -- Tests of bytes at a place, and of parts. Assumes nothing.
-use Rattle.std.specs.Prelude.{Bool, true, false, not, ◌&&◌, ◌||◌, ◌⊎◌, ◌≡◌, ℕ, ◌+◌, ◌≤◌, ◌<◌, eqb, ltb, length, map, drop, get_or}
+use Rattle.std.specs.Prelude.{Bool, true, false, not, ◌&&◌, ◌||◌, ◌⊎◌, ◌≡◌, ℕ, ◌+◌, ◌≤◌, ◌<◌, eqb, ltb, leb, length, map, drop, get_or}
 use mathlib.Core.List.{List, [], ◌∷◌}
 use Rattle.std.specs.Cmp.Lexicographic.{pointwise}
 use Rattle.std.specs.List.{list_any, list_all}
 use denote.Ref.{Bor}
-use Rattle.std.proofs.Common.{ne_eqb, inl, inr, ap, ◌∙◌, arith, ltb-true, ltb-false, drop-drop}
+use Rattle.std.proofs.Common.{ne_eqb, inl, inr, ap, ◌∙◌, arith, ltb-true, ltb-false, leb-true, drop-drop}
 use Rattle.std.proofs.Math.Path.{refl, sym}
 use Prim.Native.String.{String}
 use Rattle.std.proofs.lemmas.Bool.Decides.{nat_tests}
 use Rattle.grammar.specs.Text.{Text, if◌then◌otherwise◌, b, same, starts, between, digit, digit_value}
+use Rattle.grammar.specs.Laws.Text.{same_not}
 use Rattle.grammar.specs.Laws.Places.{starts_byte}
 use Rattle.grammar.specs.Laws.NameSteps.{starts_one}
 use Rattle.catalogue.specs.Bytes.{all, first, and_left, and_right, eqb_yes}
-use Rattle.catalogue.specs.Class.{word_byte, listed, leading_zero, numeral}
+use Rattle.catalogue.specs.Class.{word_byte, listed, leading_zero, numeral, reserved}
 use Rattle.catalogue.specs.Recogniser.{if_next}
 use Rattle.catalogue.proofs.Laws.ReadsBack.{next_no}
 
@@ -108,3 +109,21 @@ listed_any n (x ∷ xs) (w ∷ ws) e =
     let f : x.now ≡ b w = cc in
     let g : map (λ (y : Bor Text). y.now) xs ≡ map b ws = cc in
     rw (same_is n x.now, f, listed_any n xs ws g) refl
+
+-- ---------------------------------------------------------------- listed words
+
+-- no word of the list has more than k bytes
+no_longer : ℕ → List String → Bool
+no_longer k [] = true
+no_longer k (w ∷ ws) = leb (length (b w)) k && no_longer k ws
+
+unlisted : (k : ℕ) (n : Text) (ws : List String) → no_longer k ws ≡ true → k < length n → listed n ws ≡ false
+unfolding listed no_longer b
+unlisted k n [] h l = refl
+unlisted k n (w ∷ ws) h l =
+    let i = leb-true (length (b w)) k (and_left (leb (length (b w)) k) (no_longer k ws) h) in
+    rw (same_not n (b w) (λ e. omega (arith, i, e)), unlisted k n ws (and_right (leb (length (b w)) k) (no_longer k ws) h) l) refl
+
+pub long_free : (n : Text) → 10 < length n → listed n reserved ≡ false
+unfolding reserved no_longer b
+long_free n l = unlisted 10 n reserved refl l

@@ -3,7 +3,7 @@ use Rattle.std.specs.Prelude.{◌≡◌, ℕ, ◌+◌, ◌-◌, ◌≤◌, ◌<�
 use Rattle.std.proofs.Common.{◌∙◌, arith}
 use Rattle.normal_nodes.specs.Nodes.{Got}
 use Rattle.normal_steps.specs.States.{moved_to}
-use Rattle.normal_steps.specs.Carries.{slices_of, Ready, most_number}
+use Rattle.normal_steps.specs.Carries.{slices_of, lent, Ready, most_number}
 use Rattle.normal_steps.specs.Laws.Told.{Answered}
 use Rattle.normal_steps.specs.declared.state.State.{State}
 use Rattle.normal_steps.specs.declared.state.Writer.{Writer}
@@ -25,6 +25,7 @@ bytes_left w = length w.s.now - w.state.at
 -- G is what the rest may answer, F the whole: what the rest answers, the whole answers
 pub record SoFar (F : Writer → Option ℕ → Type 0) (w₀ : Writer) (G : Writer → Option ℕ → Type 0) (w : Writer) (t : ℕ) : Type 0 where
   pub source : w.s.now ≡ w₀.s.now
+  pub same : lent w ≡ lent w₀
   pub further : w₀.state.at ≤ w.state.at
   pub small : t < most_number
   pub ready : Ready w
@@ -32,11 +33,12 @@ pub record SoFar (F : Writer → Option ℕ → Type 0) (w₀ : Writer) (G : Wri
 
 module _ {F : Writer → Option ℕ → Type 0} where
   pub one_more : {G H : Writer → Option ℕ → Type 0} {w₀ w : Writer} (w₁ : Writer) {t d : ℕ} → SoFar F w₀ G w t
-      → w₁.s.now ≡ w.s.now → w.state.at ≤ w₁.state.at → d < most_number → Ready w₁ → ((w' : Writer) (r : Option ℕ) → H w' r → G w' r)
+      → w₁.s.now ≡ w.s.now → lent w₁ ≡ lent w → w.state.at ≤ w₁.state.at → d < most_number → Ready w₁ → ((w' : Writer) (r : Option ℕ) → H w' r → G w' r)
       → SoFar F w₀ H w₁ d
-  one_more w₁ y z l k h g =
+  one_more w₁ y z n l k h g =
       record {
         source = z ∙ y.source;
+        same = n ∙ y.same;
         further = omega (arith, l, y.further);
         small = k;
         ready = h;

@@ -12,7 +12,7 @@ use Rattle.normal_nodes.specs.Nodes.{note_at_parts, note_at_more, note_end_or, n
 use Rattle.grammar.specs.Laws.Places.{starts_byte}
 use Rattle.normal_nodes.specs.Laws.Numbered.{TellsNode, with_tells, number_in, parts_tell}
 use Rattle.normal_steps.specs.Leads.{class}
-use Rattle.normal_steps.specs.Carries.{Held, Ready, Stretch, Spare, Spent, Answers, tells, refuses, Reads, Fueled, Does, Copies, Closes, Tag, most_number, at_part, closed}
+use Rattle.normal_steps.specs.Carries.{lent, Held, Ready, Stretch, Spare, Spent, Answers, tells, refuses, Reads, Fueled, Does, Copies, Closes, Tag, most_number, at_part, closed}
 use Rattle.normal_writer.specs.Cycle.{Leads}
 use Rattle.normal_steps.specs.Laws.Told.{answered, refused, by, within}
 use Rattle.normal_steps.specs.Laws.Steps.{on_got, on_bad}
@@ -46,7 +46,7 @@ module _ (w w₁ w₂ : Writer) (z : w₁.s.now ≡ w.s.now) (k : Copies w w₁)
   nested_refused u c σ h m l t i = by (on_bad _ (refused (nested_at u h m l c t i))) refuses
 
   module _ {d : ℕ} (u : Fueled 1 5 w₁.state.out 0 (λ m. note_parts m w₁.state.out) w₁ w₂ (Some d)) where
-    nested_told : w.state.at < length w.s.now → (y : Ready w)
+    pub nested_told : w.state.at < length w.s.now → (y : Ready w)
         → Told (Spent 2 5 w.state.out w.state) w₂ d (behind_byte w (get_or w.s.now w.state.at 0) (drop (w.state.at + 1) w.s.now) (length w.s.now) y.0)
     nested_told l (σ, h) = answered (nested_at u h (length w.s.now) (omega arith) _ _ (first_byte h l))
 
@@ -160,6 +160,7 @@ ending m from lone u τ = note_end_or from (λ v l ρ. note_more m v l from ρ) 
 -- a part or arguments were read, and the end or more of the parts is next
 pub record Onward (from t : ℕ) (lone : Bool) (w w' : Writer) (d : ℕ) (lone' : Bool) : Type 0 where
   pub source : w'.s.now ≡ w.s.now
+  pub same : lent w' ≡ lent w
   pub enclosed : Enclosed from w w' d
   pub rest : (w'' : Writer) (r : Option ℕ) → Ends d lone' from w' w'' r → MoreFrom t lone from w w'' r
 
@@ -192,11 +193,12 @@ module _ (w : Writer) (t : ℕ) (lone : Bool) (from : ℕ) where
           by (part_by m t lone from σ _ h.rest i ∙ on_got (ending m from false) a.is)
           (within (λ x y. spent_spent a.limits.1 y) (v a.state a.holds m (omega (arith, a.limits.0, ap length z))))
 
-      pub part_next : Stretch from w.state → Ready w → Onward from t lone w w₁ d false
-      part_next b (σ, h) =
+      pub part_next : lent w₁ ≡ lent w → Stretch from w.state → Ready w → Onward from t lone w w₁ d false
+      part_next n b (σ, h) =
           let a = answered (u σ h) in
           record {
             source = z;
+            same = n;
             enclosed = record {
               at = a.limits.0;
               small = a.small;
@@ -237,8 +239,8 @@ module _ (w : Writer) (t : ℕ) (lone : Bool) (from : ℕ) where
             by (angled_by m h e ∙ on_got (λ u τ. ending m from lone u (closed τ)) a.is)
             (within (λ x y. closed_spent k.0 a.limits b.limits y) (x (closed a.state) b.holds m (omega (arith, k.0, a.limits, b.limits, ap length y))))
 
-        pub angled_next : Stretch from w.state → Ready w → Onward from t lone w w₃ d lone
-        angled_next b h = record { source = y; enclosed = args_closed w w₁ w₂ t i z k u w₃ h b v; rest = angled_rest }
+        pub angled_next : lent w₃ ≡ lent w → Stretch from w.state → Ready w → Onward from t lone w w₃ d lone
+        angled_next n b h = record { source = y; same = n; enclosed = args_closed w w₁ w₂ t i z k u w₃ h b v; rest = angled_rest }
 
 -- ---------------------------------------------------------------- the end of a nested name, or more of its parts
 
@@ -271,11 +273,11 @@ module _ {from t d : ℕ} {lone lone' : Bool} {w w₁ : Writer} (a : Onward from
   more_behind =
       let b = v a.enclosed.ready.0 a.enclosed.ready.1 in (omega (arith, a.enclosed.at, b.limits.at), b.holds.place)
 
-  pub more_again : starts (drop w₁.state.at w₁.s.now) (69 ∷ []) ≡ false → {F : Writer → Option ℕ → Type 0} {w₀ : Writer}
+  pub more_again : lent w₂ ≡ lent w₁ → starts (drop w₁.state.at w₁.s.now) (69 ∷ []) ≡ false → {F : Writer → Option ℕ → Type 0} {w₀ : Writer}
       → SoFar F w₀ (MoreFrom t lone from w) w t → (Stretch from w₂.state) × SoFar F w₀ (MoreFrom d lone' from w₂) w₂ d
-  more_again j y =
+  more_again n j y =
       let b = v a.enclosed.ready.0 a.enclosed.ready.1 in (
         stretch_after a.enclosed.stretch b.limits (omega arith),
-        one_more w₂ y (z ∙ a.source) (omega (arith, more_behind)) a.enclosed.small (_, b.holds)
+        one_more w₂ y (z ∙ a.source) (n ∙ a.same) (omega (arith, more_behind)) a.enclosed.small (_, b.holds)
             (λ w' r k. a.rest w' r (end_more w₁ d lone' from w₂ w' j z v k)),
       )

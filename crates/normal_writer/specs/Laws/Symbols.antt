@@ -24,7 +24,7 @@ use Rattle.normal_steps.specs.Answers.{NameAt}
 use Rattle.normal_steps.specs.Laws.Found.{found_nothing}
 use Rattle.normal_steps.specs.Laws.Tabled.{tabled_nothing}
 use Rattle.normal_steps.specs.Rows.{nodes_of}
-use Rattle.normal_steps.specs.Carries.{slices_of, Carries, Held, Ready, Spent, Spare, Answers, Fueled, Puts, Tag, Closes, closed}
+use Rattle.normal_steps.specs.Carries.{slices_of, lent, Carries, Held, Ready, Spent, Spare, Answers, Fueled, Puts, Tag, Closes, closed}
 use Rattle.normal_writer.specs.Laws.Loops.{Told, gone}
 use Rattle.normal_writer.specs.Writes.{Begins, Writes, writes, outside, Heads, heads, nameless, Scoped, Plain, Functions, at_plain, Ended, ended, broken, Types}
 use Rattle.normal_steps.specs.declared.state.State.{State}
@@ -33,7 +33,7 @@ use Rattle.normal_steps.specs.declared.state.Writer.{Writer}
 -- ---------------------------------------------------------------- the start
 
 -- nothing is noted, and t is written
-begun_holds : (t : Text) (w : Writer) → Begins t w → length w.s.now ≤ most_symbol_bytes → (at : ℕ) → at ≤ length w.s.now → length t + 1 ≤ 4 * at
+pub begun_holds : (t : Text) (w : Writer) → Begins t w → length w.s.now ≤ most_symbol_bytes → (at : ℕ) → at ≤ length w.s.now → length t + 1 ≤ 4 * at
     → Held (gone w at) (notes t [] [] 0 (drop at w.s.now))
 unfolding nodes_of note_add_all
 begun_holds t w b l at h k = subst (λ (p : State). Carries w.s.now (slices_of w) (moved_to p at) (notes t [] [] 0 (drop at w.s.now))) (sym b.is) (record {
@@ -91,7 +91,7 @@ module _ (s : Text) (w : Writer) (z : w.s.now ≡ s) (b : Begins (95 ∷ 90 ∷ 
 
 -- ---------------------------------------------------------------- a nested name
 
-abbrev first : Text → Text → Notes
+abbrev pub first : Text → Text → Notes
 first s t = notes t [] [] 0 (drop (length t) s)
 
 -- t is written and taken, and nothing is noted
@@ -99,7 +99,7 @@ module _ (s t : Text) (w : Writer) (z : w.s.now ≡ s) (b : Begins t w) (l : len
   at_is : w.state.at ≡ length t
   at_is = ap (λ (p : State). p.at) b.is
 
-  scoped_held : Held w (first s t)
+  pub scoped_held : Held w (first s t)
   scoped_held =
       let h = begun_holds t w b (omega (arith, ap length z)) (length t) (omega (arith, ap length z)) (omega arith) in
       let k : Carries w.s.now (slices_of w) (begun_at (length t) (length t)) (first w.s.now t) =
@@ -121,7 +121,7 @@ module _ (s t : Text) (w : Writer) (z : w.s.now ≡ s) (b : Begins t w) (l : len
     scoped_none c f m k = heads_by (ap (note_at_scoped c) (refused (by_size f m k))) nameless
 
     module _ {u : ℕ} (f : Fueled 1 5 w.state.out 0 (λ m. note_parts m w.state.out) w w₁ (Some u)) where
-      scoped_told : (m : ℕ) → length s ≤ m + length t → Told (Spent 1 5 w.state.out w.state) w₁ u (note_parts m (length t) (first s t))
+      pub scoped_told : (m : ℕ) → length s ≤ m + length t → Told (Spent 1 5 w.state.out w.state) w₁ u (note_parts m (length t) (first s t))
       scoped_told m k = answered (by_size f m k)
 
       pub scoped_next : (Spare 1 w₁.state) × Ready w₁
@@ -232,6 +232,7 @@ module _ (w : Writer) {g : Got (Unit {0})} (a : Goes w g) (here : w.state.at < l
 -- the turns of the loop so far, from w to w'
 pub record Turned (w w' : Writer) : Type 0 where
   pub source : w'.s.now ≡ w.s.now
+  pub same : lent w' ≡ lent w
   pub goes : (σ : Notes) → Held w σ → (m : ℕ) → length w.s.now + 1 ≤ m + w.state.at → Goes w' (note_at_end σ σ.rest (λ ρ. note_types m ρ))
 
 -- where the first state is ready, so is this one
@@ -277,14 +278,14 @@ long (c ∷ []) h = absurd (go (eqb c 95) h)
 long (c ∷ d ∷ t) h = omega arith
 
 -- what an answer with a name says
-record Headed_by (w : Writer) (k : Bool) (g : Got Bool) : Type 0 where
+pub record Headed_by (w : Writer) (k : Bool) (g : Got Bool) : Type 0 where
   pub state : Notes
   pub holds : Held w state
   pub far : 2 ≤ w.state.at
   pub is : g ≡ got k state
 
 -- what an answer with types says
-record Ended_by (w : Writer) (g : Got (Unit {0})) : Type 0 where
+pub record Ended_by (w : Writer) (g : Got (Unit {0})) : Type 0 where
   pub state : Notes
   pub holds : Held w state
   pub is : g ≡ got tt state
@@ -328,7 +329,7 @@ module _ (s : Text) (y : starts s (95 ∷ 90 ∷ []) ≡ true) (w : Writer) wher
   symbol_nameless f = named_by bad (unheaded (named f))
 
   module _ (z : w.s.now ≡ s) {k : Bool} (f : Functions s w (Some k)) where
-    symbol_headed : Headed_by w k (at_function (drop 2 s) (λ from σ. note_parts size from σ))
+    pub symbol_headed : Headed_by w k (at_function (drop 2 s) (λ from σ. note_parts size from σ))
     symbol_headed = headed (named f)
 
     pub symbol_ready : Ready w

@@ -8,7 +8,7 @@ use Rattle.catalogue.specs.Tree.{Letter, Wrap}
 use Rattle.catalogue.specs.Recogniser.{if_next, Lead, lead_letter, lead_wrap, lead_L, lead_none, lead}
 use Rattle.normal_nodes.specs.Nodes.{Notes, Noter, Got, got, next, when, put, go_to, entered, note_at_lead, note_at_name, at_reference, note_with_args, note_type, note_args, note_parts}
 use Rattle.normal_nodes.specs.Laws.Numbered.{TellsNode, args_tell}
-use Rattle.normal_steps.specs.Carries.{Held, Ready, Numbered, Stretch, Room, Spare, Spent, Tag}
+use Rattle.normal_steps.specs.Carries.{lent, Held, Ready, Numbered, Stretch, Room, Spare, Spent, Tag}
 use Rattle.normal_steps.specs.Carries.{Answers, tells, refuses, Reads, Fueled, Steps, Does, Copies, Closes, most_number, at_literal, counts_arg, wraps, closed}
 use Rattle.normal_writer.specs.Cycle.{Leads, WithArgs}
 use Rattle.normal_steps.specs.Laws.Told.{answered, refused, by, within}
@@ -182,7 +182,7 @@ module _ (w w₁ w₂ : Writer) (t : ℕ) (i : starts (drop w.state.at w.s.now) 
 
 module _ (w w₁ w₂ : Writer) (t : ℕ) (i : starts (drop w.state.at w.s.now) (73 ∷ []) ≡ true) (z : w₁.s.now ≡ w.s.now)
     (k : Copies w w₁) {d : ℕ} (u : Fueled 0 5 w₁.state.out 1 (λ m. note_args m t) w₁ w₂ (Some d)) where
-  args_told : (y : Ready w) → Told (Spent 1 5 w.state.out w.state) w₂ d (args_at t w (length w.s.now) y.0)
+  pub args_told : (y : Ready w) → Told (Spent 1 5 w.state.out w.state) w₂ d (args_at t w (length w.s.now) y.0)
   args_told (σ, h) = answered (args_read w w₁ w₂ t i z k u h (length w.s.now) (omega arith))
 
   pub args_next : Ready w → (Spare 1 w₂.state) × Ready w₂
@@ -297,8 +297,8 @@ module _ (w w₁ : Writer) (t : ℕ) where
             by (f ∙ byte_not c.holds 69 _ _ j)
             (within (λ x y. spent_stands c.limits.stands (spent_spent c.limits y)) (g c.state c.holds m (omega (arith, c.at, ap length z))))
 
-        pub args_again : {F : Writer → Option ℕ → Type 0} {w₀ : Writer} → SoFar F w₀ (ArgsFrom t w) w t → SoFar F w₀ (ArgsFrom d w₂) w₂ d
-        args_again y = let c = counted_next y.ready in one_more w₂ y z (omega (arith, c.at)) c.small (c.state, c.holds) args_more
+        pub args_again : {F : Writer → Option ℕ → Type 0} {w₀ : Writer} → lent w₂ ≡ lent w → SoFar F w₀ (ArgsFrom t w) w t → SoFar F w₀ (ArgsFrom d w₂) w₂ d
+        args_again n y = let c = counted_next y.ready in one_more w₂ y z n (omega (arith, c.at)) c.small (c.state, c.holds) args_more
 
 -- ---------------------------------------------------------------- ty
 

@@ -8,6 +8,7 @@ pub returns-then-not-here : goal.returns-then-not-here
 returns-then-not-here c =
     record {
       symbol = c.plain.ensures.symbol;
+      same = c.plain.ensures.same;
       is = function_plain c.args.w.now.s.now c.plain.new.w (sym c.here.ensures ∙ c.if-not-here.true) c.plain.ensures.is;
     }
 
@@ -20,6 +21,7 @@ pub returns-then-here : goal.returns-then-here
 returns-then-here c =
     record {
       symbol = c.scoped.ensures.symbol;
+      same = c.scoped.ensures.same;
       is = function_constant c.args.w.now.s.now c.scoped.new.w (sym c.here.ensures ∙ c.if-not-here.false)
           (sym c.here-2.ensures ∙ c.if-here.true) c.scoped.ensures.is;
     }
@@ -33,6 +35,7 @@ pub returns : goal.returns
 returns c =
     record {
       symbol = c.scoped-2.ensures.symbol;
+      same = c.scoped-2.ensures.same;
       is = function_scoped c.args.w.now.s.now c.scoped-2.new.w (sym c.here.ensures ∙ c.if-not-here.false)
           (sym c.here-2.ensures ∙ c.if-here.false) c.scoped-2.ensures.is;
     }

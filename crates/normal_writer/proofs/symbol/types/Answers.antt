@@ -12,6 +12,7 @@ pub returns-in_err-t : goal.returns-in_err-t
 returns-in_err-t c =
     rw c.from_residual.ensures (record {
       symbol = c.in_err-t.ensures.symbol ∙ c.loop-w.invariant.source;
+      same = c.in_err-t.ensures.same ∙ c.loop-w.invariant.same;
       is = λ σ h m k. ends_broken c.ty.new.w (turn_none c.loop-w.w (c.loop-w.invariant.goes σ h m k) c.loop-w-test.true c.ty.new.w
           c.in_err-t.ensures.is);
     })
@@ -24,6 +25,7 @@ pub returns-then-tag_of-from : goal.returns-then-tag_of-from
 returns-then-tag_of-from c =
     record {
       symbol = c.in_ok-t.ensures.symbol ∙ c.loop-w.invariant.source;
+      same = c.in_ok-t.ensures.same ∙ c.loop-w.invariant.same;
       is = λ σ h m k. ends_broken c.ty.new.w (turn_lit c.loop-w.w (c.loop-w.invariant.goes σ h m k) c.loop-w-test.true c.ty.new.w c.in_ok-t.ensures.is c.tag_of.ensures
           (c.if-tag_of-from.true ∙ c.from.ensures));
     }
@@ -37,10 +39,11 @@ pub loop-w-preserved : goal.loop-w-preserved
 loop-w-preserved c =
     record {
       source = c.in_ok-t.ensures.symbol ∙ c.loop-w.invariant.source;
+      same = c.in_ok-t.ensures.same ∙ c.loop-w.invariant.same;
       goes = λ σ h m k. turn_more c.loop-w.w (c.loop-w.invariant.goes σ h m k) c.loop-w-test.true c.ty.new.w c.in_ok-t.ensures.is c.tag_of.ensures
           c.in_ok-t.ensures.symbol (rw c.from.ensures at c.if-tag_of-from.false);
     }
 
 pub returns : goal.returns
 returns c =
-    record { symbol = c.loop-w.invariant.source; is = λ σ h m k. goes_ended (c.loop-w.invariant.goes σ h m k) c.loop-w-test.false }
+    record { symbol = c.loop-w.invariant.source; same = c.loop-w.invariant.same; is = λ σ h m k. goes_ended (c.loop-w.invariant.goes σ h m k) c.loop-w-test.false }

@@ -9,6 +9,7 @@ pub returns-then-not-starts_with : goal.returns-then-not-starts_with
 returns-then-not-starts_with c =
     record {
       symbol = refl;
+      same = refl;
       is = outside_by c.args.w.now c.args.w.now.s.now (symbol_not c.args.w.now.s.now (sym c.starts_with.ensures ∙ c.if-not-starts_with.true));
     }
 
@@ -16,6 +17,7 @@ pub returns-in_err-constant : goal.returns-in_err-constant
 returns-in_err-constant c =
     rw c.from_residual.ensures (record {
       symbol = c.in_err-constant.ensures.symbol;
+      same = c.in_err-constant.ensures.same;
       is = outside_by c.function.new.w c.args.w.now.s.now (symbol_nameless c.args.w.now.s.now
           (sym c.starts_with.ensures ∙ c.if-not-starts_with.false) c.function.new.w c.in_err-constant.ensures.is);
     })
@@ -24,6 +26,7 @@ pub returns-then-w : goal.returns-then-w
 returns-then-w c =
     record {
       symbol = c.in_ok-constant.ensures.symbol;
+      same = c.in_ok-constant.ensures.same;
       is = outside_by c.function.new.w c.args.w.now.s.now (symbol_alone c.args.w.now.s.now (sym c.starts_with.ensures ∙ c.if-not-starts_with.false) c.function.new.w
           c.in_ok-constant.ensures.symbol c.in_ok-constant.ensures.is c.if-constant.true c.if-w.true);
     }
@@ -46,6 +49,7 @@ returns-in_err-types c =
     let h = types_read (goal.at.returns-in_err-types c).After-types in
     rw c.from_residual-in_err-types.ensures (record {
       symbol = c.in_err-types.ensures.symbol ∙ c.in_ok-constant.ensures.symbol;
+      same = c.in_err-types.ensures.same ∙ c.in_ok-constant.ensures.same;
       is = outside_by c.types.new.w c.args.w.now.s.now
           (symbol_broken c.args.w.now.s.now (sym c.starts_with.ensures ∙ c.if-not-starts_with.false) c.function.new.w c.in_ok-constant.ensures.symbol
           c.in_ok-constant.ensures.is h c.types.new.w c.in_err-types.ensures.is);
@@ -56,6 +60,7 @@ returns-then-w-gt-ARGUMENTS c =
     let h = types_read (goal.at.returns-then-w-gt-ARGUMENTS c).After-types in
     record {
       symbol = c.in_ok-types.ensures.symbol ∙ c.in_ok-constant.ensures.symbol;
+      same = c.in_ok-types.ensures.same ∙ c.in_ok-constant.ensures.same;
       is = outside_by c.types.new.w c.args.w.now.s.now (symbol_many c.args.w.now.s.now (sym c.starts_with.ensures ∙ c.if-not-starts_with.false) c.function.new.w
           c.in_ok-constant.ensures.symbol c.in_ok-constant.ensures.is h c.types.new.w c.in_ok-types.ensures.is c.if-w-gt-ARGUMENTS.true);
     }
@@ -65,6 +70,7 @@ returns c =
     let h = types_read (goal.at.returns c).After-types in
     record {
       symbol = c.in_ok-types.ensures.symbol ∙ c.in_ok-constant.ensures.symbol;
+      same = c.in_ok-types.ensures.same ∙ c.in_ok-constant.ensures.same;
       is = symbol_writes c.args.w.now.s.now (sym c.starts_with.ensures ∙ c.if-not-starts_with.false) c.function.new.w c.in_ok-constant.ensures.symbol
           c.in_ok-constant.ensures.is h c.types.new.w c.in_ok-types.ensures.is c.if-w-gt-ARGUMENTS.false;
     }
