@@ -50,3 +50,12 @@ module _ (s : Text) (l : Slices) {u v text store ends text' store' ends' out : T
       → Normalizes s l (normal_slices out text' store' ends' after.words after.tables after.chains) r
   unfolding normalized
   told_normalizes d i j k h = told_leaves s l c e f g (d.words ∙ ap zeros i) (d.tables ∙ ap zeros j) (d.chains ∙ ap zeros k) h
+
+-- the slices behind the entry for normal symbols, each zero as long as it was lent
+module _ (s : Text) (l : Slices) {out text store ends words tables chains : Text} {r : Result ℕ Refusal} where
+  pub cleared_normalizes : text ≡ zeros (length l.text) → store ≡ zeros (length l.store) → ends ≡ zeros (length l.ends) → words ≡ zeros (length l.words)
+      → tables ≡ zeros (length l.tables) → chains ≡ zeros (length l.chains) → Tells (normal_answer most_symbol_bytes (lent l) s) l.out out r
+      → Normalizes s l (normal_slices out text store ends words tables chains) r
+  unfolding normalized
+  cleared_normalizes t k e w b d h =
+      told_leaves s l {u = []} {v = []} (record { text = t; store = k; ends = e }) refl refl refl w b d h
