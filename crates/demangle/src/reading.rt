@@ -10,7 +10,7 @@ ghost use Rattle.demangle.specs.Printed.{PrintsName};
 use crate::symbol;
 use answer::work;
 use answer::work::Work;
-use encoding::functions::ended;
+use encoding::functions::ended_here;
 use encoding::mangled::mangled_name;
 use grammar::refusal::Refusal;
 use parser::demangler::Demangler;
@@ -63,7 +63,7 @@ fn print(d: &Demangler, n: usize, out: &mut [u8]) -> Result<usize, Refusal>
     requires { n ≤ d.now.stack.top }
     ensures { PrintsName d.now n out.old out.new result }
 {
-    if !ended(d) {
+    if !ended_here(d) {
         return Err(Refusal::BytesLeft);
     }
     let slots = d.stack.slots(n);

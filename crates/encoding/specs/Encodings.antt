@@ -1,5 +1,5 @@
 -- What the readings of an encoding promise.
-use Rattle.std.specs.Prelude.{Bool, ◌&&◌, List, [], ◌++◌, ◌≡◌, ℕ, ◌+◌, ◌≤◌, length, drop, Option as Returned, IfSome, IsSome, IsOk, Result as Result', Ok, Err}
+use Rattle.std.specs.Prelude.{Bool, ◌&&◌, List, [], ◌++◌, ◌≡◌, ℕ, ◌+◌, ◌≤◌, length, drop, Option as Returned, IfSome, IsSome, Result as Result', Ok, Err}
 use Rattle.std.specs.Borrow.{Bor}
 use Rattle.grammar.specs.Text.{Text, b, choose, same, each, join}
 use Rattle.grammar.specs.Limits.{most_text_bytes}
@@ -13,7 +13,7 @@ use Rattle.grammar.specs.declared.part.Part.{Part}
 use Rattle.grammar.specs.States.{Progress, Read, read, Refused, fresh, raised_to}
 use Rattle.parser.specs.Holds.{Memory, window, part, Stands, Refines, keep}
 use Rattle.parser.specs.declared.demangler.Demangler.{Demangler}
-use Rattle.parser.specs.Demanglers.{state_of, memory_of, at_place, outcome}
+use Rattle.parser.specs.Demanglers.{state_of, memory_of, at_place, outcome, lent}
 use Rattle.reader.specs.declared.lists.Joined.{Joined}
 use Rattle.reader.specs.Cycle.{Kept}
 use Rattle.grammar.specs.Refusals.{refusal_number}
@@ -92,9 +92,10 @@ pub data Encodes (k : ℕ) (s base : Text) (m : Memory) : Read → Result Text �
   encodes : {p : Progress} {n : ℕ} {t : Text} {σ : State} → Prints k s base m p n t σ → Encodes k s base m (read p n) (ok t σ)
   refuses : {r : Refusal} → Encodes k s base m (Refused r) (refused (refusal_number r))
 
--- the same of a demangler; where there is a text, the symbol is the first one's
+-- the same of a demangler, whose symbol and lent slices stay
 pub record Encoded (d d' : Demangler) (r : Result' ℕ Refusal) (f : Result Text) : Type 0 where
-  pub symbol : IsOk r → d'.s.now ≡ d.s.now
+  pub symbol : d'.s.now ≡ d.s.now
+  pub same : lent d' ≡ lent d
   pub is : Encodes (keep 0) d.s.now (window (memory_of d) (state_of d)) (memory_of d') (outcome (state_of d') r) f
 
 -- ---------------------------------------------------------------- thunks
@@ -102,10 +103,10 @@ pub record Encoded (d d' : Demangler) (r : Result' ℕ Refusal) (f : Result Text
 abbrev pub two_offsets : Reader (Unit {0})
 two_offsets σ = onto (λ _. offset) (offset σ)
 
--- the place is behind what the grammar steps over, or nothing of the kind stands there
+-- the place is behind what the grammar steps over, or nothing of the kind stands there; all but the place stays
 pub data Stepped (d d' : Demangler) (σ : State) (x : Result (Unit {0})) : Result' (Unit {0}) Refusal → Type 0 where
   past : {at : ℕ} → at ≤ length d.s.now → d' ≡ at_place d at → x ≡ go_to (drop at d.s.now) σ → Stepped d d' σ x (Ok tt)
-  stopped : x ≡ refused 4 → Stepped d d' σ x (Err NoRule)
+  stopped : {at : ℕ} → d' ≡ at_place d at → x ≡ refused 4 → Stepped d d' σ x (Err NoRule)
 
 abbrev pub StepsOver : Reader (Unit {0}) → Demangler → Demangler → Result' (Unit {0}) Refusal → Type 0
 StepsOver f d d' r = (σ : State) → σ.rest ≡ drop d.state.at d.s.now → Stepped d d' σ (f σ) r

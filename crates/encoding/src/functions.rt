@@ -10,6 +10,7 @@ ghost use Rattle.encoding.specs.Encodings.{Qualified, LoneVoid, Going, with_para
 use grammar::codes;
 use grammar::part::Part;
 use grammar::refusal::Refusal;
+use grammar::state::Parser;
 use parser::demangler::Demangler;
 use parser::memory::{given, sum};
 use reader::cycle::{items, name, ty};
@@ -23,7 +24,7 @@ pub fn function_or_data(d: &mut Demangler) -> Result<usize, Refusal>
     let n = name(d)?;
     let cv = d.state.cv;
     d.state.cv = Part { from: 0, to: 0 };
-    if ended(d) {
+    if ended(d.s, d.state) {
         return qualified(d, n, cv);
     }
     if d.state.templated {
@@ -33,10 +34,17 @@ pub fn function_or_data(d: &mut Demangler) -> Result<usize, Refusal>
 }
 
 // Whether the name and its parameters end here.
-pub fn ended(d: &Demangler) -> bool
+pub fn ended(s: &[u8], state: Parser) -> bool
+    ensures { result ≡ ended (drop state.at s.now) }
+{
+    state.peek(s).is_none_or(|c| c == b'.')
+}
+
+// The same of a demangler.
+pub fn ended_here(d: &Demangler) -> bool
     ensures { result ≡ ended (drop d.now.state.at d.now.s.now) }
 {
-    d.peek().is_none_or(|c| c == b'.')
+    ended(d.s, d.state)
 }
 
 // The type returned goes before a name of n bytes, and the parameters behind it.

@@ -25,11 +25,13 @@ pub fn mangled_name(d: &mut Demangler) -> Result<usize, Refusal>
         d.stack.put(b"transaction clone for ");
         n = sum(n, 22);
     }
-    let m = encoding(d)?;
-    if d.s.len() == whole.len() {
+    let alone = d.s.len() == whole.len();
+    let m = encoding(d);
+    d.s = whole;
+    let m = m?;
+    if alone {
         return Ok(m);
     }
-    d.s = whole;
     d.state.at = whole.len();
     given(sum(n, m))
 }
@@ -69,8 +71,9 @@ fn guard_variable(d: &mut Demangler) -> Result<usize, Refusal>
     let whole = d.s;
     d.s = &whole[2..];
     d.stack.put(b"guard variable for ");
-    let n = name(d)?;
+    let n = name(d);
     d.s = whole;
+    let n = n?;
     d.state.at = whole.len();
     given(n + 19)
 }

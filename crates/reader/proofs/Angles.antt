@@ -19,9 +19,9 @@ use Rattle.store.specs.Laws.Lists.{same_texts}
 use Rattle.store.specs.Laws.Tails.{top_size}
 use Rattle.store.specs.declared.stack.Stack.{Stack}
 use Rattle.parser.specs.declared.demangler.Demangler.{Demangler}
-use Rattle.parser.specs.Demanglers.{state_of, memory_of, Held, at_place, at_depth, Enters, Parses, given_length}
+use Rattle.parser.specs.Demanglers.{state_of, memory_of, Held, at_place, at_depth, Enters, Parses, given_length, lent}
 use Rattle.parser.specs.Holds.{Stands, Puts, refuses, window, keep}
-use Rattle.parser.specs.Laws.Demanglers.{Passed, Stayed, deeper_by_one, went_in, stayed_out, puts_of, given_by}
+use Rattle.parser.specs.Laws.Demanglers.{Passed, Stayed, deeper_by_one, went_in, stayed_out, puts_of, given_by, lent_stack}
 use Rattle.parser.specs.Laws.Holds.{by, holds_puts}
 use Rattle.parser.specs.Laws.Wraps.{stands_puts}
 use Rattle.reader.specs.declared.lists.Joined.{Joined}
@@ -49,6 +49,7 @@ args_too_deep {d} {d₁} {d₂} {e} p h =
     let o = stayed_out h in
     rw o.why_is (record {
       symbol = ap (λ (x : Demangler). x.s.now) (o.is ∙ p.is);
+      same = ap lent (o.is ∙ p.is);
       reads = λ σ k. by (args_8 d.s.now d.state.at σ k.rest (ap (λ (t : Text). starts t (73 ∷ [])) k.rest ∙ p.past.ahead) (omega (arith, k.depth, o.so, ap (λ (x : Demangler). x.state.depth) p.is))) refuses;
     })
 
@@ -84,11 +85,12 @@ pub record InAngles (d d' : Demangler) (x : Stack) : Type 0 where
   pub inside : d.state.at + 1 ≤ length d.s.now
   pub below : d.state.depth < most_open
   pub is : d' ≡ within d
+  pub same : lent (record (within d) { stack = x }) ≡ lent d
   pub puts : Puts d.stack.bytes.now x.bytes.now (state_of (within d)) (state_of (record (within d) { stack = x })) (60 ∷ [])
 
 pub opened :
-    {d d₁ d₂ : Demangler} (x : Stack) {u : Unit {0}} → Passed 73 d d₁ → Enters d₁ d₂ (Ok u) → Put d₂.stack.bytes.now x.bytes.now d₂.stack.top x.top (60 ∷ []) → InAngles d d₂ x
-opened {d} {d₁} {d₂} x p e u =
+    {d d₁ d₂ : Demangler} (x : Stack) {u : Unit {0}} → Passed 73 d d₁ → Enters d₁ d₂ (Ok u) → Put d₂.stack.bytes.now x.bytes.now d₂.stack.top x.top (60 ∷ []) → x.bytes.ghost_name ≡ d₂.stack.bytes.ghost_name → InAngles d d₂ x
+opened {d} {d₁} {d₂} x p e u n =
     let w = went_in e in
     let f : d₂ ≡ within d = w.1 ∙ ap deeper_by_one p.is in
     record {
@@ -96,6 +98,7 @@ opened {d} {d₁} {d₂} x p e u =
       inside = omega (arith, p.past.inside);
       below = omega (arith, w.0, ap (λ (y : Demangler). y.state.depth) p.is);
       is = f;
+      same = lent_stack (within d) x (n ∙ ap (λ (y : Demangler). y.stack.bytes.ghost_name) f);
       puts = puts_of (within d) x (subst (λ (y : Demangler). Put y.stack.bytes.now x.bytes.now y.stack.top x.top (60 ∷ [])) f u);
     }
 
@@ -125,12 +128,16 @@ module _ {d d' : Demangler} {x : Stack} (o : InAngles d d' x) where
         let j = list_in (Err e) i in
         record {
           symbol = j.symbol;
+          same = j.same ∙ o.same;
           reads = λ σ h. by (args_are h ∙ then_refused _ (then_refused _ (then_refused _ (list_refused refl (j.is _ (opened_in h)))))) refuses;
         }
 
     module _ {l : Joined} (i : Itemized Arguments (record d' { stack = x }) d₄ (Ok l)) where
       pub list_symbol : d₄.s.now ≡ d.s.now
       list_symbol = (list_in (Ok l) i).symbol
+
+      list_same : lent d₄ ≡ lent d
+      list_same = (list_in (Ok l) i).same ∙ o.same
 
       pub list_is :
           {σ : State} → Held d σ →
@@ -148,6 +155,7 @@ module _ {d d' : Demangler} {x : Stack} (o : InAngles d d' x) where
       args_unclosed {d₅} {e} z =
           rw z.why_is (record {
             symbol = ap (λ (y : Demangler). y.s.now) z.is ∙ list_symbol;
+            same = ap lent z.is ∙ list_same;
             reads = λ σ h. by (args_are h ∙ then_refused _ (then_refused _ (closed_no (list_is h).is (ahead_E h z.so)))) refuses;
           })
 
@@ -167,20 +175,21 @@ module _ {d d' : Demangler} {x : Stack} (o : InAngles d d' x) where
         pub args_closed :
             {d₆ : Demangler} {y : Stack} {w : Text} {q : Bool} {m depth : ℕ} {r : Result ℕ Refusal} → d₆ ≡ at_depth d₅ depth → depth ≡ d.state.depth →
             q ≡ (slice_index d₆.stack.bytes.now (d₆.stack.top - 1) == 62) → w ≡ close_of q →
-            Put d₆.stack.bytes.now y.bytes.now d₆.stack.top y.top w → m ≡ min (l.n + (length w + 1)) most_length → r ≡ given_length m →
+            Put d₆.stack.bytes.now y.bytes.now d₆.stack.top y.top w → y.bytes.ghost_name ≡ d₆.stack.bytes.ghost_name → m ≡ min (l.n + (length w + 1)) most_length → r ≡ given_length m →
             Parses (reading ⟨template-args⟩) (keep (d.state.depth + 1)) (d.state.at + 1) d (record d₆ { stack = y }) r
-        args_closed {d₆} {y} {w} {q} {m} {r = r} i a e f u n k =
+        args_closed {d₆} {y} {w} {q} {m} {r = r} i a e f u v n k =
             let x = back_out i a in
-            let same : record d₆ { stack = y } ≡ record (without d d₄) { stack = y } = ap (λ (z : Demangler). record z { stack = y }) x in
+            let there : record d₆ { stack = y } ≡ record (without d d₄) { stack = y } = ap (λ (z : Demangler). record z { stack = y }) x in
             let u' : Put d₄.stack.bytes.now y.bytes.now d₄.stack.top y.top w = subst (λ (z : Demangler). Put z.stack.bytes.now y.bytes.now z.stack.top y.top w) x u in
             let e' : q ≡ (slice_index d₄.stack.bytes.now (d₄.stack.top - 1) == 62) = e ∙ ap (λ (z : Demangler). slice_index z.stack.bytes.now (z.stack.top - 1) == 62) x in
-            subst (λ (z : Demangler). Parses (reading ⟨template-args⟩) (keep (d.state.depth + 1)) (d.state.at + 1) d z r) (sym same) (record {
+            subst (λ (z : Demangler). Parses (reading ⟨template-args⟩) (keep (d.state.depth + 1)) (d.state.at + 1) d z r) (sym there) (record {
               symbol = list_symbol;
+              same = lent_stack (without d d₄) y (v ∙ ap (λ (z : Demangler). z.stack.bytes.ghost_name) x) ∙ list_same;
               reads = λ σ h.
                   let g = list_is h in
-                  let v = bracketed h in
+                  let s = bracketed h in
                   by (args_are h ∙ args_given d.s.now d₄.state.at g.is g.stands.holds.rest (ahead_E h p.past.ahead) h.depth
-                  (angled_as g.texts q (ap (λ (i : ℕ). i == 62) (sym (stands_last v)) ∙ sym e') ∙ ap (λ (t : Text). (60 ∷ join (b ", ") g.texts) ++ t) (sym f)))
+                  (angled_as g.texts q (ap (λ (i : ℕ). i == 62) (sym (stands_last s)) ∙ sym e') ∙ ap (λ (t : Text). (60 ∷ join (b ", ") g.texts) ++ t) (sym f)))
                   (given_as (given_by (state_of (record (without d d₄) { stack = y })) m k)
-                  (stands_puts v (puts_of (without d d₄) y u') (omega (arith, n, g.stands.size, length-append (60 ∷ join (b ", ") g.texts) w))));
+                  (stands_puts s (puts_of (without d d₄) y u') (omega (arith, n, g.stands.size, length-append (60 ∷ join (b ", ") g.texts) w))));
             })

@@ -52,7 +52,7 @@ pub narrow : {s s' base : Text} {from : ℕ} {m m' : Memory} {p : Progress} {r :
 narrow h u = less (omega (arith, h.deep)) u
 
 pub parses_narrow : {f : Reader Text} {from : ℕ} {d d' : Demangler} {r : Result' ℕ Refusal} → Parses f kept_bytes from d d' r → Parses f (keep d.state.depth) from d d' r
-parses_narrow h = record { symbol = h.symbol; reads = λ σ u. narrow u (h.reads σ u) }
+parses_narrow h = record { symbol = h.symbol; same = h.same; reads = λ σ u. narrow u (h.reads σ u) }
 
 pub stood : {d : ℕ} {s base : Text} {from : ℕ} {m : Memory} {p : Progress} {n : ℕ} {t : Text} {σ : State} → Wrote (keep d) d s base from m p n t σ → Stands (keep d) d s base from m p n t σ
 stood w = stands w (omega arith) (omega (arith, w.level, w.holds.deep))

@@ -16,10 +16,12 @@ pub name_primary :
     Parses (reading ⟨name⟩) (keep (d.state.depth + 1)) (d.state.at + 1 + 1 + 1) (at_place d (d.state.at + 1 + 1)) d₃ (Ok n) → Eats 69 d₃ d₄ q → Parses (reading ⟨expr-primary⟩) (keep d.state.depth) (d.state.at + 1) d d₄ (Ok n)
 name_primary d {d₃} {d₄} {n} l g w (eats f x) = subst (λ (y : Demangler). Parses (reading ⟨expr-primary⟩) (keep d.state.depth) (d.state.at + 1) d y (Ok n)) (sym x) (record {
   symbol = w.symbol;
+  same = w.same;
   reads = λ σ h. lit_name_E h l g refl w.reads refl (ap (λ (t : Text). starts (drop d₃.state.at t) (69 ∷ [])) (sym w.symbol) ∙ f) refl;
 })
 name_primary d {d₃} {d₄} {n} l g w (stays f x) = subst (λ (y : Demangler). Parses (reading ⟨expr-primary⟩) (keep d.state.depth) (d.state.at + 1) d y (Ok n)) (sym x) (record {
   symbol = w.symbol;
+  same = w.same;
   reads = λ σ h. lit_name_open h l g refl w.reads refl (ap (λ (t : Text). starts (drop d₃.state.at t) (69 ∷ [])) (sym w.symbol) ∙ f);
 })
 

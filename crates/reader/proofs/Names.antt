@@ -11,7 +11,7 @@ use Rattle.grammar.specs.Laws.Agree.{moved}
 use Rattle.grammar.specs.Laws.Runs.{need_here}
 use Rattle.store.specs.declared.table.Table.{Table}
 use Rattle.parser.specs.declared.demangler.Demangler.{Demangler}
-use Rattle.parser.specs.Demanglers.{state_of, memory_of, Held, at_place, outcome}
+use Rattle.parser.specs.Demanglers.{state_of, memory_of, Held, at_place, outcome, lent}
 use Rattle.grammar.specs.States.{read, moved_to, peeked}
 use Rattle.parser.specs.Laws.Demanglers.{puts_of}
 use Rattle.parser.specs.Holds.{Refines, window, keep}
@@ -61,16 +61,20 @@ unfolding std_name onto b
 std-open s at σ e h = ap (onto (λ _ u. onto std-rest (reading ⟨unqualified-name⟩ u))) (need_here "St" s at σ e (std-starts (drop at s) h))
 
 pub structor_symbol : {w : Text} {d d' : Demangler} {r : Result ℕ Refusal} → Structor w d d' r → d'.s.now ≡ d.s.now
-structor_symbol (structor l f u) = ap (λ (x : Demangler). x.s.now) f
-structor_symbol (short l f) = f
+structor_symbol (structor l f n u) = ap (λ (x : Demangler). x.s.now) f
+structor_symbol (short l f n) = f
+
+pub structor_same : {w : Text} {d d' : Demangler} {r : Result ℕ Refusal} → Structor w d d' r → lent d' ≡ lent d
+structor_same (structor l f n u) = n
+structor_same (short l f n) = n
 
 module _ (d : Demangler) {to c : ℕ} {o : Option ℕ} {σ : State} (h : Held d σ) (n : (to ≡ d.state.at + length (run (λ x. nat_eq x 76) (drop d.state.at d.s.now))) × (to ≤ length d.s.now))
     (k : o ≡ peeked (drop to d.s.now)) (e : o ≡ Some c) (y : ℕ) (i : c ≡ y) {w : Text} (z : length w ≡ 6)
     (one : reading ⟨unqualified-name⟩ (moved (y ∷ []) σ) ≡ refused 4) (two : (u : Text) (x : ℕ) → reading ⟨unqualified-name⟩ (moved (y ∷ x ∷ u) σ) ≡ give w (moved u σ)) where
   pub structor_alone : {d' : Demangler} {r : Result ℕ Refusal} → Structor w (at_place d to) d' r →
       Refines (keep d.state.depth) d.state.depth d.s.now (window (memory_of d) (state_of d)) (d.state.at + 1) (memory_of d') (outcome (state_of d') r) (reading ⟨unqualified-name⟩ σ)
-  structor_alone (short l f) = unq_short {q = moved_to (state_of d) to} h n refl k e y one i l
-  structor_alone {d' = d'} (structor l f u) =
+  structor_alone (short l f g) = unq_short {q = moved_to (state_of d) to} h n refl k e y one i l
+  structor_alone {d' = d'} (structor l f g u) =
       subst
       (λ (x : Demangler). Refines (keep d.state.depth) d.state.depth d.s.now (window (memory_of d) (state_of d)) (d.state.at + 1) (memory_of x) (read (state_of x) (length w)) (reading ⟨unqualified-name⟩ σ))
       (sym f)

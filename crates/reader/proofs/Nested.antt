@@ -12,7 +12,7 @@ use Rattle.grammar.specs.declared.refusal.Refusal.{Refusal}
 use Rattle.grammar.specs.declared.refusal.Refusal.TheVariants.{NoRule}
 use Rattle.parser.specs.Leaves.{qualifies}
 use Rattle.parser.specs.declared.demangler.Demangler.{Demangler}
-use Rattle.parser.specs.Demanglers.{state_of, memory_of, Held, Prepared, Parses, given_length}
+use Rattle.parser.specs.Demanglers.{state_of, memory_of, Held, Prepared, Parses, given_length, lent}
 use Rattle.parser.specs.Holds.{part, refuses, keep}
 use Rattle.parser.specs.Laws.Demanglers.{Passed, given_by}
 use Rattle.parser.specs.Laws.Holds.{by, holds_moved, sooner}
@@ -33,6 +33,11 @@ module _ {s : Text} (d : Demangler) {d' : Demangler} {q : Parts} {c : ℕ} (r : 
   pub symbol_behind : peeked (drop d.state.at d.s.now) ≡ Some c → d'.s.now ≡ s
   symbol_behind e = (h (drop (d.state.at + 1) d.s.now) (byte_there d.s.now d.state.at e)).symbol ∙ y
 
+pub same_behind :
+    (d : Demangler) {d' : Demangler} {q : Parts} {c : ℕ} (r : Result Parts Refusal) {l : List ℕ} → lent d ≡ l →
+    ((t : List ℕ) → drop d.state.at d.s.now ≡ c ∷ t → cycle.Prefixed (g.prefix reading) d d' q r) → peeked (drop d.state.at d.s.now) ≡ Some c → lent d' ≡ l
+same_behind d r y h e = (h (drop (d.state.at + 1) d.s.now) (byte_there d.s.now d.state.at e)).same ∙ y
+
 -- behind the E of a nested name whose qualifiers stand between the two places
 abbrev pub closed_at : Bool → ℕ → ℕ → Demangler → Demangler
 closed_at true from to d = record d { state = record d.state { at = d.state.at + 1; cv = record { from = from; to = to }; templated = false } }
@@ -43,9 +48,12 @@ module _ {d d₁ : Demangler} {to : ℕ} (v : Passed 78 d d₁) (i : (to ≡ d�
   place_behind = subst (λ (x : Demangler). (to ≡ x.state.at + length (run qualifies (drop x.state.at x.s.now))) × (to ≤ length x.s.now)) v.is i
 
   -- the loop has come as far as d₂
-  module _ (d₂ : Demangler) {q : Parts} (y : d₂.s.now ≡ d₁.s.now) (l : Prefixing d₁.s.now (memory_of d₁) (moved_to (state_of d₁) to) (memory_of d₂) (state_of d₂) q) where
+  module _ (d₂ : Demangler) {q : Parts} (y : d₂.s.now ≡ d₁.s.now) (w : lent d₂ ≡ lent d₁) (l : Prefixing d₁.s.now (memory_of d₁) (moved_to (state_of d₁) to) (memory_of d₂) (state_of d₂) q) where
     symbol_first : d₂.s.now ≡ d.s.now
     symbol_first = y ∙ ap (λ (x : Demangler). x.s.now) v.is
+
+    same_first : lent d₂ ≡ lent d
+    same_first = w ∙ ap lent v.is
 
     ahead_first : {o : _} → peeked (drop d₂.state.at d₂.s.now) ≡ o → peeked (drop d₂.state.at d.s.now) ≡ o
     ahead_first e = ap (λ (t : Text). peeked (drop d₂.state.at t)) (sym symbol_first) ∙ e
@@ -64,6 +72,7 @@ module _ {d d₁ : Demangler} {to : ℕ} (v : Passed 78 d d₁) (i : (to ≡ d�
     pub nested_ends : {k from : ℕ} → peeked (drop d₂.state.at d₂.s.now) ≡ None → Parses (reading ⟨nested-name⟩) k from d d₂ (Err NoRule)
     nested_ends e = record {
       symbol = symbol_first;
+      same = same_first;
       reads = λ σ h. by (opened_by h ∙ prefixed_4 (parts_by_now h) (part d.s.now (d.state.at + 1) to) (ahead_first e)) refuses;
     }
 
@@ -89,6 +98,7 @@ module _ {d d₁ : Demangler} {to : ℕ} (v : Passed 78 d d₁) (i : (to ≡ d�
           at_E : (z : Bool) → q.structor ≡ z → Parses (reading ⟨nested-name⟩) (keep d.state.depth) (d.state.at + 1) d (closed_at z (d.state.at + 1) to d₂) r
           at_E true w = record {
             symbol = symbol_first;
+            same = same_first;
             reads = λ σ h.
                 by (opened_by h)
                 (sooner (omega (arith, place_behind.0))
@@ -96,6 +106,7 @@ module _ {d d₁ : Demangler} {to : ℕ} (v : Passed 78 d d₁) (i : (to ≡ d�
           }
           at_E false w = record {
             symbol = symbol_first;
+            same = same_first;
             reads = λ σ h.
                 by (opened_by h)
                 (sooner (omega (arith, place_behind.0))
@@ -109,6 +120,7 @@ module _ {d d₁ : Demangler} {to : ℕ} (v : Passed 78 d d₁) (i : (to ≡ d�
             Parses (reading ⟨nested-name⟩) k from d d₃ (Err j)
         nested_refuses {k} {from} {j} x = record {
           symbol = symbol_behind d₂ (Err j) symbol_first x e;
+          same = same_behind d₂ (Err j) same_first x e;
           reads = λ σ h.
               by (opened_by h) (prefixed_refuses (parts_by_now h) (ahead_first e) n (prefix_from d₂ (Err j) symbol_first x) (part d.s.now (d.state.at + 1) to) refl refl);
         }

@@ -7,7 +7,7 @@ use Rattle.grammar.specs.Grammar.{reading, ⟨name⟩, ⟨expr-primary⟩, liter
 use Rattle.parser.specs.Holds.{mem, Pushes, keep}
 use Rattle.grammar.specs.States.{read, args_to, templated_to}
 use Rattle.parser.specs.declared.demangler.Demangler.{Demangler}
-use Rattle.parser.specs.Demanglers.{state_of, memory_of, Held, PushesSub}
+use Rattle.parser.specs.Demanglers.{state_of, memory_of, Held, PushesSub, lent}
 use Rattle.parser.specs.Halves.{with_args}
 use Rattle.parser.specs.Laws.Halves.{holds_no_args}
 use Rattle.reader.specs.declared.lists.Parts.{Parts}
@@ -49,6 +49,9 @@ module _ (d : Demangler) (y : Table) (kept : (y.bytes ≡ d.args.bytes) × (y.en
 
   pub cleared_held : (σ : State) → Held d σ → Held (record d { args = y }) (with_args [] σ)
   cleared_held σ h = rw (kept.0, kept.1, none.0, none.1) (holds_no_args h)
+
+  pub cleared_lent : lent (record d { args = y }) ≡ lent d
+  cleared_lent = rw (kept.0, kept.1) refl
 
 -- the parts with arguments behind the last, after they became an entry
 pub args_kept :

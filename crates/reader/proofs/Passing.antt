@@ -51,6 +51,7 @@ pub letter_read :
 letter_read d k e i j m o h =
     record {
       symbol = h.symbol;
+      same = h.same;
       is = λ σ u t v _ _.
           by (from_text (type_inner reading) σ (letter_there d u k v e) (o (drop (d.state.at + 1) d.s.now) σ))
           (less (m u.deep) (sooner j (h.reads _ (holds_moved u (d.state.at + 1) (omega arith)))));
@@ -61,6 +62,7 @@ pub letter_refused : (d : Demangler) {c : ℕ} → (holds c (b "DNTS0123456789")
 letter_refused d o =
     record {
       symbol = refl;
+      same = refl;
       is = λ σ u t e f g. by (from_text (type_inner reading) σ (byte_there d u e) (inner_4 _ _ σ (none_there d u e f) (o g) (no_digit _ g))) refuses;
     }
 
@@ -109,7 +111,7 @@ pub parses_behind :
     Parses (λ σ. f (moved (drop (d.state.at + 1) d.s.now) σ)) (k d.state.depth) (d.state.at + 1 + 1) d d₂ r
 parses_behind {f} k {c} {d} {d₁} {d₂} {r} p h =
     let w : Parses f (k d.state.depth) (d.state.at + 1 + 1) (record d { state = record d.state { at = d.state.at + 1 } }) d₂ r = subst (λ (x : Demangler). Parses f (k x.state.depth) (x.state.at + 1) x d₂ r) p.is h in
-    record { symbol = w.symbol; reads = λ σ g. w.reads (moved (drop (d.state.at + 1) d.s.now) σ) (holds_moved g (d.state.at + 1) (omega (arith, p.past.inside))) }
+    record { symbol = w.symbol; same = w.same; reads = λ σ g. w.reads (moved (drop (d.state.at + 1) d.s.now) σ) (holds_moved g (d.state.at + 1) (omega (arith, p.past.inside))) }
 
 -- a reading, and a byte that was not ahead behind it
 pub read_stayed :

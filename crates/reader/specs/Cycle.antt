@@ -14,7 +14,7 @@ use Rattle.grammar.specs.declared.refusal.Refusal.{Refusal}
 use Rattle.grammar.specs.declared.refusal.Refusal.TheVariants.{NoRule}
 use Rattle.store.specs.Stack.{Put}
 use Rattle.parser.specs.declared.demangler.Demangler.{Demangler}
-use Rattle.parser.specs.Demanglers.{state_of, memory_of, Held, outcome}
+use Rattle.parser.specs.Demanglers.{state_of, memory_of, Held, outcome, lent}
 use Rattle.reader.specs.declared.lists.Kind.{Kind}
 use Rattle.reader.specs.declared.lists.Joined.{Joined}
 use Rattle.reader.specs.declared.lists.Parts.{Parts}
@@ -35,9 +35,10 @@ Instance f x s m m' p r =
 
 -- ---------------------------------------------------------------- the same of a demangler
 
--- the symbol stays, and A holds
+-- the symbol and the slices that were lent stay, and A holds
 pub record Kept (d d' : Demangler) (A : Type 0) : Type 0 where
   pub symbol : d'.s.now ≡ d.s.now
+  pub same : lent d' ≡ lent d
   pub is : A
 
 abbrev pub Wrapped : ℕ → Demangler → Demangler → Result ℕ Refusal → Type 0
@@ -70,6 +71,6 @@ BehindLetter c d d' r =
 
 -- a constructor or destructor that stands alone was passed over, at its first byte, and the word was put; or there is no second byte
 pub data Structor (w : Text) (d d' : Demangler) : Result ℕ Refusal → Type 0 where
-  structor : d.state.at + 2 ≤ length d.s.now → d' ≡ record d { state = record d.state { at = d.state.at + 2 }; stack = d'.stack } → Put d.stack.bytes.now d'.stack.bytes.now d.stack.top d'.stack.top w →
+  structor : d.state.at + 2 ≤ length d.s.now → d' ≡ record d { state = record d.state { at = d.state.at + 2 }; stack = d'.stack } → lent d' ≡ lent d → Put d.stack.bytes.now d'.stack.bytes.now d.stack.top d'.stack.top w →
       Structor w d d' (Ok (length w))
-  short : length d.s.now ≤ d.state.at + 1 → d'.s.now ≡ d.s.now → Structor w d d' (Err NoRule)
+  short : length d.s.now ≤ d.state.at + 1 → d'.s.now ≡ d.s.now → lent d' ≡ lent d → Structor w d d' (Err NoRule)

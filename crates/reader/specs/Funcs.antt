@@ -8,7 +8,7 @@ use Rattle.parser.specs.Holds.{Memory, Stands, Refines, keep}
 use Rattle.grammar.specs.States.{Progress, Read}
 use Rattle.grammar.specs.declared.refusal.Refusal.{Refusal}
 use Rattle.parser.specs.declared.demangler.Demangler.{Demangler}
-use Rattle.parser.specs.Demanglers.{state_of, memory_of, outcome}
+use Rattle.parser.specs.Demanglers.{state_of, memory_of, outcome, lent}
 
 -- the text of a function type that returns r and takes ts
 abbrev pub function_text : Text → List Text → Text
@@ -28,4 +28,5 @@ FuncEnd m m' p r n count x =
 
 pub record FuncEnds (d d' : Demangler) (r n count : ℕ) (x : Result ℕ Refusal) : Type 0 where
   pub others : d' ≡ record d { stack = d'.stack; subs = d'.subs }
+  pub same : lent d' ≡ lent d
   pub is : FuncEnd (memory_of d) (memory_of d') (state_of d) r n count (outcome (state_of d') x)

@@ -19,7 +19,7 @@ use Rattle.grammar.specs.Refusals.{refusal_number}
 use Rattle.store.specs.Stack.{Put, newest}
 use Rattle.store.specs.declared.stack.Stack.{Stack}
 use Rattle.parser.specs.declared.demangler.Demangler.{Demangler}
-use Rattle.parser.specs.Demanglers.{state_of, Prepared, OthersStay}
+use Rattle.parser.specs.Demanglers.{state_of, Prepared, OthersStay, lent}
 
 -- where a list of a kind goes on, what one of its texts is, and how many bytes below it are kept
 abbrev pub goes_on : Kind → Text → Bool
@@ -176,4 +176,5 @@ PreparedFor q d = Prepared d × ((q.n ≤ most_length) × ((q.last ≤ q.n) × (
 
 pub record Structors (c : ℕ) (d d' : Demangler) (q r : Parts) : Type 0 where
   pub others : OthersStay d d'
+  pub same : lent d' ≡ lent d
   pub is : CtorDtor c d.stack.bytes.now d'.stack.bytes.now (state_of d) q (Reached (state_of d') r)

@@ -79,7 +79,8 @@ impl Joined {
 impl Parts {
     // "::" behind the parts so far, if there are any.
     pub fn separate(self, stack: &mut Stack)
-        ensures { Separates self stack.old stack.new }
+        ensures same { stack.new.bytes.ghost_name ≡ stack.old.bytes.ghost_name }
+        ensures left { Separates self stack.old stack.new }
     {
         if 0 < self.count {
             stack.put(b"::");
@@ -102,7 +103,8 @@ impl Parts {
 
 // ", " behind the texts so far, if there are any: n is their number, or their bytes with two more for each of them.
 pub fn comma(stack: &mut Stack, n: usize)
-    ensures { PutsBefore n stack.old stack.new }
+    ensures same { stack.new.bytes.ghost_name ≡ stack.old.bytes.ghost_name }
+    ensures left { PutsBefore n stack.old stack.new }
 {
     if 0 < n {
         stack.put(b", ");

@@ -1,7 +1,7 @@
 -- Laws of a text without its slots. Assumes nothing.
 use Rattle.std.specs.Prelude.{Bool, true, false, cond, not, List, [], ◌∷◌, ◌++◌, ◌≡◌, refl, ℕ, suc, ◌+◌, ◌≤◌, ◌<◌, eqb, length, take, drop, get_or, set, filter}
 use Rattle.std.specs.List.{enumerate_from}
-use Rattle.std.proofs.Common.{append_assoc, sym, ap, ap₂, ◌∙◌, add-one, arith, take-suc, length-take-le, drop-cons}
+use Rattle.std.proofs.Common.{append_assoc, sym, ap, ◌∙◌, add-one, arith, take-suc, length-take-le, drop-cons}
 use Rattle.std.proofs.Math.Seq.{take-length}
 use Rattle.std.proofs.lemmas.Grind.{get_or_default_zero}
 use Rattle.std.proofs.lemmas.List.{set_at}
@@ -51,12 +51,19 @@ unfolding without_slots each
 slotless_filter [] = refl
 slotless_filter (x ∷ t) = kept x (filter no_slot t) (without_slots t) (eqb x 1) (slotless_filter t)
 
-byte_behind : (w out : Text) (i : ℕ) → i < length w → length w ≤ length out → set (take i w ++ drop i out) i (get_or w i 0) ≡ take (i + 1) w ++ drop (i + 1) out
-byte_behind w out i h l =
-    ap (λ (z : Text). set (take i w ++ z) i (get_or w i 0)) (drop-cons out i 0 (omega arith))
-    ∙ set_at (take i w) (get_or out i 0) (drop (suc i) out) (get_or w i 0) i (length-take-le i w (omega arith))
-    ∙ sym (append_assoc (take i w) (get_or w i 0 ∷ []) (drop (suc i) out))
-    ∙ ap₂ (λ (z : Text) (k : ℕ). z ++ drop k out) (sym (take-suc w i 0 h) ∙ ap (λ (k : ℕ). take k w) (sym (add-one i))) (sym (add-one i))
+-- a byte is written behind those that are there
+pub byte_behind : (w out : Text) (at x : ℕ) → at ≡ length w → at < length out → set (w ++ drop at out) at x ≡ (w ++ (x ∷ [])) ++ drop (at + 1) out
+byte_behind w out at x e h =
+    ap (λ (z : Text). set (w ++ z) at x) (drop-cons out at 0 h)
+    ∙ set_at w (get_or out at 0) (drop (suc at) out) x at (sym e)
+    ∙ ap (λ (k : ℕ). w ++ x ∷ drop k out) (sym (add-one at))
+    ∙ sym (append_assoc w (x ∷ []) (drop (at + 1) out))
+
+-- it is the next one of a text
+next_behind : (w out : Text) (i : ℕ) → i < length w → length w ≤ length out → set (take i w ++ drop i out) i (get_or w i 0) ≡ take (i + 1) w ++ drop (i + 1) out
+next_behind w out i h l =
+    byte_behind (take i w) out i (get_or w i 0) (sym (length-take-le i w (omega arith))) (omega arith)
+    ∙ ap (λ (z : Text). z ++ drop (i + 1) out) (sym (take-suc w i 0 h) ∙ ap (λ (k : ℕ). take k w) (sym (add-one i)))
 
 module _ (t : Text) where
   abbrev pub bytes_of : List (ℕ × ℕ)
@@ -74,7 +81,7 @@ module _ (t : Text) where
   module _ (out : Text) {o : Text} {i : ℕ} (e : o ≡ take i (without_slots t) ++ drop i out) where
     pub slotless_step : {at c n : ℕ} → length (without_slots t) ≤ length out → (i < length (without_slots t)) × ((at ≡ i) × (c ≡ get_or (without_slots t) i 0)) → n ≡ i + 1
         → set o at c ≡ take n (without_slots t) ++ drop n out
-    slotless_step l h f = rw (e, h.1.0, h.1.1, f) (byte_behind (without_slots t) out i h.0 l)
+    slotless_step l h f = rw (e, h.1.0, h.1.1, f) (next_behind (without_slots t) out i h.0 l)
 
     pub slotless_end : i ≡ length bytes_of → o ≡ without_slots t ++ drop (length (without_slots t)) out
     slotless_end h =

@@ -1,7 +1,7 @@
 -- Laws of the answer for a text that was read. Assumes nothing.
 use Rattle.std.specs.Prelude.{true, false, [], ◌≡◌, ℕ, ◌-◌, ◌≤◌, ◌<◌, length, take, drop, Ok, Err}
 use Rattle.std.specs.Prelude as std
-use Rattle.std.proofs.Common.{refl, sym, ap, subst, ◌∙◌, arith}
+use Rattle.std.proofs.Common.{sym, ap, subst, ◌∙◌, arith, length-drop, length-take-le}
 use borrow.Author.Tests.{le-leb, lt-leb}
 use Rattle.grammar.specs.Text.{Text, if◌then◌otherwise◌}
 use Rattle.grammar.specs.Reader.{State, Result, ok, start}
@@ -9,12 +9,11 @@ use Rattle.grammar.specs.Grammar.{reading, ended, ⟨encoding⟩}
 use Rattle.grammar.specs.Names.{named, refusal, without_slots, finished, within, mangled_name}
 use Rattle.grammar.specs.States.{fresh}
 use Rattle.grammar.specs.declared.refusal.Refusal.{Refusal}
-use Rattle.store.specs.Stack.{Stack, slots_in, newest}
+use Rattle.store.specs.Stack.{slots_in, newest}
 use Rattle.store.specs.Laws.Tails.{newest_is, top_size}
 use Rattle.parser.specs.declared.demangler.Demangler.{Demangler}
 use Rattle.parser.specs.Holds.{keep, window}
 use Rattle.parser.specs.Demanglers.{state_of, memory_of, outcome}
-use Rattle.parser.specs.Laws.Wraps.{newest_size}
 use Rattle.encoding.specs.Encodings.{Prints, Encodes, Encoded}
 use Rattle.encoding.specs.Laws.Answers.{refusal as refusal_of, Answered, answered}
 use Rattle.answer.specs.Told.{Tells}
@@ -40,8 +39,8 @@ module _ (n : ℕ) (t : Text) (σ : State) where
 
 -- ---- the text on the stack
 
-pub newest_length : {text : Text} {top : ℕ} (n : ℕ) {k : ℕ} → Stack text top → n ≤ top → k ≡ slots_in (newest text top n) → n - k ≡ length (without_slots (newest text top n))
-newest_length {text} {top} n c l e = omega (arith, e, slotless_length (newest text top n), newest_size n c l)
+pub newest_length : (text : Text) (top n : ℕ) {k : ℕ} → n ≤ top → top ≤ length text → k ≡ slots_in (newest text top n) → n - k ≡ length (without_slots (newest text top n))
+newest_length text top n a b e = omega (arith, e, slotless_length (newest text top n), length-drop (top - n) (take top text), length-take-le top text b)
 
 module _ (d : Demangler) {s : Text} {n : ℕ} {t : Text} {σ : State} (h : Prints (keep 0) s [] (memory_of d) (state_of d) n t σ) where
   on_top : (n ≤ d.stack.top) × (newest d.stack.bytes.now d.stack.top n ≡ t)
@@ -58,7 +57,7 @@ module _ (d : Demangler) {s : Text} {n : ℕ} {t : Text} {σ : State} (h : Print
   printed_text = on_top.1
 
   pub printed_length : {k : ℕ} → k ≡ slots_in (newest d.stack.bytes.now d.stack.top n) → n - k ≡ length (without_slots t)
-  printed_length e = newest_length n h.text printed_fits e ∙ ap (λ (z : Text). length (without_slots z)) printed_text
+  printed_length e = newest_length d.stack.bytes.now d.stack.top n printed_fits (omega (arith, h.text.size, h.text.most)) e ∙ ap (λ (z : Text). length (without_slots z)) printed_text
 
 -- ---- what the reading told
 
@@ -75,7 +74,7 @@ module _ (d : Demangler) (e : state_of d ≡ fresh) where
     pub tells_read : {out out' : Text} {r : std.Result ℕ Refusal} → PrintsName d' n out out' r → Tells (within (length out) (mangled_name d.s.now)) out out' r
     unfolding mangled_name
     tells_read {out} p =
-        let w = subst (λ (s : Text). Prints (keep 0) s [] (memory_of d') (state_of d') n said.said said.state) (sym (h.symbol refl)) said.prints in
+        let w = subst (λ (s : Text). Prints (keep 0) s [] (memory_of d') (state_of d') n said.said said.state) (sym h.symbol) said.prints in
         tells_as (ap (λ (x : Result Text). within (length out) (finished x)) (sym said.is)) (p said.said said.state w)
 
 pub tells_unread : {d d' : Demangler} {e : Refusal} (out : Text) → Encoded d d' (Err e) (reading ⟨encoding⟩ (start d.s.now)) → Tells (within (length out) (mangled_name d.s.now)) out out (Err e)

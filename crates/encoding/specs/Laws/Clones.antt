@@ -21,8 +21,8 @@ use Rattle.grammar.specs.Laws.Text.{starts_is}
 use Rattle.parser.specs.Holds.{Halves, Memory, mem, Puts, keep, given_of}
 use Rattle.parser.specs.Laws.Halves.{give_short, give_long}
 use Rattle.parser.specs.declared.demangler.Demangler.{Demangler}
-use Rattle.parser.specs.Demanglers.{state_of}
-use Rattle.parser.specs.Laws.Demanglers.{puts_of}
+use Rattle.parser.specs.Demanglers.{state_of, lent}
+use Rattle.parser.specs.Laws.Demanglers.{puts_of, lent_stack}
 use Rattle.parser.specs.Adds.{Adds}
 use Rattle.parser.specs.Laws.Adds.{adds_none, adds_more}
 use Rattle.encoding.specs.Encodings.{Fresh, Begun, Encodes, refuses}
@@ -137,18 +137,20 @@ module _ {s part text₀ text : Text} {p₀ p : Progress} {n : ℕ} (c : Clones 
 -- the demangler d behind each GTt of the symbol of d₀
 pub record Cloned (d₀ d : Demangler) (n : ℕ) : Type 0 where
   pub others : d ≡ record d₀ { s = d.s; stack = d.stack }
+  pub same : lent d ≡ lent d₀
   pub clones : Clones d₀.s.now d.s.now d₀.stack.bytes.now d.stack.bytes.now (state_of d₀) (state_of d) n
 
 module _ (d₀ : Demangler) where
   pub cloned_start : Cloned d₀ d₀ 0
-  cloned_start = record { others = refl; clones = clones_start d₀.s.now (stack_of d₀.stack) }
+  cloned_start = record { others = refl; same = refl; clones = clones_start d₀.s.now (stack_of d₀.stack) }
 
   module _ {d : Demangler} {n : ℕ} (c : Cloned d₀ d n) where
     pub cloned_more :
         (rest : Bor Text) (x : Stacked) {n' : ℕ} → pointwise nat_eq (take 3 d.s.now) (71 ∷ 84 ∷ 116 ∷ []) ≡ true → rest.now ≡ drop 3 d.s.now →
-        Put d.stack.bytes.now x.bytes.now d.stack.top x.top clone → n' ≡ min (n + 22) most_length → Cloned d₀ (record d { s = rest; stack = x }) n'
-    cloned_more rest x e i u z = record {
+        Put d.stack.bytes.now x.bytes.now d.stack.top x.top clone → x.bytes.ghost_name ≡ d.stack.bytes.ghost_name → n' ≡ min (n + 22) most_length → Cloned d₀ (record d { s = rest; stack = x }) n'
+    cloned_more rest x e i u v z = record {
       others = ap (λ (y : Demangler). record y { s = rest; stack = x }) c.others;
+      same = lent_stack d x v ∙ c.same;
       clones = clones_more c.clones (sym (strip_starts d.s.now (71 ∷ 84 ∷ 116 ∷ [])) ∙ e) i (puts_of d x u) z;
     }
 

@@ -30,12 +30,12 @@ use Rattle.encoding.specs.Encodings.{qualified_by, Qualifies, LoneVoid}
 
 -- ---------------------------------------------------------------- where a name ends
 
-ended_end : (t : Text) → peeked t ≡ peeked_as.None → ended t ≡ true
+pub ended_end : (t : Text) → peeked t ≡ peeked_as.None → ended t ≡ true
 unfolding ended same
 ended_end [] e = refl
 ended_end (x ∷ t) e = let z : ◌≡◌ {A = ℕ} 0 1 = cc in absurd (omega arith)
 
-ended_byte : (t : Text) {c : ℕ} → peeked t ≡ peeked_as.Some c → ended t ≡ eqb c 46
+pub ended_byte : (t : Text) {c : ℕ} → peeked t ≡ peeked_as.Some c → ended t ≡ eqb c 46
 unfolding ended same starts b
 ended_byte [] e = let z : ◌≡◌ {A = ℕ} 0 1 = cc in absurd (omega arith)
 ended_byte (x ∷ t) {c} e =

@@ -17,8 +17,8 @@ use Rattle.store.specs.Stack.{Put}
 use Rattle.store.specs.declared.stack.Stack.{Stack}
 use Rattle.parser.specs.Holds.{Holds, window, keep}
 use Rattle.parser.specs.declared.demangler.Demangler.{Demangler}
-use Rattle.parser.specs.Demanglers.{state_of, memory_of, Held, Prepared, at_place, Eats, eats, stays, Needs, needs, lacks, outcome, given_length, Parses}
-use Rattle.parser.specs.Laws.Demanglers.{held_at, puts_of, reads_of, given_by}
+use Rattle.parser.specs.Demanglers.{state_of, memory_of, Held, Prepared, at_place, Eats, eats, stays, Needs, needs, lacks, outcome, given_length, Parses, lent}
+use Rattle.parser.specs.Laws.Demanglers.{held_at, puts_of, reads_of, given_by, lent_stack}
 use Rattle.parser.specs.Laws.Holds.{holds_puts}
 use Rattle.encoding.specs.Encodings.{Begun, Encodes, refuses, Encoded, Stepped, past, stopped, StepsOver, two_offsets}
 use Rattle.encoding.specs.Laws.Answers.{encodes_by, encodes_refines}
@@ -53,9 +53,16 @@ pub record Place (d d' : Demangler) (σ : State) (x : Result (Unit {0})) : Type 
   pub next : d' ≡ at_place d at
   pub is : x ≡ ok tt (moved (drop at d.s.now) σ)
 
+-- d' is d at another place, and there the grammar's x ends with e
+pub record Nowhere (d d' : Demangler) (x : Result (Unit {0})) (e : Refusal) : Type 0 where
+  pub at : ℕ
+  pub next : d' ≡ at_place d at
+  pub is : x ≡ refused 4
+  pub why : e ≡ NoRule
+
 module _ {d d' : Demangler} {σ : State} {x : Result (Unit {0})} where
-  stepped_none : {e : Refusal} → Stepped d d' σ x (Err e) → (x ≡ refused 4) × (e ≡ NoRule)
-  stepped_none (stopped c) = (c, refl)
+  stepped_none : {e : Refusal} → Stepped d d' σ x (Err e) → Nowhere d d' x e
+  stepped_none (stopped {at} a c) = record { at = at; next = a; is = c; why = refl }
 
   stepped_next : {u : Unit {0}} → Stepped d d' σ x (Ok u) → Place d d' σ x
   unfolding go_to
@@ -65,7 +72,7 @@ module _ {d d' : Demangler} {σ : State} {x : Result (Unit {0})} where
   stepped_from : {at : ℕ} {r : Result' (Unit {0}) Refusal} → Stepped (at_place d at) d' (moved (drop at d.s.now) σ) x r → Stepped d d' σ x r
   unfolding go_to
   stepped_from (past l a c) = past l a c
-  stepped_from (stopped c) = stopped c
+  stepped_from (stopped {at} a c) = stopped {at = at} a c
 
 -- ---------------------------------------------------------------- offsets
 
@@ -91,13 +98,13 @@ module _ (s : Text) (at : ℕ) (σ : State) (e : σ.rest ≡ drop at s) {end : �
     unfolding b go_to
     digits_closed g = by_end ∙ need_here "_" s end (moved (drop end s) σ) refl g
 
-module _ {d d' : Demangler} {end : ℕ} (n : end ≡ d.state.at + length (run (digit 10) (drop d.state.at d.s.now))) where
-  unsigned_none : end ≡ d.state.at → StepsOver unsigned d d' (Err NoRule)
-  unsigned_none h σ e = stopped (no_digits d.s.now d.state.at σ e n h)
+module _ {d : Demangler} {end : ℕ} (n : end ≡ d.state.at + length (run (digit 10) (drop d.state.at d.s.now))) where
+  pub unsigned_none : end ≡ d.state.at → StepsOver unsigned d d (Err NoRule)
+  unsigned_none h σ e = stopped {at = d.state.at} refl (no_digits d.s.now d.state.at σ e n h)
 
-  unsigned_ate : {r : Result' (Unit {0}) Refusal} → (end ≡ d.state.at → ⊥) → Needs 95 (at_place d end) d' r → StepsOver unsigned d d' r
+  pub unsigned_ate : {d' : Demangler} {r : Result' (Unit {0}) Refusal} → (end ≡ d.state.at → ⊥) → Needs 95 (at_place d end) d' r → StepsOver unsigned d d' r
   unsigned_ate h (needs g f) σ e = past {at = end + 1} (omega (arith, starts_inside d.s.now end 95 g)) f (digits_closed d.s.now d.state.at σ e n h g)
-  unsigned_ate h (lacks g f) σ e = stopped (digits_open d.s.now d.state.at σ e n h g)
+  unsigned_ate h (lacks g f) σ e = stopped {at = end} f (digits_open d.s.now d.state.at σ e n h g)
 
 offset_behind : {d d₁ d₂ : Demangler} {q : Bool} {r : Result' (Unit {0}) Refusal} → Eats 110 d d₁ q → StepsOver unsigned d₁ d₂ r → StepsOver offset d d₂ r
 unfolding offset onto b
@@ -108,22 +115,22 @@ offset_behind {d} {d₁} {d₂} {r = r} (eats h e) f σ i =
     let k = subst (λ (x : Demangler). StepsOver unsigned x d₂ r) e f (moved (drop (d.state.at + 1) d.s.now) σ) refl in
     subst (λ (x : Result (Unit {0})). Stepped d d₂ σ x r) (sym (ap (onto (λ _. unsigned)) (eat_here "n" d.s.now d.state.at σ i h))) (stepped_from k)
 
-module _ {d d₁ d₂ : Demangler} {q : Bool} {end : ℕ} (e : Eats 110 d d₁ q) (n : end ≡ d₁.state.at + length (run (digit 10) (drop d₁.state.at d₁.s.now))) where
-  pub offset_none : end ≡ d₁.state.at → StepsOver offset d d₂ (Err NoRule)
+module _ {d d₁ : Demangler} {q : Bool} {end : ℕ} (e : Eats 110 d d₁ q) (n : end ≡ d₁.state.at + length (run (digit 10) (drop d₁.state.at d₁.s.now))) where
+  pub offset_none : end ≡ d₁.state.at → StepsOver offset d d₁ (Err NoRule)
   offset_none h = offset_behind e (unsigned_none n h)
 
-  pub offset_ate : {r : Result' (Unit {0}) Refusal} → (end ≡ d₁.state.at → ⊥) → Needs 95 (at_place d₁ end) d₂ r → StepsOver offset d d₂ r
+  pub offset_ate : {d₂ : Demangler} {r : Result' (Unit {0}) Refusal} → (end ≡ d₁.state.at → ⊥) → Needs 95 (at_place d₁ end) d₂ r → StepsOver offset d d₂ r
   offset_ate h f = offset_behind e (unsigned_ate n h f)
 
 -- two offsets, one after the other
 module _ {d d₁ : Demangler} where
-  no_offset : {d₂ : Demangler} {e : Refusal} → StepsOver offset d d₁ (Err e) → StepsOver two_offsets d d₂ (Err e)
+  pub no_offset : {e : Refusal} → StepsOver offset d d₁ (Err e) → StepsOver two_offsets d d₁ (Err e)
   unfolding onto
-  no_offset {d₂} {e} g σ h =
+  no_offset {e} g σ h =
       let z = stepped_none (g σ h) in
-      subst (λ (x : Refusal). Stepped d d₂ σ (two_offsets σ) (Err x)) (sym z.1) (stopped (ap (onto (λ _. offset)) z.0))
+      subst (λ (x : Refusal). Stepped d d₁ σ (two_offsets σ) (Err x)) (sym z.why) (stopped {at = z.at} z.next (ap (onto (λ _. offset)) z.is))
 
-  next_offset : {d₂ : Demangler} {u : Unit {0}} {r : Result' (Unit {0}) Refusal} → StepsOver offset d d₁ (Ok u) → StepsOver offset d₁ d₂ r → StepsOver two_offsets d d₂ r
+  pub next_offset : {d₂ : Demangler} {u : Unit {0}} {r : Result' (Unit {0}) Refusal} → StepsOver offset d d₁ (Ok u) → StepsOver offset d₁ d₂ r → StepsOver two_offsets d d₂ r
   unfolding onto
   next_offset {d₂} {r = r} g f σ h =
       let z = stepped_next (g σ h) in
@@ -183,8 +190,8 @@ module _ {d : Demangler} (w : Text) {f : Reader (Unit {0})} (row : rows (start d
   unfolding onto
   unlabelled_by {d'} {e} g =
       let z = stepped_none (g (opened d.s.now) refl) in
-      subst (λ (x : Refusal). Encoded d d' (Err x) (rows (start d.s.now))) (sym z.1)
-      (record { symbol = λ i. cc; is = encodes_by (row ∙ ap (onto (λ _. labelled w base)) z.0) refuses })
+      subst (λ (x : Refusal). Encoded d d' (Err x) (rows (start d.s.now))) (sym z.why)
+      (record { symbol = ap (λ (x : Demangler). x.s.now) z.next; same = ap lent z.next; is = encodes_by (row ∙ ap (onto (λ _. labelled w base)) z.is) refuses })
 
 module _ (d : Demangler) where
   module _ (e : starts d.s.now (84 ∷ 104 ∷ []) ≡ true) where
@@ -211,7 +218,7 @@ module _ (d : Demangler) where
 pub plain_encoded : {d d' : Demangler} {r : Result' ℕ Refusal} → length d.s.now ≤ most_text_bytes → Begun d → starts d.s.now (84 ∷ 104 ∷ []) ≡ false →
     starts d.s.now (84 ∷ 118 ∷ []) ≡ false →
     Parses base (keep d.state.depth) (d.state.at + 1) d d' r → Encoded d d' r (rows (start d.s.now))
-plain_encoded {d} l h e f g = record { symbol = λ j. g.symbol; is = encodes_by (no_thunk d.s.now e f) (encodes_refines (omega arith) (g.reads (start d.s.now) (fresh_holds l h))) }
+plain_encoded {d} l h e f g = record { symbol = g.symbol; same = g.same; is = encodes_by (no_thunk d.s.now e f) (encodes_refines (omega arith) (g.reads (start d.s.now) (fresh_holds l h))) }
 
 module _ {d d' : Demangler} {w : Text} (l : length d.s.now ≤ most_text_bytes) (h : Begun d) (i : Labelled d d' w) where
   abbrev there : State
@@ -227,13 +234,16 @@ module _ {d d' : Demangler} {w : Text} (l : length d.s.now ≤ most_text_bytes) 
   labelled_holds = subst (λ (t : Text). Holds t (memory_of d') (state_of d') there) labelled_symbol labelled_held
 
   -- the word is put, and a reading goes on behind it
-  module _ (x : Stack) (u : Put d'.stack.bytes.now x.bytes.now d'.stack.top x.top w) where
+  module _ (x : Stack) (u : Put d'.stack.bytes.now x.bytes.now d'.stack.top x.top w) (n : x.bytes.ghost_name ≡ d'.stack.bytes.ghost_name) where
     pub put_prepared : Prepared (record d' { stack = x })
     put_prepared = (there, holds_puts (puts_of d' x u) labelled_held)
 
+    put_lent : lent (record d' { stack = x }) ≡ lent d
+    put_lent = lent_stack d' x n ∙ ap lent i.next
+
     module _ {d₂ : Demangler} where
       pub labelled_refused : {e : Refusal} → Parses base (keep d'.state.depth) (d'.state.at + 1) (record d' { stack = x }) d₂ (Err e) → Encoded d d₂ (Err e) (rows (start d.s.now))
-      labelled_refused g = record { symbol = λ j. cc; is = encodes_by i.is (behind_refused labelled_holds (puts_of d' x u) (reads_of labelled_symbol g) refl) }
+      labelled_refused g = record { symbol = g.symbol ∙ labelled_symbol; same = g.same ∙ put_lent; is = encodes_by i.is (behind_refused labelled_holds (puts_of d' x u) (reads_of labelled_symbol g) refl) }
 
       pub labelled_short : {n : ℕ} → Parses base (keep d'.state.depth) (d'.state.at + 1) (record d' { stack = x }) d₂ (Ok n) → n ≤ most_text_bytes
       labelled_short g = let v = (behind_got labelled_holds (puts_of d' x u) (reads_of labelled_symbol g) refl).wrote in omega (arith, v.size, v.short)
@@ -241,7 +251,8 @@ module _ {d d' : Demangler} {w : Text} (l : length d.s.now ≤ most_text_bytes) 
       pub labelled_given : {n : ℕ} {r : Result' ℕ Refusal} → Parses base (keep d'.state.depth) (d'.state.at + 1) (record d' { stack = x }) d₂ (Ok n) → r ≡ given_length (n + length w) →
           Encoded d d₂ r (rows (start d.s.now))
       labelled_given {n} {r} g e = record {
-        symbol = λ j. g.symbol ∙ labelled_symbol;
+        symbol = g.symbol ∙ labelled_symbol;
+        same = g.same ∙ put_lent;
         is = encodes_by i.is
             (subst (λ (y : Demangler). Encodes (keep 0) d.s.now (window (memory_of y) (state_of y)) (memory_of d₂) (outcome (state_of d₂) r) (labelled w base there)) i.next
             (behind_given labelled_holds (puts_of d' x u) (reads_of labelled_symbol g) (omega arith) i.fits refl (given_by (state_of d₂) (n + length w) e)));

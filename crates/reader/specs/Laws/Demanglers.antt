@@ -11,7 +11,7 @@ use Rattle.grammar.specs.States as states
 use Rattle.grammar.specs.declared.refusal.Refusal.{Refusal}
 use Rattle.grammar.specs.declared.refusal.Refusal.TheVariants.{TooDeep}
 use Rattle.parser.specs.declared.demangler.Demangler.{Demangler}
-use Rattle.parser.specs.Demanglers.{state_of, memory_of, Held, Prepared, at_depth, Enters, outcome, Parses}
+use Rattle.parser.specs.Demanglers.{state_of, memory_of, Held, Prepared, at_depth, Enters, outcome, Parses, lent}
 use Rattle.parser.specs.Holds.{Holds, Reads, window, keep}
 use Rattle.parser.specs.Laws.Demanglers.{deeper_by_one, went_in, stayed_out, prepared_deeper}
 use Rattle.parser.specs.Laws.Holds.{Got, got}
@@ -58,6 +58,7 @@ module _ (k : Production) (f : Reader Text) (opens : (σ : State) → g.producti
       let w = stayed_out h in
       record {
         symbol = ap (λ (x : Demangler). x.s.now) w.is;
+        same = ap lent w.is;
         reads = too_deep k f opens (ap (λ (x : Refusal). Refused x) w.why_is ∙ refused_entered (state_of d) w.so) refl;
       }
 
@@ -71,7 +72,7 @@ module _ (k : Production) (f : Reader Text) (opens : (σ : State) → g.producti
     pub refused_parses : {e : Refusal} → Parses f (keep d₁.state.depth) (d₁.state.at + 1) d₁ d₂ (Err e) → Parses (reading k) (keep (d.state.depth + 1)) (d.state.at + 1) d d₂ (Err e)
     refused_parses h =
         let w = inner_parses h in
-        record { symbol = w.symbol; reads = still_refused k f opens {p = state_of d} (went_in i).0 refl w.reads refl }
+        record { symbol = w.symbol; same = w.same; reads = still_refused k f opens {p = state_of d} (went_in i).0 refl w.reads refl }
 
     pub read_parses :
         {d₃ : Demangler} {n : ℕ} → d₃ ≡ at_depth d₂ d.state.depth → Parses f (keep d₁.state.depth) (d₁.state.at + 1) d₁ d₂ (Ok n) →
@@ -79,4 +80,4 @@ module _ (k : Production) (f : Reader Text) (opens : (σ : State) → g.producti
     read_parses {n = n} e h =
         let w = inner_parses h in
         subst (λ (x : Demangler). Parses (reading k) (keep (d.state.depth + 1)) (d.state.at + 1) d x (Ok n)) (sym e)
-        (record { symbol = w.symbol; reads = left_again k f opens {p = state_of d} (went_in i).0 refl w.reads refl refl })
+        (record { symbol = w.symbol; same = w.same; reads = left_again k f opens {p = state_of d} (went_in i).0 refl w.reads refl refl })

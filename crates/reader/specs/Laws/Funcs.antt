@@ -91,7 +91,7 @@ void_text [] e = let z : ◌≡◌ {A = ℕ} 0 1 = cc in absurd (omega arith)
 void_text (t ∷ []) e = let h : T (same t (b "void")) = rw e tt in same→eq t (b "void") h
 void_text (t ∷ u ∷ ts) e = let z : ◌≡◌ {A = ℕ} 0 1 = cc in absurd (omega arith)
 
-only_one : (ts : List Text) → length ts ≡ 1 → only_void ts ≡ same (join (b ", ") ts) (b "void")
+pub only_one : (ts : List Text) → length ts ≡ 1 → only_void ts ≡ same (join (b ", ") ts) (b "void")
 unfolding only_void join
 only_one [] e = absurd (omega arith)
 only_one (t ∷ []) e = refl

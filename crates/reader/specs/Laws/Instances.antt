@@ -7,7 +7,7 @@ use Rattle.grammar.specs.Grammar.{reading, ⟨template-args⟩, name_args, name_
 use Rattle.store.specs.Laws.Entries.{entries_sized, no_entries}
 use Rattle.store.specs.declared.table.Table.{Table}
 use Rattle.parser.specs.declared.demangler.Demangler.{Demangler}
-use Rattle.parser.specs.Demanglers.{state_of, memory_of, Held}
+use Rattle.parser.specs.Demanglers.{state_of, memory_of, Held, lent}
 use Rattle.parser.specs.Holds.{Holds, Stands, window}
 use Rattle.parser.specs.Laws.Halves.{holds_args}
 use Rattle.parser.specs.Laws.Holds.{holds_templated}
@@ -29,6 +29,7 @@ at_S_is false σ = s_type_is σ
 -- d' is d in the state that f gives, and the stack is the same
 pub record Passes (f : State → State) (d d' : Demangler) : Type 0 where
   pub others : d' ≡ record d { state = record d.state { templated = d'.state.templated }; args = d'.args }
+  pub same : lent d' ≡ lent d
   pub holds : (σ : State) → Held d σ → Holds d.s.now (memory_of d') (state_of d') (f σ)
 
 -- a text that stands goes on standing
@@ -40,13 +41,14 @@ passed {d = d} {σ = σ} c h =
     (omega (arith, h.more, ap (λ (x : Demangler). x.state.at) c.others))
 
 pub passes_none : (d : Demangler) {f : State → State} → ((σ : State) → f σ ≡ σ) → Passes f d d
-passes_none d e = record { others = refl; holds = λ σ h. subst (λ (x : State). Held d x) (sym (e σ)) h }
+passes_none d e = record { others = refl; same = refl; holds = λ σ h. subst (λ (x : State). Held d x) (sym (e σ)) h }
 
 pub passes_bare : (d : Demangler) (x : Table) → (x.bytes ≡ d.args.bytes) × (x.ends ≡ d.args.ends) → (x.count ≡ 0) × (x.used ≡ 0) → Passes (bare true) d (record d { args = x })
 passes_bare d x e f = record {
   others = refl;
+  same = rw (e.0, e.1) refl;
   holds = λ σ h. holds_args h (rw (e.0, e.1, f.0, f.1) (no_entries (entries_sized h.args)));
 }
 
 pub passes_marked : (d : Demangler) → Passes (marked true) d (record d { state = record d.state { templated = true } })
-passes_marked d = record { others = refl; holds = λ σ h. holds_templated h true }
+passes_marked d = record { others = refl; same = refl; holds = λ σ h. holds_templated h true }

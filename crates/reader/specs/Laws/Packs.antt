@@ -155,7 +155,7 @@ packed_start {s} {m} {p} {outer} {level} {σ} h z = record {
   same = pack_is σ;
 }
 
-opens_J : (level c : ℕ) → opens_pack level c ≡ true → (c ≡ 74) × (level < 64)
+pub opens_J : (level c : ℕ) → opens_pack level c ≡ true → (c ≡ 74) × (level < 64)
 opens_J level c e = go (c == 74) (nat_lt level 64) refl refl e
   where
     go : (q r : Bool) → (c == 74) ≡ q → nat_lt level 64 ≡ r → (q && r) ≡ true → (c ≡ 74) × (level < 64)

@@ -1,7 +1,7 @@
 use Rattle.std.proofs.Common.{length, refl, ap, ◌∙◌, arith}
 use Rattle.std.proofs.lemmas.Result.{err_from_is_err_and}
 use Rattle.grammar.specs.Text.{b}
-use Rattle.parser.specs.Laws.Demanglers.{puts_of, cuts_of, given_ok, given_err}
+use Rattle.parser.specs.Laws.Demanglers.{puts_of, cuts_of, given_ok, given_err, lent_stack}
 use Rattle.encoding.specs.Laws.Functions.{void_from, qualified_from, list, list_least, void_room, items_refused, void_given, list_long, list_given}
 use Rattle.encoding.proofs.functions.function.Goals as goal
 
@@ -12,6 +12,7 @@ returns-in_err-list c =
     let z = puts_of c.args.d.now c.put.new.self c.put.ensures.left in
     rw (p.1, p.2) (record {
       symbol = c.in_err-list.ensures.symbol;
+      same = c.in_err-list.ensures.same ∙ lent_stack c.args.d.now c.put.new.self c.put.ensures.same;
       is = λ base at t σ h. items_refused z c.in_err-list.ensures.is c.args.cv.from c.args.cv.to h refl refl;
     })
 
@@ -39,6 +40,7 @@ returns-then-lone_void c =
     let w = puts_of (record c.items.new.d { stack = c.cut.new.self }) c.put-then-lone_void.new.self c.put-then-lone_void.ensures.left in
     record {
       symbol = c.qualified.ensures.symbol ∙ e;
+      same = c.qualified.ensures.same ∙ lent_stack c.items.new.d c.put-then-lone_void.new.self (c.put-then-lone_void.ensures.same ∙ c.cut.ensures.same) ∙ c.in_ok-list.ensures.same ∙ lent_stack c.args.d.now c.put.new.self c.put.ensures.same;
       is = λ base at t σ h.
           void_given z c.in_ok-list.ensures.is c.args.cv.from c.args.cv.to h c.requires.1.0 refl v u w
           (qualified_from (record c.items.new.d { stack = c.put-then-lone_void.new.self }) e c.args.cv _ c.qualified.ensures);
@@ -54,6 +56,7 @@ returns-in_err-m c =
     let g = given_err c.in_ok-list.list.n c.in_err-m.ensures in
     rw (p.1, p.2, g.1) (record {
       symbol = e;
+      same = c.in_ok-list.ensures.same ∙ lent_stack c.args.d.now c.put.new.self c.put.ensures.same;
       is = λ base at t σ h. list_long z c.in_ok-list.ensures.is c.args.cv.from c.args.cv.to h c.requires.1.0 refl v g.0;
     })
 
@@ -82,6 +85,7 @@ returns c =
     let w = puts_of c.items.new.d c.put-2.new.self c.put-2.ensures.left in
     record {
       symbol = c.qualified-2.ensures.symbol ∙ e;
+      same = c.qualified-2.ensures.same ∙ lent_stack c.items.new.d c.put-2.new.self c.put-2.ensures.same ∙ c.in_ok-list.ensures.same ∙ lent_stack c.args.d.now c.put.new.self c.put.ensures.same;
       is = λ base at t σ h.
           list_given z c.in_ok-list.ensures.is c.args.cv.from c.args.cv.to h c.requires.1.0 refl v g.0 w
           (rw (← g.1) (qualified_from (record c.items.new.d { stack = c.put-2.new.self }) e c.args.cv _ c.qualified-2.ensures));

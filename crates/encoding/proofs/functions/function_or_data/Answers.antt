@@ -12,7 +12,7 @@ pub returns-in_err-n : goal.returns-in_err-n
 returns-in_err-n c =
     let p = err_from_is_err_and c.from_residual.result c.from_residual.ensures.1 in
     let k = c.in_err-n.ensures in
-    rw (p.1, p.2) (record { symbol = k.symbol; reads = λ σ h. name_refused k.reads h refl })
+    rw (p.1, p.2) (record { symbol = k.symbol; same = k.same; reads = λ σ h. name_refused k.reads h refl })
 
 pub qualified-requires : goal.qualified-requires
 qualified-requires c =
@@ -26,6 +26,7 @@ returns-then-ended c =
     let k = c.in_ok-n.ensures in
     record {
       symbol = c.qualified.ensures.symbol ∙ k.symbol;
+      same = c.qualified.ensures.same ∙ k.same;
       reads = λ σ h. name_over k.reads h refl refl (ap (λ (x : Text). ended (drop c.name.new.d.state.at x)) (sym k.symbol) ∙ sym c.ended.ensures ∙ c.if-ended.true)
           (qualified_from (record c.name.new.d { state = record c.name.new.d.state { cv = record { from = 0; to = 0 } } }) k.symbol c.name.new.d.state.cv _ c.qualified.ensures);
     }
@@ -43,6 +44,7 @@ returns-then-d c =
     let k = c.in_ok-n.ensures in
     record {
       symbol = c.template_function.ensures.symbol ∙ k.symbol;
+      same = c.template_function.ensures.same ∙ k.same;
       reads = λ σ h. name_templated k.reads h refl refl (ap (λ (x : Text). ended (drop c.name.new.d.state.at x)) (sym k.symbol) ∙ sym c.ended.ensures ∙ c.if-ended.false) c.if-d.true
           (going_from (record c.name.new.d { state = record c.name.new.d.state { cv = record { from = 0; to = 0 } } }) k.symbol c.name.new.d.state.cv _ with_returned c.template_function.ensures);
     }
@@ -60,6 +62,7 @@ returns c =
     let k = c.in_ok-n.ensures in
     record {
       symbol = c.function.ensures.symbol ∙ k.symbol;
+      same = c.function.ensures.same ∙ k.same;
       reads = λ σ h. name_plain k.reads h refl refl (ap (λ (x : Text). ended (drop c.name.new.d.state.at x)) (sym k.symbol) ∙ sym c.ended.ensures ∙ c.if-ended.false) c.if-d.false
           (going_from (record c.name.new.d { state = record c.name.new.d.state { cv = record { from = 0; to = 0 } } }) k.symbol c.name.new.d.state.cv _ with_parameters c.function.ensures);
     }

@@ -11,7 +11,7 @@ pub returns-in_err-r : goal.returns-in_err-r
 returns-in_err-r c =
     let p = err_from_is_err_and c.from_residual.result c.from_residual.ensures.1 in
     let k = c.in_err-r.ensures in
-    rw (p.1, p.2) (record { symbol = k.symbol; is = λ base at t σ h. type_refused k.reads c.args.cv.from c.args.cv.to h refl })
+    rw (p.1, p.2) (record { symbol = k.symbol; same = k.same; is = λ base at t σ h. type_refused k.reads c.args.cv.from c.args.cv.to h refl })
 
 pub turned-requires : goal.turned-requires
 turned-requires c =
@@ -32,6 +32,7 @@ returns c =
     let e = ap (λ (x : Demangler). x.s.now) c.turned.ensures.others ∙ k.symbol in
     record {
       symbol = c.function.ensures.symbol ∙ e;
+      same = c.function.ensures.same ∙ c.turned.ensures.same ∙ k.same;
       is = λ base at t σ h.
           type_returned k.reads c.args.cv.from c.args.cv.to h c.requires.1.0 refl (λ x y τ i j. turns_stands c.turned.ensures x y i j)
           (going_from c.turned.new.self e c.args.cv _ with_parameters c.function.ensures);

@@ -60,23 +60,23 @@ pub function_or_data-requires-2 : goal.function_or_data-requires-2
 unfolding b
 function_or_data-requires-2 c =
     let l = labelled (goal.at.function_or_data-requires-2 c).After-put in
-    put_prepared c.requires.0 c.requires.1 l c.put.new.self c.put.ensures.left
+    put_prepared c.requires.0 c.requires.1 l c.put.new.self c.put.ensures.left c.put.ensures.same
 
 pub returns-in_err-n : goal.returns-in_err-n
 unfolding b
 returns-in_err-n c =
     let l = labelled (goal.at.returns-in_err-n c).After-put in
     let p = err_from_is_err_and c.from_residual-in_err-n.result c.from_residual-in_err-n.ensures.1 in
-    rw (p.1, p.2) (labelled_refused c.requires.0 c.requires.1 l c.put.new.self c.put.ensures.left c.in_err-n.ensures)
+    rw (p.1, p.2) (labelled_refused c.requires.0 c.requires.1 l c.put.new.self c.put.ensures.left c.put.ensures.same c.in_err-n.ensures)
 
 pub overflow_add-n : goal.overflow_add-n
 unfolding b
 overflow_add-n c =
     let l = labelled (goal.at.overflow_add-n c).After-put in
-    omega (arith, labelled_short c.requires.0 c.requires.1 l c.put.new.self c.put.ensures.left c.in_ok-n.ensures, l.fits)
+    omega (arith, labelled_short c.requires.0 c.requires.1 l c.put.new.self c.put.ensures.left c.put.ensures.same c.in_ok-n.ensures, l.fits)
 
 pub returns : goal.returns
 unfolding b
 returns c =
     let l = labelled (goal.at.returns c).After-put in
-    labelled_given c.requires.0 c.requires.1 l c.put.new.self c.put.ensures.left c.in_ok-n.ensures c.given.ensures
+    labelled_given c.requires.0 c.requires.1 l c.put.new.self c.put.ensures.left c.put.ensures.same c.in_ok-n.ensures c.given.ensures

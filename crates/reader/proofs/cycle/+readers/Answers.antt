@@ -10,8 +10,8 @@ use Rattle.grammar.specs.Laws.Steps.{at_code_yes, at_code_no, from_text, same_fr
 use Rattle.grammar.specs.Laws.Steps.{inner_u, inner_wrapper}
 use Rattle.parser.specs.declared.demangler.Demangler.{Demangler}
 use Rattle.parser.specs.Holds.{reads, refuses, keep, part, Puts, Refines, window}
-use Rattle.parser.specs.Demanglers.{state_of, memory_of, Held, at_place, outcome, Prepared, given_length, Parses, Eats, at_depth}
-use Rattle.parser.specs.Laws.Demanglers.{Passed, puts_of, outcome_given, took, took_none, ate, ate_none, needed, lacked, lacked_parses, parses_as, parses_none, held_at, prepared_at}
+use Rattle.parser.specs.Demanglers.{state_of, memory_of, Held, at_place, outcome, Prepared, given_length, Parses, Eats, at_depth, lent}
+use Rattle.parser.specs.Laws.Demanglers.{Passed, puts_of, outcome_given, took, took_none, ate, ate_none, needed, lacked, lacked_parses, parses_as, parses_none, held_at, prepared_at, lent_stack}
 use Rattle.parser.specs.Laws.Demanglers.{gives_word, done, given_by, given_ok, given_err, went_in}
 use Rattle.parser.specs.Laws.Halves.{newest_part, give_short}
 use Rattle.parser.specs.Laws.Holds.{by, sooner, less, holds_moved, got, refused_on, answers, short_enough, holds_puts}
@@ -29,7 +29,7 @@ use Rattle.reader.proofs.TypeHeads.{spelled_is, spelled_not, digit_head, left_ov
 use Rattle.reader.proofs.Passing.{letter_read, letter_refused, byte_there, none_there, passed_stands, parses_from, passed_from, two_is, two_inside, two_second, none_left, put_at}
 use Rattle.reader.proofs.Passing.{parses_put, parses_behind, read_stayed, given_behind}
 use Rattle.reader.proofs.Spacings.{items_from, no_items_from, peeked_from, item_from}
-use Rattle.reader.proofs.Names.{bared, bared_not, marked_too, marked_not, std-rest, std-inside, std-open, structor_symbol, structor_alone}
+use Rattle.reader.proofs.Names.{bared, bared_not, marked_too, marked_not, std-rest, std-inside, std-open, structor_symbol, structor_alone, structor_same}
 use Rattle.reader.specs.Laws.Arrays.{byte_at, byte_is, byte_inside, no_byte, array_4, array_in, array_given, part_size, no_name_code}
 use Rattle.reader.specs.Laws.Heads.{no_letter, Row_of, lettered_row, between_row, no_head, digit_in, digit_not}
 use Rattle.reader.proofs.cycle.+readers.Goals.{type_inner-in_default-c-via-then-c-lt48, type_inner-in_default-c-via-else-c-lt48+else-c-lt58, behind_letter-in-67-1}
@@ -44,13 +44,13 @@ use Rattle.reader.specs.Laws.Closes.{skips_to, skips_none}
 use Rattle.grammar.specs.Laws.NameSteps.{name_N, name_S, name_L, name_Z, name_other, name_end, unqualified_C, unqualified_D, unqualified_C_4, unqualified_D_4}
 use Rattle.reader.specs.Laws.Lits.{local_none, local_refused, local_got, local_string, local_name_ready, local_name_refused, local_name_got, local_given, lit_none, lit_name_refused}
 use Rattle.reader.specs.Laws.Lits.{lit_type_refused, lit_type_got, lit_open, lit_ready, lit_given}
-use Rattle.reader.proofs.Parts.{structor_parts, parts_kept, args_kept, cleared_state, cleared_held}
+use Rattle.reader.proofs.Parts.{structor_parts, parts_kept, args_kept, cleared_state, cleared_held, cleared_lent}
 use Rattle.reader.proofs.Literals.{name_primary, printed_from}
 use Rattle.grammar.specs.States.{read, peeked}
 use Rattle.reader.specs.Laws.LocFns.{fn_refused, fn_bare, fn_items_ready, fn_items_refused, fn_long, fn_open, fn_given}
 use Rattle.reader.specs.Laws.Opers.{unq_ready, unq_end, unq_U, unq_digit, unq_operator, operator_short, operator_word, operator_no_c, operator_no_v, oper_holds, oper_refused, oper_typed}
 use Rattle.reader.specs.Laws.Nested.{nested_4, prefixing_start}
-use Rattle.reader.proofs.Nested.{symbol_behind, nested_ends, nested_ready, nested_closes, nested_refuses, nested_nearer, nested_more, nested_further}
+use Rattle.reader.proofs.Nested.{symbol_behind, nested_ends, nested_ready, nested_closes, nested_refuses, nested_nearer, nested_more, nested_further, same_behind}
 use Rattle.std.specs.Prelude.{Some, None, not, ◌==◌}
 use Rattle.grammar.specs.Limits.{most_text_bytes}
 use Rattle.parser.specs.Halves.{with_args}
@@ -92,7 +92,7 @@ pub type_inner-returns-in_err-c : goal.type_inner-returns-in_err-c
 type_inner-returns-in_err-c t c =
     let p = err_from_is_err_and c.from_residual.result c.from_residual.ensures.1 in
     let f = given_none c.peek.result _ c.in_err-c.ensures.value in
-    rw (p.1, p.2, f.1) (record { symbol = refl; reads = λ σ h. by (from_text (type_inner reading) σ (no_byte h c.peek.ensures f.0) (inner_end [] σ)) refuses })
+    rw (p.1, p.2, f.1) (record { symbol = refl; same = refl; reads = λ σ h. by (from_text (type_inner reading) σ (no_byte h c.peek.ensures f.0) (inner_end [] σ)) refuses })
 
 pub type_inner-returns-in-Some : goal.type_inner-returns-in-Some
 type_inner-returns-in-Some t c =
@@ -100,6 +100,7 @@ type_inner-returns-in-Some t c =
     let v = spelled_is letters (c.in_ok-c.c ∷ []) c.builtin.ensures c.in-Some.is in
     record {
       symbol = refl;
+      same = lent_stack c.args.d.now c.put.new.self c.put.ensures.same;
       reads = λ σ h. let l = byte_inside h c.peek.ensures f in
           by (from_text (type_inner reading) σ (byte_at h c.peek.ensures f) (inner_letter _ _ σ _ (sym v.0)))
           (less (omega (arith, h.deep))
@@ -112,6 +113,7 @@ type_inner-returns-in-68 t c =
     let k = c.builtin_d.ensures in
     record {
       symbol = k.symbol;
+      same = k.same;
       reads = λ σ h. let e = byte_is h c.peek.ensures 68 f c.in-68.is in
           by (same_from (type_inner reading) (by_code d_letters (λ w. give (b w)) (λ _. refused 4)) σ e (inner_D _ σ))
           (less (omega (arith, h.deep)) (sooner (omega arith) (k.is _ σ e h)));
@@ -149,6 +151,7 @@ type_inner-returns-in_default-c t c =
     (elim c.in_default-c.branch [ type_inner-in_default-c-via-then-c-lt48 w ↦ (λ j. omega arith) | type_inner-in_default-c-via-else-c-lt48+else-c-lt58 w ↦ (λ j. omega arith) ]) in
     record {
       symbol = k.symbol;
+      same = k.same;
       reads = λ σ h. let e = byte_at h c.peek.ensures f in k.is σ h _ e (ap (find letters) e ∙ no_letter _ _ (spelled_not letters (c.in_ok-c.c ∷ []) c.builtin.ensures c.in_default.is)) n;
     }
 
@@ -207,6 +210,7 @@ behind_letter-returns-in-80 t c =
     elim c.in-80-1.branch [ behind_letter-in-67-1 x ↦ lettered_row _ x.in-67-1.keys1 | behind_letter-in_default+else-c-lt79+then-c-lt81 y ↦ between_row _ (λ j. omega (arith, j, y.if-c-lt79-1.false)) (λ j. omega (arith, j, y.if-c-lt79-1.false)) (omega (arith, y.if-c-lt79-1.false)) y.if-c-lt81-1.true ] in
     record {
       symbol = k.symbol;
+      same = k.same;
       is = λ σ h t e f g.
           by (from_text (type_inner reading) σ (byte_there c.args.d.now h e) (inner_wrapper _ _ σ v.0 (none_there c.args.d.now h e f) v.1.1 (v.1.0 _)))
           (sooner (omega arith) (k.is v.0 v.1.0 _ (holds_moved h (c.args.d.now.state.at + 1) (omega (arith, c.requires.1)))));
@@ -218,7 +222,7 @@ pub wrapped-returns-in_err-n : goal.wrapped-returns-in_err-n
 wrapped-returns-in_err-n t c =
     let p = err_from_is_err_and c.from_residual.result c.from_residual.ensures.1 in
     let k = c.in_err-n.ensures in
-    rw (p.1, p.2) (record { symbol = k.symbol; is = λ u w σ h. by (wrapped_is u σ) (refused_on _ refl (k.reads σ h)) })
+    rw (p.1, p.2) (record { symbol = k.symbol; same = k.same; is = λ u w σ h. by (wrapped_is u σ) (refused_on _ refl (k.reads σ h)) })
 
 pub wrapped-wrap-requires : goal.wrapped-wrap-requires
 wrapped-wrap-requires t c =
@@ -229,6 +233,7 @@ wrapped-returns t c =
     let k = c.in_ok-n.ensures in
     record {
       symbol = c.wrap.ensures.symbol ∙ k.symbol;
+      same = c.wrap.ensures.same ∙ k.same;
       is = λ u w σ h.
           let v = read_of k h in
           by (wrapped_is u σ ∙ on_got _ v) (c.wrap.ensures.is _ _ _ _ _ _ _ u w (stands_at _ _ v.wrote (omega arith) (omega arith) (omega arith) (omega (arith, h.deep))));
@@ -249,6 +254,7 @@ function_type-returns-in_err-list t c =
     let i = no_items_from Types (record c.ty.new.d { stack = c.put.new.self }) k.symbol _ c.in_err-list.ensures in
     rw (p.1, p.2) (record {
       symbol = c.in_err-list.ensures.symbol ∙ k.symbol;
+      same = c.in_err-list.ensures.same ∙ lent_stack c.ty.new.d c.put.new.self c.put.ensures.same ∙ k.same;
       reads = λ σ h. let g = got refl (k.reads σ h) in
           by (function_of σ g.is ∙ then_refused _ (then_refused _ (list_refused refl (i _ (holds_puts z g.wrote.holds))))) refuses;
     })
@@ -263,6 +269,7 @@ function_type-returns-in_err-need t c =
     let o = lacked c.in_err-need.ensures in
     rw (p.1, p.2, o.why_is) (record {
       symbol = ap (λ (x : Demangler). x.s.now) o.is ∙ e;
+      same = ap lent o.is ∙ c.in_ok-list.ensures.same ∙ lent_stack c.ty.new.d c.put.new.self c.put.ensures.same ∙ k.same;
       reads = λ σ h. let g = got refl (k.reads σ h) in
           let w = got_list refl (i _ (holds_puts z g.wrote.holds)) in
           by (function_of σ g.is ∙ then_refused _ (closed_no w.is (ap (λ (t : Text). starts t (69 ∷ [])) (w.stands.holds.rest ∙ ap (drop c.items.new.d.state.at) (sym e)) ∙ o.so))) refuses;
@@ -289,6 +296,7 @@ function_type-returns t c =
     let v = needed c.in_ok-need.ensures in
     record {
       symbol = ap (λ (x : Demangler). x.s.now) c.func_end.ensures.others ∙ ap (λ (x : Demangler). x.s.now) v.is ∙ e;
+      same = c.func_end.ensures.same ∙ ap lent v.is ∙ c.in_ok-list.ensures.same ∙ lent_stack c.ty.new.d c.put.new.self c.put.ensures.same ∙ k.same;
       reads = λ σ h.
           let g = got refl (k.reads σ h) in
           let w = got_list refl (i _ (holds_puts z g.wrote.holds)) in
@@ -303,7 +311,7 @@ pub array_type-returns-in_err-need : goal.array_type-returns-in_err-need
 array_type-returns-in_err-need t c =
     let p = err_from_is_err_and c.from_residual.result c.from_residual.ensures.1 in
     let w = lacked c.in_err-need.ensures in
-    rw (p.1, p.2, w.why_is) (record { symbol = ap (λ (x : Demangler). x.s.now) w.is; reads = λ σ h. by (array_4 _ _ σ h.rest c.before-to.ensures.0 w.so) refuses })
+    rw (p.1, p.2, w.why_is) (record { symbol = ap (λ (x : Demangler). x.s.now) w.is; same = ap lent w.is; reads = λ σ h. by (array_4 _ _ σ h.rest c.before-to.ensures.0 w.so) refuses })
 
 pub array_type-ty-requires : goal.array_type-ty-requires
 array_type-ty-requires t c =
@@ -317,6 +325,7 @@ array_type-returns-in_err-n t c =
     let j = parses_from (λ n. keep (n + 1)) c.args.d.now (c.before-to.result + 1) v.is c.in_err-n.ensures in
     rw (p.1, p.2) (record {
       symbol = j.symbol;
+      same = j.same;
       reads = λ σ h.
           by (array_in _ _ σ h.rest c.before-to.ensures.0 v.past.ahead) (refused_on _ refl (j.reads _ (holds_moved h (c.before-to.result + 1) (omega (arith, v.past.inside)))));
     })
@@ -345,6 +354,7 @@ array_type-returns t c =
     let z = puts_of (record c.ty.new.d { stack = c.put-2.new.self }) c.put-3.new.self c.put-3.ensures.left in
     record {
       symbol = j.symbol;
+      same = lent_stack c.ty.new.d c.put-3.new.self (c.put-3.ensures.same ∙ c.put-2.ensures.same ∙ c.put.ensures.same) ∙ j.same;
       reads = λ σ h.
           let w = got refl (j.reads _ (holds_moved h (c.before-to.result + 1) (omega (arith, v.past.inside)))) in
           let l = part_size h _ c.before-to.ensures.1 in
@@ -368,6 +378,7 @@ pointer_to_member_type-returns-in_err-m t c =
     let j = c.in_err-m.ensures in
     rw (p.1, p.2) (record {
       symbol = j.symbol ∙ k.symbol;
+      same = j.same ∙ k.same;
       reads = λ σ h. let w = read_of k h in by (member_is σ ∙ on_got _ w) (refused_on _ refl (reads_from k.symbol j w.state w.wrote.holds));
     })
 
@@ -388,6 +399,7 @@ pointer_to_member_type-returns t c =
     let j = c.in_ok-m.ensures in
     record {
       symbol = c.wrap_member.ensures.symbol ∙ j.symbol ∙ k.symbol;
+      same = c.wrap_member.ensures.same ∙ j.same ∙ k.same;
       reads = λ σ h.
           let w = read_of k h in
           let v = got refl (reads_from k.symbol j w.state w.wrote.holds) in
@@ -423,6 +435,7 @@ nested_type-returns-then-newest_entry t c =
     let k = c.in_ok-n.ensures in
     record {
       symbol = k.symbol;
+      same = k.same;
       reads = λ σ h. let g = read_of k h in
           by (nested_old σ g.is (sym (c.newest_entry.ensures _ _ _ _ _ _ _ (stood g.wrote) g.wrote.short) ∙ c.if-newest_entry.true)) (reads g.wrote);
     }
@@ -438,6 +451,7 @@ nested_type-returns t c =
     let k = c.in_ok-n.ensures in
     record {
       symbol = ap (λ (x : Demangler). x.s.now) c.recorded.ensures.others ∙ k.symbol;
+      same = c.recorded.ensures.same ∙ k.same;
       reads = λ σ h. let g = read_of k h in
           by (nested_new σ g.is (sym (c.newest_entry.ensures _ _ _ _ _ _ _ (stood g.wrote) g.wrote.short) ∙ c.if-newest_entry.false))
           (c.recorded.ensures.is _ _ _ _ _ _ _ (stood g.wrote));
@@ -469,6 +483,7 @@ class_type-returns-in_err-push_sub t c =
     let u = c.in_err-push_sub.ensures in
     rw (p.1, p.2) (record {
       symbol = ap (λ (x : Demangler). x.s.now) u.others ∙ k.symbol;
+      same = u.same ∙ k.same;
       reads = λ σ h. let g = got refl (narrow h (k.reads σ h)) in by (ap (onto _) g.is) (push_refused _ refl (u.is _ _ _ _ _ _ _ (stood g.wrote)));
     })
 
@@ -488,6 +503,7 @@ class_type-returns-then-here t c =
     let e = ap (λ (x : Demangler). x.s.now) u.others ∙ k.symbol in
     record {
       symbol = c.instance.ensures.symbol ∙ e;
+      same = c.instance.ensures.same ∙ u.same ∙ k.same;
       reads = λ σ h. let g = got refl (narrow h (k.reads σ h)) in
           let v = kept_sub (stood g.wrote) u in
           by (class-step σ g.is v.is ∙ at_code_yes "I" _ _ _ (ahead_from c.push_sub.new.self 73 e v.stands.holds c.here.ensures c.if-here.true))
@@ -502,6 +518,7 @@ class_type-returns t c =
     let e = ap (λ (x : Demangler). x.s.now) u.others ∙ k.symbol in
     record {
       symbol = e;
+      same = u.same ∙ k.same;
       reads = λ σ h. let g = got refl (narrow h (k.reads σ h)) in
           let v = kept_sub (stood g.wrote) u in
           by (class-step σ g.is v.is ∙ at_code_no "I" _ _ _ (ahead_from c.push_sub.new.self 73 e v.stands.holds c.here.ensures c.if-here.false))
@@ -534,7 +551,7 @@ pub name_inner-returns-in_err-ok_or : goal.name_inner-returns-in_err-ok_or
 name_inner-returns-in_err-ok_or t c =
     let p = err_from_is_err_and c.from_residual.result c.from_residual.ensures.1 in
     let f = given_none c.peek.result _ c.in_err-ok_or.ensures.value in
-    rw (p.1, p.2, f.1) (record { symbol = refl; reads = λ σ h. by (from_text (name_inner reading) σ (no_byte h c.peek.ensures f.0) (name_end [] σ)) refuses })
+    rw (p.1, p.2, f.1) (record { symbol = refl; same = refl; reads = λ σ h. by (from_text (name_inner reading) σ (no_byte h c.peek.ensures f.0) (name_end [] σ)) refuses })
 
 pub name_inner-name-requires : goal.name_inner-name-requires
 name_inner-name-requires t c =
@@ -557,6 +574,7 @@ name_inner-returns-in-76 t c =
     let k = c.name.ensures in
     record {
       symbol = k.symbol;
+      same = k.same;
       reads = λ σ h. let l = byte_inside h c.peek.ensures f in
           by (from_text (name_inner reading) σ (byte_is h c.peek.ensures 76 f c.in-76.is) (name_L _ σ))
           (less (omega arith) (sooner (omega arith) (k.reads _ (holds_moved h (c.args.d.now.state.at + 1) (omega (arith, l))))));
@@ -602,6 +620,7 @@ at_s-returns-then-here t c =
     let k = c.in_ok-n.ensures.parses in
     record {
       symbol = c.instance.ensures.symbol ∙ k.symbol;
+      same = c.instance.ensures.same ∙ k.same;
       reads = λ σ h. let g = got refl (narrow h (k.reads σ h)) in
           by (s_sub_read (at_S_of c.args.named) (instance_of c.args.named) (at_S_is c.args.named) σ (ap std_ahead h.rest ∙ sym c.std_ahead.ensures ∙ c.if-std_ahead.false) g.is
           ∙ at_code_yes "I" _ _ _ (ahead_from c.substitution.new.self 73 k.symbol g.wrote.holds c.here.ensures c.if-here.true))
@@ -614,6 +633,7 @@ at_s-returns t c =
     let k = c.in_ok-n.ensures.parses in
     record {
       symbol = k.symbol;
+      same = k.same;
       reads = λ σ h. let g = got refl (narrow h (k.reads σ h)) in
           by (s_sub_read (at_S_of c.args.named) (instance_of c.args.named) (at_S_is c.args.named) σ (ap std_ahead h.rest ∙ sym c.std_ahead.ensures ∙ c.if-std_ahead.false) g.is
           ∙ at_code_no "I" _ _ _ (ahead_from c.substitution.new.self 73 k.symbol g.wrote.holds c.here.ensures c.if-here.false))
@@ -638,6 +658,7 @@ instance-returns-in_err-n t c =
     let k = c.in_err-n.ensures in
     rw (p.1, p.2) (record {
       symbol = k.symbol ∙ e;
+      same = k.same ∙ v.same;
       is = λ base from x σ h l. by (instance_is c.args.named x σ) (refused_on _ refl (reads_from e k _ (v.holds σ h.holds)));
     })
 
@@ -673,6 +694,7 @@ instance-returns t c =
     let k = c.in_ok-n.ensures in
     record {
       symbol = ap (λ (x : Demangler). x.s.now) c.recorded.ensures.others ∙ ap (λ (x : Demangler). x.s.now) z.others ∙ k.symbol ∙ e;
+      same = c.recorded.ensures.same ∙ z.same ∙ k.same ∙ v.same;
       is = λ base from x σ h l.
           let u = passed v h in
           let g = got refl (reads_from e k _ u.holds) in
@@ -698,6 +720,7 @@ std_prefixed-returns-in_err-n t c =
     let k = c.in_err-n.ensures in
     rw (p.1, p.2) (record {
       symbol = k.symbol;
+      same = k.same ∙ lent_stack (at_place c.args.d.now (c.args.d.now.state.at + 2)) c.put.new.self c.put.ensures.same;
       reads = λ σ h.
           by (std-open c.args.d.now.s.now c.args.d.now.state.at σ h.rest c.requires.1) (refused_on _ refl (k.reads _ (word_holds refl z h (std-inside _ _ c.requires.1))));
     })
@@ -729,6 +752,7 @@ std_prefixed-returns-in_err-push_sub t c =
     let u = c.in_err-push_sub.ensures in
     rw (p.1, p.2) (record {
       symbol = ap (λ (x : Demangler). x.s.now) u.others ∙ k.symbol;
+      same = u.same ∙ k.same ∙ lent_stack (at_place c.args.d.now (c.args.d.now.state.at + 2)) c.put.new.self c.put.ensures.same;
       reads = λ σ h. let g = got refl (k.reads _ (word_holds refl z h l)) in
           let y = word_joined refl z h l (omega arith) (omega arith) refl g.wrote in
           by (std-open c.args.d.now.s.now c.args.d.now.state.at σ h.rest c.requires.1 ∙ ap (onto std-rest) g.is) (push_refused _ refl (u.is _ _ _ _ _ _ _ y));
@@ -756,6 +780,7 @@ std_prefixed-returns-then-here t c =
     let e = ap (λ (x : Demangler). x.s.now) u.others ∙ k.symbol in
     record {
       symbol = c.instance.ensures.symbol ∙ e;
+      same = c.instance.ensures.same ∙ u.same ∙ k.same ∙ lent_stack (at_place c.args.d.now (c.args.d.now.state.at + 2)) c.put.new.self c.put.ensures.same;
       reads = λ σ h. let g = got refl (k.reads _ (word_holds refl z h l)) in
           let w = g.wrote in
           let y = word_joined refl z h l (omega arith) (omega arith) refl w in
@@ -775,6 +800,7 @@ std_prefixed-returns t c =
     let e = ap (λ (x : Demangler). x.s.now) u.others ∙ k.symbol in
     record {
       symbol = e;
+      same = u.same ∙ k.same ∙ lent_stack (at_place c.args.d.now (c.args.d.now.state.at + 2)) c.put.new.self c.put.ensures.same;
       reads = λ σ h. let g = got refl (k.reads _ (word_holds refl z h l)) in
           let y = word_joined refl z h l (omega arith) (omega arith) refl g.wrote in
           let v = kept_sub y u in
@@ -801,6 +827,7 @@ plain-returns-then-not-here t c =
     let k = c.in_ok-n.ensures in
     record {
       symbol = k.symbol;
+      same = k.same;
       reads = λ σ h. let g = read_of k h in
           by (unscoped-step σ g.is ∙ at_code_no "I" _ _ _ (ahead_from c.unqualified_name.new.d 73 k.symbol g.wrote.holds c.here.ensures c.if-not-here.true)) (reads g.wrote);
     }
@@ -819,6 +846,7 @@ plain-returns-in_err-push_sub t c =
     let u = c.in_err-push_sub.ensures in
     rw (p.1, p.2) (record {
       symbol = ap (λ (x : Demangler). x.s.now) u.others ∙ k.symbol;
+      same = u.same ∙ k.same;
       reads = λ σ h. let g = read_of k h in
           by (unscoped-step σ g.is ∙ at_code_yes "I" _ _ _ (ahead_from c.unqualified_name.new.d 73 k.symbol g.wrote.holds c.here.ensures c.if-not-here.false))
           (push_refused _ refl (u.is _ _ _ _ _ _ _ (stood g.wrote)));
@@ -840,6 +868,7 @@ plain-returns t c =
     let e = ap (λ (x : Demangler). x.s.now) u.others ∙ k.symbol in
     record {
       symbol = c.instance.ensures.symbol ∙ e;
+      same = c.instance.ensures.same ∙ u.same ∙ k.same;
       reads = λ σ h. let g = read_of k h in
           let v = kept_sub (stood g.wrote) u in
           by (unscoped-step σ g.is ∙ at_code_yes "I" _ _ _ (ahead_from c.unqualified_name.new.d 73 k.symbol g.wrote.holds c.here.ensures c.if-not-here.false) ∙ ap (onto _) v.is)
@@ -863,7 +892,7 @@ local_name-returns-in_err-n t c =
     let p = err_from_is_err_and c.from_residual-in_err-n.result c.from_residual-in_err-n.ensures.1 in
     let e = needed c.in_ok-need.ensures in
     let w = parses_from keep c.args.d.now (c.args.d.now.state.at + 1) e.is c.in_err-n.ensures in
-    rw (p.1, p.2) (record { symbol = w.symbol; reads = λ σ h. local_refused h e.past.ahead refl w.reads refl })
+    rw (p.1, p.2) (record { symbol = w.symbol; same = w.same; reads = λ σ h. local_refused h e.past.ahead refl w.reads refl })
 
 pub local_name-overflow_add-n : goal.local_name-overflow_add-n
 local_name-overflow_add-n t c =
@@ -879,6 +908,7 @@ local_name-returns-then-eat t c =
     let v = ate c.if-eat.true c.eat.ensures in
     record {
       symbol = ap (λ (x : Demangler). x.s.now) v.is ∙ w.symbol;
+      same = lent_stack c.eat.new.self c.put.new.self c.put.ensures.same ∙ ap lent v.is ∙ w.same;
       reads = λ σ h.
           given_behind
           (λ m r. Refines (keep d.state.depth) d.state.depth d.s.now (window (memory_of d) (state_of d)) (d.state.at + 1) m r (local_name reading σ))
@@ -906,6 +936,7 @@ local_name-returns-in_err-m t c =
     let u = puts_of c.eat.new.self c.put-2.new.self c.put-2.ensures.left in
     rw (p.1, p.2) (record {
       symbol = c.in_err-m.ensures.symbol ∙ w.symbol;
+      same = c.in_err-m.ensures.same ∙ lent_stack c.eat.new.self c.put-2.new.self c.put-2.ensures.same ∙ w.same;
       reads = λ σ h. local_name_refused h e.past.ahead refl w.reads refl x u (reads_from w.symbol c.in_err-m.ensures) refl;
     })
 
@@ -946,6 +977,7 @@ local_name-returns t c =
     let u = puts_of c.eat.new.self c.put-2.new.self c.put-2.ensures.left in
     record {
       symbol = c.in_ok-m.ensures.symbol ∙ w.symbol;
+      same = c.in_ok-m.ensures.same ∙ lent_stack c.eat.new.self c.put-2.new.self c.put-2.ensures.same ∙ w.same;
       reads = λ σ h.
           local_given h e.past.ahead refl w.reads refl x u (reads_from w.symbol c.in_ok-m.ensures) refl (given_by (state_of c.name.new.d) (c.in_ok-n.n + c.in_ok-m.m + 2) c.given-2.ensures);
     }
@@ -956,7 +988,7 @@ pub local_function-returns-in_err-n : goal.local_function-returns-in_err-n
 local_function-returns-in_err-n t c =
     let p = err_from_is_err_and c.from_residual.result c.from_residual.ensures.1 in
     let k = c.in_err-n.ensures in
-    rw (p.1, p.2) (record { symbol = k.symbol; reads = λ σ h. fn_refused h k.reads refl })
+    rw (p.1, p.2) (record { symbol = k.symbol; same = k.same; reads = λ σ h. fn_refused h k.reads refl })
 
 pub local_function-returns-then-eat : goal.local_function-returns-then-eat
 local_function-returns-then-eat t c =
@@ -965,6 +997,7 @@ local_function-returns-then-eat t c =
     let v = ate c.if-eat.true c.eat.ensures in
     record {
       symbol = ap (λ (x : Demangler). x.s.now) v.is ∙ k.symbol;
+      same = ap lent v.is ∙ k.same;
       reads = λ σ h.
           subst
           (λ (x : Demangler). Refines (keep d.state.depth) d.state.depth d.s.now (window (memory_of d) (state_of d)) (d.state.at + 1) (memory_of x) (read (state_of x) c.in_ok-n.n) (local_encoding reading σ))
@@ -989,6 +1022,7 @@ local_function-returns-in_err-list t c =
     let i = no_items_from Types (record c.eat.new.self { stack = c.put.new.self }) k.symbol _ c.in_err-list.ensures in
     rw (p.1, p.2) (record {
       symbol = c.in_err-list.ensures.symbol ∙ k.symbol;
+      same = c.in_err-list.ensures.same ∙ lent_stack c.eat.new.self c.put.new.self c.put.ensures.same ∙ k.same;
       reads = λ σ h. fn_items_refused h k.reads refl x u i refl refl;
     })
 
@@ -1002,6 +1036,7 @@ local_function-returns-in_err-m t c =
     let g = given_err c.in_ok-list.list.n c.in_err-m.ensures in
     rw (p.1, p.2, g.1) (record {
       symbol = c.in_ok-list.ensures.symbol ∙ k.symbol;
+      same = c.in_ok-list.ensures.same ∙ lent_stack c.eat.new.self c.put.new.self c.put.ensures.same ∙ k.same;
       reads = λ σ h. fn_long h k.reads refl x u i refl g.0;
     })
 
@@ -1017,6 +1052,7 @@ local_function-returns-in_err-need t c =
     let o = lacked c.in_err-need.ensures in
     rw (p.1, p.2, o.why_is) (record {
       symbol = ap (λ (y : Demangler). y.s.now) o.is ∙ e;
+      same = ap lent o.is ∙ c.in_ok-list.ensures.same ∙ lent_stack c.eat.new.self c.put.new.self c.put.ensures.same ∙ k.same;
       reads = λ σ h. fn_open h k.reads refl x u i refl g.0 (ap (λ (t : Text). starts (drop c.items.new.d.state.at t) (69 ∷ [])) (sym e) ∙ o.so);
     })
 
@@ -1042,6 +1078,7 @@ local_function-returns t c =
     let v = needed c.in_ok-need.ensures in
     record {
       symbol = ap (λ (y : Demangler). y.s.now) v.is ∙ e;
+      same = lent_stack c.need.new.self c.put-2.new.self c.put-2.ensures.same ∙ ap lent v.is ∙ c.in_ok-list.ensures.same ∙ lent_stack c.eat.new.self c.put.new.self c.put.ensures.same ∙ k.same;
       reads = λ σ h.
           given_behind
           (λ m r. Refines (keep d.state.depth) d.state.depth d.s.now (window (memory_of d) (state_of d)) (d.state.at + 1) m r (local_encoding reading σ))
@@ -1055,7 +1092,7 @@ pub unqualified_name-returns-in_err-ok_or : goal.unqualified_name-returns-in_err
 unqualified_name-returns-in_err-ok_or t c =
     let p = err_from_is_err_and c.from_residual.result c.from_residual.ensures.1 in
     let f = given_none c.peek.result _ c.in_err-ok_or.ensures.value in
-    rw (p.1, p.2, f.1) (record { symbol = refl; reads = λ σ h. unq_end h c.behind-d.ensures refl c.peek.ensures f.0 })
+    rw (p.1, p.2, f.1) (record { symbol = refl; same = refl; reads = λ σ h. unq_end h c.behind-d.ensures refl c.peek.ensures f.0 })
 
 pub unqualified_name-operator_name-requires : goal.unqualified_name-operator_name-requires
 unqualified_name-operator_name-requires t c =
@@ -1067,6 +1104,7 @@ unqualified_name-returns-in-67 t c =
     let f = given_some c.peek.result _ c.in_ok-ok_or.ensures.value in
     record {
       symbol = structor_symbol c.structor.ensures;
+      same = structor_same c.structor.ensures;
       reads = λ σ h. structor_alone c.args.d.now h c.behind-d.ensures c.peek.ensures f 67 c.in-67.is refl (unqualified_C_4 σ) (λ u. unqualified_C u σ) c.structor.ensures;
     }
 
@@ -1076,6 +1114,7 @@ unqualified_name-returns-in-68 t c =
     let f = given_some c.peek.result _ c.in_ok-ok_or.ensures.value in
     record {
       symbol = structor_symbol c.structor-in-68.ensures;
+      same = structor_same c.structor-in-68.ensures;
       reads = λ σ h. structor_alone c.args.d.now h c.behind-d.ensures c.peek.ensures f 68 c.in-68.is refl (unqualified_D_4 σ) (λ u. unqualified_D u σ) c.structor-in-68.ensures;
     }
 
@@ -1083,7 +1122,7 @@ pub unqualified_name-returns-in-85 : goal.unqualified_name-returns-in-85
 unqualified_name-returns-in-85 t c =
     let f = given_some c.peek.result _ c.in_ok-ok_or.ensures.value in
     let k = c.unnamed_type_name.ensures.parses in
-    record { symbol = k.symbol; reads = λ σ h. unq_U h c.behind-d.ensures refl c.peek.ensures f c.in-85.is refl k.reads }
+    record { symbol = k.symbol; same = k.same; reads = λ σ h. unq_U h c.behind-d.ensures refl c.peek.ensures f c.in-85.is refl k.reads }
 
 pub unqualified_name-returns-in-48-to-57 : goal.unqualified_name-returns-in-48-to-57
 unqualified_name-returns-in-48-to-57 t c =
@@ -1092,6 +1131,7 @@ unqualified_name-returns-in-48-to-57 t c =
     let l = c.in-48-to-57.if-this-lt58-own.true in
     record {
       symbol = k.symbol;
+      same = k.same;
       reads = λ σ h. unq_digit h c.behind-d.ensures refl c.peek.ensures f (λ e. omega (arith, e, l)) (λ e. omega (arith, e, l)) (λ e. omega (arith, e, l)) (digit_in _ c.in-48-to-57.if-this-lt48-own.false l) k.reads;
     }
 
@@ -1102,6 +1142,7 @@ unqualified_name-returns-in_default t c =
     let i = c.in_default-1.rest in
     record {
       symbol = k.symbol;
+      same = k.same;
       reads = λ σ h. unq_operator h c.behind-d.ensures refl c.peek.ensures f i.0.0.1 i.0.1 i.1
           (elim c.in_default.branch [ unqualified_name-in_default-via-then-this-lt48 w ↦ digit_not _ (λ j. omega arith) | unqualified_name-in_default-via-else-this-lt48+else-this-lt58 w ↦ digit_not _ (λ j. omega arith) ]) k.reads;
     }
@@ -1114,6 +1155,7 @@ operator_name-returns-in_err-a t c =
     let w = took_none c.in_err-a.ensures in
     rw (p.1, p.2, w.why_is) (record {
       symbol = ap (λ (x : Demangler). x.s.now) w.is;
+      same = ap lent w.is;
       reads = λ σ h. by (operator_short c.args.d.now.s.now c.args.d.now.state.at σ h.rest (omega (arith, length-drop c.args.d.now.state.at c.args.d.now.s.now, ap length w.so))) refuses;
     })
 
@@ -1124,6 +1166,7 @@ operator_name-returns-in_err-c t c =
     let w = took_none c.in_err-c.ensures in
     rw (p.1, p.2, w.why_is) (record {
       symbol = ap (λ (x : Demangler). x.s.now) w.is ∙ ap (λ (x : Demangler). x.s.now) v.is;
+      same = ap lent w.is ∙ ap lent v.is;
       reads = λ σ h. by (operator_short _ _ σ h.rest (none_left v w.so)) refuses;
     })
 
@@ -1136,6 +1179,7 @@ operator_name-returns-in-Some t c =
     let l = two_inside v w in
     record {
       symbol = ap (λ (x : Demangler). x.s.now) (two_is v w);
+      same = lent_stack c.take-2.new.self c.put.new.self c.put.ensures.same ∙ ap lent (two_is v w);
       reads = λ σ h.
           by (operator_word s c.args.d.now.state.at σ h.rest l _
           (ap (λ (z : ℕ). word_for operators (z ∷ slice_index_or s (c.args.d.now.state.at + 1) 0 ∷ [])) v.past.byte ∙ ap (λ (z : ℕ). word_for operators (c.in_ok-a.a ∷ z ∷ [])) (two_second v w) ∙ sym f.0))
@@ -1151,6 +1195,7 @@ operator_name-returns-then-a-ne99 t c =
     ∙ sym (spelled_not operators (c.in_ok-a.a ∷ c.in_ok-c.c ∷ []) c.operator_name.ensures c.in_default.is) in
     record {
       symbol = ap (λ (x : Demangler). x.s.now) (two_is v w);
+      same = ap lent (two_is v w);
       reads = λ σ h. elim c.then-a-ne99.branch [
         | operator_name-then-a-ne99-via-then-a-ne99 x ↦ by (operator_no_c s c.args.d.now.state.at σ h.rest (two_inside v w) n (λ e. x.if-a-ne99.true (sym v.past.byte ∙ e))) refuses
         | operator_name-then-a-ne99-via-else-a-ne99+then-c-ne118 x ↦ by (operator_no_v s c.args.d.now.state.at σ h.rest (two_inside v w) n (λ e. x.if-c-ne118.true (sym (two_second v w) ∙ e))) refuses
@@ -1178,6 +1223,7 @@ operator_name-returns-in_err-n t c =
     let j = parses_put c.args.d.now c.put-2.new.self (two_is v w) (λ i. keep (i + 1)) c.in_err-n.ensures in
     rw (p.1, p.2) (record {
       symbol = j.symbol;
+      same = c.in_err-n.ensures.same ∙ lent_stack c.take-2.new.self c.put-2.new.self c.put-2.ensures.same ∙ ap lent (two_is v w);
       reads = λ σ h. oper_refused h (two_inside v w) refl z (sym n) (v.past.byte ∙ c.if-a-ne99.false) (two_second v w ∙ c.if-c-ne118.false) j.reads refl;
     })
 
@@ -1203,6 +1249,7 @@ operator_name-returns t c =
     let j = parses_put c.args.d.now c.put-2.new.self (two_is v w) (λ i. keep (i + 1)) c.in_ok-n.ensures in
     record {
       symbol = j.symbol;
+      same = c.in_ok-n.ensures.same ∙ lent_stack c.take-2.new.self c.put-2.new.self c.put-2.ensures.same ∙ ap lent (two_is v w);
       reads = λ σ h. oper_typed h (two_inside v w) refl z (sym n) (v.past.byte ∙ c.if-a-ne99.false) (two_second v w ∙ c.if-c-ne118.false) j.reads refl refl
           (ap (outcome (state_of (record c.ty.new.d { state = record c.ty.new.d.state { templated = false } }))) c.given.ensures ∙ outcome_given _ _);
     }
@@ -1220,14 +1267,14 @@ nested_name-qualifiers-to-requires t c =
     omega (arith, v.past.inside, ap (λ (x : Demangler). x.state.at) v.is, ap (λ (x : Demangler). length x.s.now) v.is)
 
 pub nested_name-loop-c-init : goal.nested_name-loop-c-init
-nested_name-loop-c-init t c = record { symbol = refl; so_far = prefixing_start }
+nested_name-loop-c-init t c = record { symbol = refl; same = refl; so_far = prefixing_start }
 
 pub nested_name-returns-in_err-c : goal.nested_name-returns-in_err-c
 nested_name-returns-in_err-c t c =
     let p = err_from_is_err_and c.from_residual-in_err-c.result c.from_residual-in_err-c.ensures.1 in
     let f = given_none c.peek.result _ c.in_err-c.ensures.value in
     let l = c.loop-c.invariant in
-    rw (p.1, p.2, f.1) (nested_ends (needed c.in_ok-need.ensures) c.qualifiers-to.ensures c.loop-c.d l.symbol l.so_far (sym c.peek.ensures ∙ f.0))
+    rw (p.1, p.2, f.1) (nested_ends (needed c.in_ok-need.ensures) c.qualifiers-to.ensures c.loop-c.d l.symbol l.same l.so_far (sym c.peek.ensures ∙ f.0))
 
 pub nested_name-returns-then-c-eq69 : goal.nested_name-returns-then-c-eq69
 nested_name-returns-then-c-eq69 t c =
@@ -1236,29 +1283,29 @@ nested_name-returns-then-c-eq69 t c =
     let v = needed c.in_ok-need.ensures in
     elim c.if-parts.branch [
       | nested_name-then-parts w ↦
-          nested_closes v c.qualifiers-to.ensures c.loop-c.d l.symbol l.so_far (sym c.peek.ensures ∙ f) true c.if-c-eq69.true w.if-parts.true c.given.ensures w.d-is
+          nested_closes v c.qualifiers-to.ensures c.loop-c.d l.symbol l.same l.so_far (sym c.peek.ensures ∙ f) true c.if-c-eq69.true w.if-parts.true c.given.ensures w.d-is
       | nested_name-else-parts w ↦
-          nested_closes v c.qualifiers-to.ensures c.loop-c.d l.symbol l.so_far (sym c.peek.ensures ∙ f) false c.if-c-eq69.true w.if-parts.false c.given.ensures w.d-is
+          nested_closes v c.qualifiers-to.ensures c.loop-c.d l.symbol l.same l.so_far (sym c.peek.ensures ∙ f) false c.if-c-eq69.true w.if-parts.false c.given.ensures w.d-is
     ]
 
 pub nested_name-prefix-requires : goal.nested_name-prefix-requires
 nested_name-prefix-requires t c =
     let l = c.loop-c.invariant in
-    let m = nested_further (needed c.in_ok-need.ensures) c.qualifiers-to.ensures c.loop-c.d l.symbol l.so_far c.requires in
-    (omega (arith, c.decreases, m.0, ap length m.1), nested_ready (needed c.in_ok-need.ensures) c.qualifiers-to.ensures c.loop-c.d l.symbol l.so_far c.requires)
+    let m = nested_further (needed c.in_ok-need.ensures) c.qualifiers-to.ensures c.loop-c.d l.symbol l.same l.so_far c.requires in
+    (omega (arith, c.decreases, m.0, ap length m.1), nested_ready (needed c.in_ok-need.ensures) c.qualifiers-to.ensures c.loop-c.d l.symbol l.same l.so_far c.requires)
 
 pub nested_name-returns-in_err-parts : goal.nested_name-returns-in_err-parts
 nested_name-returns-in_err-parts t c =
     let p = err_from_is_err_and c.from_residual-in_err-parts.result c.from_residual-in_err-parts.ensures.1 in
     let f = given_some c.peek.result _ c.in_ok-c.ensures.value in
     let l = c.loop-c.invariant in
-    rw (p.1, p.2) (nested_refuses (needed c.in_ok-need.ensures) c.qualifiers-to.ensures c.loop-c.d l.symbol l.so_far (sym c.peek.ensures ∙ f) c.if-c-eq69.false c.in_err-parts.ensures)
+    rw (p.1, p.2) (nested_refuses (needed c.in_ok-need.ensures) c.qualifiers-to.ensures c.loop-c.d l.symbol l.same l.so_far (sym c.peek.ensures ∙ f) c.if-c-eq69.false c.in_err-parts.ensures)
 
 pub nested_name-loop-c-smaller : goal.nested_name-loop-c-smaller
 nested_name-loop-c-smaller t c =
     let f = given_some c.peek.result _ c.in_ok-c.ensures.value in
     let l = c.loop-c.invariant in
-    nested_nearer (needed c.in_ok-need.ensures) c.qualifiers-to.ensures c.loop-c.d l.symbol l.so_far (sym c.peek.ensures ∙ f) c.if-c-eq69.false c.in_ok-parts.ensures c.requires
+    nested_nearer (needed c.in_ok-need.ensures) c.qualifiers-to.ensures c.loop-c.d l.symbol l.same l.so_far (sym c.peek.ensures ∙ f) c.if-c-eq69.false c.in_ok-parts.ensures c.requires
 
 pub nested_name-loop-c-preserved : goal.nested_name-loop-c-preserved
 nested_name-loop-c-preserved t c =
@@ -1266,7 +1313,8 @@ nested_name-loop-c-preserved t c =
     let l = c.loop-c.invariant in
     record {
       symbol = symbol_behind c.loop-c.d (Ok c.in_ok-parts.parts) l.symbol c.in_ok-parts.ensures (sym c.peek.ensures ∙ f);
-      so_far = nested_more (needed c.in_ok-need.ensures) c.qualifiers-to.ensures c.loop-c.d l.symbol l.so_far (sym c.peek.ensures ∙ f) c.if-c-eq69.false c.in_ok-parts.ensures;
+      same = same_behind c.loop-c.d (Ok c.in_ok-parts.parts) l.same c.in_ok-parts.ensures (sym c.peek.ensures ∙ f);
+      so_far = nested_more (needed c.in_ok-need.ensures) c.qualifiers-to.ensures c.loop-c.d l.symbol l.same l.so_far (sym c.peek.ensures ∙ f) c.if-c-eq69.false c.in_ok-parts.ensures;
     }
 
 -- ---------------------------------------------------------------- prefix
@@ -1274,6 +1322,7 @@ nested_name-loop-c-preserved t c =
 pub prefix-returns-then-structor_ahead : goal.prefix-returns-then-structor_ahead
 prefix-returns-then-structor_ahead _ c t e = record {
   symbol = ap (λ (x : Demangler). x.s.now) c.ctor_dtor.ensures.others;
+  same = c.ctor_dtor.ensures.same;
   is = λ base from ps σ h.
       let s = ap structor_ahead h.stands.holds.rest ∙ sym c.structor_ahead.ensures ∙ c.if-structor_ahead.true in
       let r = h.stands.holds.rest ∙ e in
@@ -1285,9 +1334,10 @@ pub prefix-returns-in_err-m-in-83 : goal.prefix-returns-in_err-m-in-83
 prefix-returns-in_err-m-in-83 _ c t e =
     let p = err_from_is_err_and c.from_residual.result c.from_residual.ensures.1 in
     let k = c.in_err-m-in-83.ensures.parses in
-    let u = puts_of c.args.d.now c.separate.new.stack c.separate.ensures in
+    let u = puts_of c.args.d.now c.separate.new.stack c.separate.ensures.left in
     rw (p.1, p.2) (record {
       symbol = k.symbol;
+      same = k.same ∙ lent_stack c.args.d.now c.separate.new.stack c.separate.ensures.same;
       is = λ base from ps σ h.
           parts_by (prefix_S ps σ (ap structor_ahead h.stands.holds.rest ∙ sym c.structor_ahead.ensures ∙ c.if-structor_ahead.false) (h.stands.holds.rest ∙ e) c.in-83.is ∙ old_is ps σ)
           (unread_on _ refl refl (k.reads σ (holds_puts u h.stands.holds)));
@@ -1296,6 +1346,7 @@ prefix-returns-in_err-m-in-83 _ c t e =
 pub prefix-returns-in-73 : goal.prefix-returns-in-73
 prefix-returns-in-73 _ c t e = record {
   symbol = c.prefix_args.ensures.symbol;
+  same = c.prefix_args.ensures.same;
   is = λ base from ps σ h.
       parts_by (prefix_I ps σ (ap structor_ahead h.stands.holds.rest ∙ sym c.structor_ahead.ensures ∙ c.if-structor_ahead.false) (h.stands.holds.rest ∙ e) c.in-73.is)
       (c.prefix_args.ensures.is base from ps σ h);
@@ -1304,9 +1355,10 @@ prefix-returns-in-73 _ c t e = record {
 pub prefix-returns-in_ok-m-in-83 : goal.prefix-returns-in_ok-m-in-83
 prefix-returns-in_ok-m-in-83 _ c t e =
     let k = c.in_ok-m-in-83.ensures.parses in
-    let u = puts_of c.args.d.now c.separate.new.stack c.separate.ensures in
+    let u = puts_of c.args.d.now c.separate.new.stack c.separate.ensures.left in
     record {
       symbol = k.symbol;
+      same = k.same ∙ lent_stack c.args.d.now c.separate.new.stack c.separate.ensures.same;
       is = λ base from ps σ h.
           let a = got refl (k.reads σ (holds_puts u h.stands.holds)) in
           parts_by (prefix_S ps σ (ap structor_ahead h.stands.holds.rest ∙ sym c.structor_ahead.ensures ∙ c.if-structor_ahead.false) (h.stands.holds.rest ∙ e) c.in-83.is ∙ old_is ps σ ∙ then_ok _ a.is)
@@ -1316,6 +1368,7 @@ prefix-returns-in_ok-m-in-83 _ c t e =
 pub prefix-returns-in_default : goal.prefix-returns-in_default
 prefix-returns-in_default _ c t e = record {
   symbol = c.new_prefix.ensures.symbol;
+  same = c.new_prefix.ensures.same;
   is = λ base from ps σ h.
       parts_by (prefix_new ps σ (ap structor_ahead h.stands.holds.rest ∙ sym c.structor_ahead.ensures ∙ c.if-structor_ahead.false) (h.stands.holds.rest ∙ e)
       c.in_default.in_default-own.rest.0.1
@@ -1336,6 +1389,7 @@ prefix_args-returns-in_err-m t c =
     let o = cleared_held c.args.d.now c.clear.new.self c.clear.ensures.stays c.clear.ensures.none in
     rw (p.1, p.2) (record {
       symbol = k.symbol;
+      same = k.same ∙ cleared_lent c.args.d.now c.clear.new.self c.clear.ensures.stays c.clear.ensures.none;
       is = λ base from ps σ h. parts_by (prefix_args_is ps σ) (unread_on (After ps) refl refl (k.reads (with_args [] σ) (o σ h.stands.holds)));
     })
 
@@ -1345,6 +1399,7 @@ prefix_args-returns-then-parts-eq0 t c =
     let o = cleared_held c.args.d.now c.clear.new.self c.clear.ensures.stays c.clear.ensures.none in
     record {
       symbol = k.symbol;
+      same = k.same ∙ cleared_lent c.args.d.now c.clear.new.self c.clear.ensures.stays c.clear.ensures.none;
       is = λ base from ps σ h.
           let a = got refl (k.reads (with_args [] σ) (o σ h.stands.holds)) in
           let z : length ps.texts ≡ 0 = omega (arith, h.count, c.if-parts-eq0.true) in
@@ -1374,6 +1429,7 @@ prefix_args-returns-in_err-push_sub t c =
     let o = cleared_held c.args.d.now c.clear.new.self c.clear.ensures.stays c.clear.ensures.none in
     rw (p.1, p.2) (record {
       symbol = ap (λ (x : Demangler). x.s.now) w.others ∙ k.symbol;
+      same = w.same ∙ k.same ∙ cleared_lent c.args.d.now c.clear.new.self c.clear.ensures.stays c.clear.ensures.none;
       is = λ base from ps σ h.
           let a = got refl (k.reads (with_args [] σ) (o σ h.stands.holds)) in
           let z : 0 < length ps.texts = omega (arith, h.count, c.if-parts-eq0.false) in
@@ -1397,6 +1453,7 @@ prefix_args-returns t c =
     let e = ap (λ (x : Demangler). x.s.now) w.others ∙ k.symbol in
     record {
       symbol = e;
+      same = w.same ∙ k.same ∙ cleared_lent c.args.d.now c.clear.new.self c.clear.ensures.stays c.clear.ensures.none;
       is = λ base from ps σ h.
           let a = got refl (k.reads (with_args [] σ) (o σ h.stands.holds)) in
           let z : 0 < length ps.texts = omega (arith, h.count, c.if-parts-eq0.false) in
@@ -1410,16 +1467,17 @@ pub new_prefix-returns-in_err-m : goal.new_prefix-returns-in_err-m
 new_prefix-returns-in_err-m t c =
     let p = err_from_is_err_and c.from_residual.result c.from_residual.ensures.1 in
     let k = c.in_err-m.ensures in
-    let u = puts_of c.args.d.now c.separate.new.stack c.separate.ensures in
+    let u = puts_of c.args.d.now c.separate.new.stack c.separate.ensures.left in
     rw (p.1, p.2) (record {
       symbol = k.symbol;
+      same = k.same ∙ lent_stack c.args.d.now c.separate.new.stack c.separate.ensures.same;
       is = λ base from ps σ h. parts_by (new_is _ ps σ) (unread_on (Behind ps) refl refl (k.is σ (holds_puts u h.stands.holds)));
     })
 
 pub new_prefix-push_sub-requires : goal.new_prefix-push_sub-requires
 new_prefix-push_sub-requires t c =
     let k = c.in_ok-m.ensures in
-    let u = puts_of c.args.d.now c.separate.new.stack c.separate.ensures in
+    let u = puts_of c.args.d.now c.separate.new.stack c.separate.ensures.left in
     let a = got refl (k.is c.requires.0.0 (holds_puts u c.requires.0.1)) in
     omega (arith, ap (λ (r : Parts). r.n) c.longer-more.ensures, more_top c.args.parts c.requires.0.1.text u a.wrote (omega arith) c.requires.1.1.1)
 
@@ -1428,10 +1486,11 @@ unfolding b
 new_prefix-returns-in_err-push_sub t c =
     let p = err_from_is_err_and c.from_residual-in_err-push_sub.result c.from_residual-in_err-push_sub.ensures.1 in
     let k = c.in_ok-m.ensures in
-    let u = puts_of c.args.d.now c.separate.new.stack c.separate.ensures in
+    let u = puts_of c.args.d.now c.separate.new.stack c.separate.ensures.left in
     let w = c.in_err-push_sub.ensures in
     rw (p.1, p.2) (record {
       symbol = ap (λ (x : Demangler). x.s.now) w.others ∙ k.symbol;
+      same = w.same ∙ k.same ∙ lent_stack c.args.d.now c.separate.new.stack c.separate.ensures.same;
       is = λ base from ps σ h.
           let a = got refl (k.is σ (holds_puts u h.stands.holds)) in
           let v = parted_as c.longer-more.ensures (parted_more h u a.wrote) in
@@ -1443,10 +1502,11 @@ pub new_prefix-returns-in_ok-push_sub : goal.new_prefix-returns-in_ok-push_sub
 unfolding b
 new_prefix-returns-in_ok-push_sub t c =
     let k = c.in_ok-m.ensures in
-    let u = puts_of c.args.d.now c.separate.new.stack c.separate.ensures in
+    let u = puts_of c.args.d.now c.separate.new.stack c.separate.ensures.left in
     let w = c.in_ok-push_sub.ensures in
     record {
       symbol = ap (λ (x : Demangler). x.s.now) w.others ∙ k.symbol;
+      same = w.same ∙ k.same ∙ lent_stack c.args.d.now c.separate.new.stack c.separate.ensures.same;
       is = λ base from ps σ h.
           let a = got refl (k.is σ (holds_puts u h.stands.holds)) in
           let v = parted_as c.longer-more.ensures (parted_more h u a.wrote) in
@@ -1458,9 +1518,10 @@ pub new_prefix-returns-else-not-here : goal.new_prefix-returns-else-not-here
 unfolding b
 new_prefix-returns-else-not-here t c =
     let k = c.in_ok-m.ensures in
-    let u = puts_of c.args.d.now c.separate.new.stack c.separate.ensures in
+    let u = puts_of c.args.d.now c.separate.new.stack c.separate.ensures.left in
     record {
       symbol = k.symbol;
+      same = k.same ∙ lent_stack c.args.d.now c.separate.new.stack c.separate.ensures.same;
       is = λ base from ps σ h.
           let a = got refl (k.is σ (holds_puts u h.stands.holds)) in
           parts_by (new_is _ ps σ ∙ then_ok (Behind ps) a.is ∙ behind_last ps a.said a.state (ahead_from c.part.new.d 69 k.symbol a.wrote.holds c.here.ensures c.if-not-here.false))
@@ -1472,13 +1533,14 @@ new_prefix-returns-else-not-here t c =
 pub part-returns-then-c-eq84 : goal.part-returns-then-c-eq84
 part-returns-then-c-eq84 t c =
     let k = c.template_param.ensures.parses in
-    record { symbol = k.symbol; is = λ σ h. by (ap (λ (x : Production). reading x σ) (part_T c.args.c c.if-c-eq84.true)) (narrow h (k.reads σ h)) }
+    record { symbol = k.symbol; same = k.same; is = λ σ h. by (ap (λ (x : Production). reading x σ) (part_T c.args.c c.if-c-eq84.true)) (narrow h (k.reads σ h)) }
 
 pub part-returns-then-digit_ahead : goal.part-returns-then-digit_ahead
 part-returns-then-digit_ahead t c =
     let k = c.source_name.ensures.parses in
     record {
       symbol = k.symbol;
+      same = k.same;
       is = λ σ h.
           by (ap (λ (x : Production). reading x σ) (part_other c.args.c c.if-c-eq84.false) ∙ part_digit h (sym c.digit_ahead.ensures ∙ c.if-digit_ahead.true))
           (narrow h (k.reads σ h));
@@ -1487,23 +1549,24 @@ part-returns-then-digit_ahead t c =
 pub part-returns : goal.part-returns
 part-returns t c =
     let k = c.unqualified_name.ensures in
-    record { symbol = k.symbol; is = λ σ h. by (ap (λ (x : Production). reading x σ) (part_other c.args.c c.if-c-eq84.false)) (k.reads σ h) }
+    record { symbol = k.symbol; same = k.same; is = λ σ h. by (ap (λ (x : Production). reading x σ) (part_other c.args.c c.if-c-eq84.false)) (k.reads σ h) }
 
 -- ---------------------------------------------------------------- items
 
 pub items-loop-c-init : goal.items-loop-c-init
-items-loop-c-init t c = record { symbol = refl; so_far = listing_start c.args.kind c.requires.1 }
+items-loop-c-init t c = record { symbol = refl; same = refl; so_far = listing_start c.args.kind c.requires.1 }
 
 pub items-returns-in_default : goal.items-returns-in_default
 items-returns-in_default t c =
     let i = c.loop-c.invariant in
-    record { symbol = i.symbol; is = λ σ h. let l = i.so_far.so_far σ h in listed_ends l (at_end l (peeked_from c.loop-c.d i.symbol c.peek.ensures c.in_default.is)) }
+    record { symbol = i.symbol; same = i.same; is = λ σ h. let l = i.so_far.so_far σ h in listed_ends l (at_end l (peeked_from c.loop-c.d i.symbol c.peek.ensures c.in_default.is)) }
 
 pub items-returns-then-stops : goal.items-returns-then-stops
 items-returns-then-stops t c =
     let i = c.loop-c.invariant in
     record {
       symbol = i.symbol;
+      same = i.same;
       is = λ σ h. let l = i.so_far.so_far σ h in listed_ends l (at_byte l (peeked_from c.loop-c.d i.symbol c.peek.ensures c.in-Some.is) (sym c.stops.ensures ∙ c.if-stops.true));
     }
 
@@ -1511,9 +1574,10 @@ pub items-returns-in_err-m : goal.items-returns-in_err-m
 items-returns-in_err-m t c =
     let p = err_from_is_err_and c.from_residual.result c.from_residual.ensures.1 in
     let i = c.loop-c.invariant in
-    let u = puts_of c.loop-c.d c.comma.new.stack c.comma.ensures in
+    let u = puts_of c.loop-c.d c.comma.new.stack c.comma.ensures.left in
     rw (p.1, p.2) (record {
       symbol = c.in_err-m.ensures.symbol ∙ i.symbol;
+      same = c.in_err-m.ensures.same ∙ lent_stack c.loop-c.d c.comma.new.stack c.comma.ensures.same ∙ i.same;
       is = λ σ h. let l = i.so_far.so_far σ h in
           listed_refuses l (at_byte l (peeked_from c.loop-c.d i.symbol c.peek.ensures c.in-Some.is) (sym c.stops.ensures ∙ c.if-stops.false)) refl
           (item_from c.loop-c.d i.symbol c.comma.new.stack c.args.kind (Err c.in_err-m.field-0.0) c.in_err-m.ensures l.state (holds_puts u l.stands.holds)) refl;
@@ -1523,7 +1587,7 @@ pub items-longer-list-requires : goal.items-longer-list-requires
 items-longer-list-requires t c =
     let i = c.loop-c.invariant in
     let l = i.so_far.so_far _ c.requires.1 in
-    let u = puts_of c.loop-c.d c.comma.new.stack c.comma.ensures in
+    let u = puts_of c.loop-c.d c.comma.new.stack c.comma.ensures.left in
     let g = got refl (item_from c.loop-c.d i.symbol c.comma.new.stack c.args.kind (Ok c.in_ok-m.m) c.in_ok-m.ensures l.state (holds_puts u l.stands.holds)) in
     (omega (arith, g.wrote.size, g.wrote.short), (i.so_far.small, omega (arith, i.so_far.far, i.so_far.inside, i.so_far.short)))
 
@@ -1531,7 +1595,7 @@ pub items-loop-c-smaller : goal.items-loop-c-smaller
 items-loop-c-smaller t c =
     let i = c.loop-c.invariant in
     let l = i.so_far.so_far _ c.requires.1 in
-    let u = puts_of c.loop-c.d c.comma.new.stack c.comma.ensures in
+    let u = puts_of c.loop-c.d c.comma.new.stack c.comma.ensures.left in
     let g = got refl (item_from c.loop-c.d i.symbol c.comma.new.stack c.args.kind (Ok c.in_ok-m.m) c.in_ok-m.ensures l.state (holds_puts u l.stands.holds)) in
     omega (arith, g.wrote.more, g.wrote.holds.place, ap length i.symbol, ap length c.in_ok-m.ensures.symbol)
 
@@ -1539,9 +1603,10 @@ pub items-loop-c-preserved : goal.items-loop-c-preserved
 items-loop-c-preserved t c =
     let i = c.loop-c.invariant in
     let z = peeked_from c.loop-c.d i.symbol c.peek.ensures c.in-Some.is in
-    let u = puts_of c.loop-c.d c.comma.new.stack c.comma.ensures in
+    let u = puts_of c.loop-c.d c.comma.new.stack c.comma.ensures.left in
     rw c.longer-list.ensures (record {
       symbol = c.in_ok-m.ensures.symbol ∙ i.symbol;
+      same = c.in_ok-m.ensures.same ∙ lent_stack c.loop-c.d c.comma.new.stack c.comma.ensures.same ∙ i.same;
       so_far = listing_more i.so_far c.requires.1 u z (sym c.stops.ensures ∙ c.if-stops.false) refl
           (item_from c.loop-c.d i.symbol c.comma.new.stack c.args.kind (Ok c.in_ok-m.m) c.in_ok-m.ensures) refl;
     })
@@ -1552,7 +1617,7 @@ pub item-returns-in_err-n-in-Arguments : goal.item-returns-in_err-n-in-Arguments
 item-returns-in_err-n-in-Arguments t c =
     let p = err_from_is_err_and c.from_residual.result c.from_residual.ensures.1 in
     let k = c.in_err-n-in-Arguments.ensures in
-    rw (p.1, p.2) (record { symbol = k.symbol; is = λ σ h. argument_refused σ c.in-Arguments.is refl (k.reads σ h) })
+    rw (p.1, p.2) (record { symbol = k.symbol; same = k.same; is = λ σ h. argument_refused σ c.in-Arguments.is refl (k.reads σ h) })
 
 pub item-push_arg-requires : goal.item-push_arg-requires
 item-push_arg-requires t c =
@@ -1567,6 +1632,7 @@ item-returns-in_err-push_arg-in-Arguments t c =
     let u = c.in_err-push_arg-in-Arguments.ensures in
     rw (p.1, p.2) (record {
       symbol = ap (λ (x : Demangler). x.s.now) u.others ∙ k.symbol;
+      same = u.same ∙ k.same;
       is = λ σ h. let g = read_of k h in argument_kept _ σ c.in-Arguments.is g.is g.wrote u (stood g.wrote);
     })
 
@@ -1576,6 +1642,7 @@ item-returns-in_ok-push_arg-in-Arguments t c =
     let u = c.in_ok-push_arg-in-Arguments.ensures in
     record {
       symbol = ap (λ (x : Demangler). x.s.now) u.others ∙ k.symbol;
+      same = u.same ∙ k.same;
       is = λ σ h. let g = read_of k h in argument_kept _ σ c.in-Arguments.is g.is g.wrote u (stood g.wrote);
     }
 
@@ -1593,30 +1660,30 @@ template_args-returns-in_err-enter t c =
 
 pub template_args-items-requires : goal.template_args-items-requires
 template_args-items-requires t c =
-    let o = opened c.put.new.self (needed c.in_ok-need.ensures) c.in_ok-enter.ensures c.put.ensures.left in
+    let o = opened c.put.new.self (needed c.in_ok-need.ensures) c.in_ok-enter.ensures c.put.ensures.left c.put.ensures.same in
     (omega (arith, c.decreases, o.inside, ap (λ (x : Demangler). x.state.at) o.is, ap (λ (x : Demangler). length x.s.now) o.is), (_, opened_held o c.requires.1))
 
 pub template_args-returns-in_err-list : goal.template_args-returns-in_err-list
 template_args-returns-in_err-list t c =
     let p = err_from_is_err_and c.from_residual-in_err-list.result c.from_residual-in_err-list.ensures.1 in
-    let o = opened c.put.new.self (needed c.in_ok-need.ensures) c.in_ok-enter.ensures c.put.ensures.left in
+    let o = opened c.put.new.self (needed c.in_ok-need.ensures) c.in_ok-enter.ensures c.put.ensures.left c.put.ensures.same in
     rw (p.1, p.2) (args_no_list o c.in_err-list.ensures)
 
 pub template_args-returns-in_err-need-2 : goal.template_args-returns-in_err-need-2
 template_args-returns-in_err-need-2 t c =
     let p = err_from_is_err_and c.from_residual-in_err-need-2.result c.from_residual-in_err-need-2.ensures.1 in
-    let o = opened c.put.new.self (needed c.in_ok-need.ensures) c.in_ok-enter.ensures c.put.ensures.left in
+    let o = opened c.put.new.self (needed c.in_ok-need.ensures) c.in_ok-enter.ensures c.put.ensures.left c.put.ensures.same in
     rw (p.1, p.2) (args_unclosed o c.in_ok-list.ensures (lacked c.in_err-need-2.ensures))
 
 pub template_args-newest-requires : goal.template_args-newest-requires
 template_args-newest-requires t c =
-    let o = opened c.put.new.self (needed c.in_ok-need.ensures) c.in_ok-enter.ensures c.put.ensures.left in
+    let o = opened c.put.new.self (needed c.in_ok-need.ensures) c.in_ok-enter.ensures c.put.ensures.left c.put.ensures.same in
     let q = needed c.in_ok-need-2.ensures in
     omega (arith, stands_some (bracketed o c.in_ok-list.ensures q c.requires.1) (omega arith), ap (λ (x : Demangler). x.stack.top) (c.leave.ensures ∙ ap (λ (x : Demangler). at_depth x c.need.new.self.state.depth) q.is))
 
 pub template_args-sum-requires : goal.template_args-sum-requires
 template_args-sum-requires t c =
-    let o = opened c.put.new.self (needed c.in_ok-need.ensures) c.in_ok-enter.ensures c.put.ensures.left in
+    let o = opened c.put.new.self (needed c.in_ok-need.ensures) c.in_ok-enter.ensures c.put.ensures.left c.put.ensures.same in
     let z : length c.if-eq.close.now ≤ 2 = elim c.if-eq.branch [
       | template_args-then-eq w ↦ omega (arith, ap (λ (x : Bor Text). length x.now) w.close-is)
       | template_args-else-eq w ↦ omega (arith, ap (λ (x : Bor Text). length x.now) w.close-is)
@@ -1626,7 +1693,7 @@ template_args-sum-requires t c =
 pub template_args-returns : goal.template_args-returns
 template_args-returns t c =
     let e = needed c.in_ok-need.ensures in
-    let o = opened c.put.new.self e c.in_ok-enter.ensures c.put.ensures.left in
+    let o = opened c.put.new.self e c.in_ok-enter.ensures c.put.ensures.left c.put.ensures.same in
     let q = needed c.in_ok-need-2.ensures in
     let v = bracketed o c.in_ok-list.ensures q c.requires.1 in
     let i = c.leave.ensures ∙ ap (λ (x : Demangler). at_depth x c.need.new.self.state.depth) q.is in
@@ -1637,13 +1704,14 @@ template_args-returns t c =
       | template_args-else-eq w ↦ ap (λ (x : Bor Text). x.now) w.close-is ∙ ap close_of (sym w.if-eq.false)
     ] in
     args_closed o c.in_ok-list.ensures q c.leave.ensures (ap (λ (x : Demangler). x.state.depth) e.is)
-    (newest_byte _ _ 62 g (omega (arith, top, stands_some v (omega arith))) c.newest.ensures c.as_slice.ensures c.eq.ensures) z c.put-2.ensures.left c.sum.ensures c.given.ensures
+    (newest_byte _ _ 62 g (omega (arith, top, stands_some v (omega arith))) c.newest.ensures c.as_slice.ensures c.eq.ensures) z c.put-2.ensures.left c.put-2.ensures.same c.sum.ensures c.given.ensures
 
 -- ---------------------------------------------------------------- template_arg
 
 pub template_arg-returns-then-here : goal.template_arg-returns-then-here
 template_arg-returns-then-here t c = record {
   symbol = c.expr_primary.ensures.symbol;
+  same = c.expr_primary.ensures.same;
   reads = λ σ h. by (arg_literal c.args.d.now.s.now c.args.d.now.state.at σ h.rest (ahead_from c.args.d.now 76 refl h c.here.ensures c.if-here.true)) (c.expr_primary.ensures.reads σ h);
 }
 
@@ -1662,6 +1730,7 @@ template_arg-returns-in_err-d t c =
     let o : c.in_err-d.field-0.0 ≡ NoRule = grind (arith, c.in_err-d.ensures) in
     rw (p.1, p.2, o) (record {
       symbol = ap (λ (x : Demangler). x.s.now) e.is;
+      same = ap lent e.is;
       reads = λ σ h. by (arg_open c.args.d.now.s.now c.args.d.now.state.at σ h.rest (ap (λ (t : Text). starts t (88 ∷ [])) h.rest ∙ e.past.ahead) (skips_none known a)) refuses;
     })
 
@@ -1673,6 +1742,7 @@ template_arg-returns-then-eat t c =
     let k = skips_to known a in
     record {
       symbol = ap (λ (x : Demangler). x.s.now) e.is;
+      same = lent_stack c.eat.new.self c.put.new.self c.put.ensures.same ∙ ap lent e.is;
       reads = λ σ h. by (arg_skipped c.args.d.now.s.now c.args.d.now.state.at σ h.rest (ap (λ (t : Text). starts t (88 ∷ [])) h.rest ∙ e.past.ahead) k.0)
           (less (omega (arith, h.deep)) (gives_word c.args.d.now c.put.new.self (ap (λ (x : Demangler). at_place x c.in_ok-d.field-0) e.is) h k.1.1 k.1.0 (omega arith) c.put.ensures.left));
     }
@@ -1690,6 +1760,7 @@ template_arg-returns-then-eat-2 t c =
     let k = parses_behind keep e c.pack.ensures in
     record {
       symbol = k.symbol;
+      same = k.same;
       reads = λ σ h. by (arg_pack c.args.d.now.s.now c.args.d.now.state.at σ h.rest (ap (λ (t : Text). starts t (74 ∷ [])) h.rest ∙ e.past.ahead)) (sooner (omega arith) (k.reads σ h));
     }
 
@@ -1701,6 +1772,7 @@ template_arg-returns t c =
     subst (λ (x : Demangler). Parses (reading ⟨type⟩) (keep (x.state.depth + 1)) (x.state.at + 1) x c.ty.new.d c.ty.result) m.1 c.ty.ensures in
     record {
       symbol = k.symbol;
+      same = k.same;
       reads = λ σ h. by (arg_other σ (ahead_from c.args.d.now 76 refl h c.here.ensures c.if-here.false)
           (ap (λ (t : Text). starts t (88 ∷ [])) h.rest ∙ n.0) (ap (λ (t : Text). starts t (74 ∷ [])) h.rest ∙ m.0)) (less (omega arith) (k.reads σ h));
     }
@@ -1708,7 +1780,7 @@ template_arg-returns t c =
 -- ---------------------------------------------------------------- pack
 
 pub pack-loop-c-init : goal.pack-loop-c-init
-pack-loop-c-init t c = record { symbol = refl; so_far = λ σ h. packed_start h c.none-outer.ensures }
+pack-loop-c-init t c = record { symbol = refl; same = refl; so_far = λ σ h. packed_start h c.none-outer.ensures }
 
 pub pack-returns-in_err-c : goal.pack-returns-in_err-c
 pack-returns-in_err-c t c =
@@ -1716,7 +1788,7 @@ pack-returns-in_err-c t c =
     let v = c.loop-c.invariant in
     let f = given_none c.peek.result _ c.in_err-c.ensures.value in
     let e = ap (λ (t : Text). peeked (drop c.loop-c.d.state.at t)) (sym v.symbol) ∙ sym c.peek.ensures ∙ f.0 in
-    rw (p.1, p.2, f.1) (record { symbol = v.symbol; reads = λ σ h. by (packed_4 (v.so_far σ h) e) refuses })
+    rw (p.1, p.2, f.1) (record { symbol = v.symbol; same = v.same; reads = λ σ h. by (packed_4 (v.so_far σ h) e) refuses })
 
 pub pack-returns-in_err-m : goal.pack-returns-in_err-m
 pack-returns-in_err-m t c =
@@ -1724,7 +1796,7 @@ pack-returns-in_err-m t c =
     let v = c.loop-c.invariant in
     let e = ap (λ (t : Text). peeked (drop c.loop-c.d.state.at t)) (sym v.symbol) ∙ sym c.peek.ensures ∙ given_some c.peek.result _ c.in_ok-c.ensures.value in
     let g = given_err c.saturating_sub.result c.in_err-m.ensures in
-    rw (p.1, p.2, g.1) (record { symbol = v.symbol; reads = λ σ h. packed_long (v.so_far σ h) e c.if-c-eq69.true c.saturating_sub.ensures g.0 })
+    rw (p.1, p.2, g.1) (record { symbol = v.symbol; same = v.same; reads = λ σ h. packed_long (v.so_far σ h) e c.if-c-eq69.true c.saturating_sub.ensures g.0 })
 
 pub pack-overflow_add-m : goal.pack-overflow_add-m
 pack-overflow_add-m t c =
@@ -1745,6 +1817,7 @@ pack-returns-in-None t c =
     let g = given_ok c.saturating_sub.result c.in_ok-m.ensures in
     record {
       symbol = v.symbol;
+      same = v.same;
       reads = λ σ h. packed_ends (v.so_far σ h) e c.if-c-eq69.true (g.1 ∙ c.saturating_sub.ensures) (omega (arith, g.0, g.1)) c.in-None.ensures.1.1;
     }
 
@@ -1755,6 +1828,7 @@ pack-loop-c-preserved-then-c-eq69 t c =
     let g = given_ok c.saturating_sub.result c.in_ok-m.ensures in
     record {
       symbol = v.symbol;
+      same = v.same;
       so_far = λ σ h. packed_closes (v.so_far σ h) e c.if-c-eq69.true (g.1 ∙ c.saturating_sub.ensures) (omega (arith, g.0, g.1)) c.in-Some.ensures c.sum-n.ensures;
     }
 
@@ -1764,7 +1838,8 @@ pack-loop-c-preserved-then-opens t c =
     let e = ap (λ (t : Text). peeked (drop c.loop-c.d.state.at t)) (sym v.symbol) ∙ sym c.peek.ensures ∙ given_some c.peek.result _ c.in_ok-c.ensures.value in
     record {
       symbol = v.symbol;
-      so_far = λ σ h. packed_opens (v.so_far σ h) e refl (puts_of (at_place c.loop-c.d (c.loop-c.d.state.at + 1)) c.comma.new.stack c.comma.ensures)
+      same = lent_stack c.loop-c.d c.comma.new.stack c.comma.ensures.same ∙ v.same;
+      so_far = λ σ h. packed_opens (v.so_far σ h) e refl (puts_of (at_place c.loop-c.d (c.loop-c.d.state.at + 1)) c.comma.new.stack c.comma.ensures.left)
           (sym c.opens.ensures ∙ c.if-opens.true) c.loop-c.outer.room c.push.ensures;
     }
 
@@ -1776,14 +1851,15 @@ pack-returns-in_err-m-2 t c =
     let k = c.in_err-m-2.ensures in
     rw (p.1, p.2) (record {
       symbol = k.symbol ∙ v.symbol;
-      reads = λ σ h. packed_refuses (v.so_far σ h) e (λ z. omega (arith, z, c.if-c-eq69.false)) (puts_of c.loop-c.d c.comma.new.stack c.comma.ensures) (reads_from v.symbol k) refl;
+      same = k.same ∙ lent_stack c.loop-c.d c.comma.new.stack c.comma.ensures.same ∙ v.same;
+      reads = λ σ h. packed_refuses (v.so_far σ h) e (λ z. omega (arith, z, c.if-c-eq69.false)) (puts_of c.loop-c.d c.comma.new.stack c.comma.ensures.left) (reads_from v.symbol k) refl;
     })
 
 pub pack-overflow_add-m-in-loop-c : goal.pack-overflow_add-m-in-loop-c
 pack-overflow_add-m-in-loop-c t c =
     let v = c.loop-c.invariant in
     let e = ap (λ (t : Text). peeked (drop c.loop-c.d.state.at t)) (sym v.symbol) ∙ sym c.peek.ensures ∙ given_some c.peek.result _ c.in_ok-c.ensures.value in
-    let u = puts_of c.loop-c.d c.comma.new.stack c.comma.ensures in
+    let u = puts_of c.loop-c.d c.comma.new.stack c.comma.ensures.left in
     omega (arith, text_short (v.so_far _ c.requires.1) e (λ z. omega (arith, z, c.if-c-eq69.false)) u (reads_from v.symbol c.in_ok-m-2.ensures) refl)
 
 pub pack-sum-n-requires-in-loop-c : goal.pack-sum-n-requires-in-loop-c
@@ -1791,7 +1867,7 @@ pack-sum-n-requires-in-loop-c t c =
     let v = c.loop-c.invariant in
     let l = v.so_far _ c.requires.1 in
     let e = ap (λ (t : Text). peeked (drop c.loop-c.d.state.at t)) (sym v.symbol) ∙ sym c.peek.ensures ∙ given_some c.peek.result _ c.in_ok-c.ensures.value in
-    let u = puts_of c.loop-c.d c.comma.new.stack c.comma.ensures in
+    let u = puts_of c.loop-c.d c.comma.new.stack c.comma.ensures.left in
     (omega (arith, l.size), omega (arith, text_short l e (λ z. omega (arith, z, c.if-c-eq69.false)) u (reads_from v.symbol c.in_ok-m-2.ensures) refl))
 
 pub pack-loop-c-smaller : goal.pack-loop-c-smaller
@@ -1803,7 +1879,7 @@ pack-loop-c-smaller t c =
     omega (
       arith,
       inside l e,
-      text_further l e (λ z. omega (arith, z, c.if-c-eq69.false)) (puts_of c.loop-c.d c.comma.new.stack c.comma.ensures) (reads_from v.symbol k) refl,
+      text_further l e (λ z. omega (arith, z, c.if-c-eq69.false)) (puts_of c.loop-c.d c.comma.new.stack c.comma.ensures.left) (reads_from v.symbol k) refl,
       ap length v.symbol,
       ap length k.symbol,
     )
@@ -1815,8 +1891,9 @@ pack-loop-c-preserved t c =
     let k = c.in_ok-m-2.ensures in
     record {
       symbol = k.symbol ∙ v.symbol;
+      same = k.same ∙ lent_stack c.loop-c.d c.comma.new.stack c.comma.ensures.same ∙ v.same;
       so_far = λ σ h. packed_more (v.so_far σ h) e (λ z. omega (arith, z, c.if-c-eq69.false))
-          (puts_of c.loop-c.d c.comma.new.stack c.comma.ensures) (reads_from v.symbol k) refl c.sum-n-in-loop-c.ensures;
+          (puts_of c.loop-c.d c.comma.new.stack c.comma.ensures.left) (reads_from v.symbol k) refl c.sum-n-in-loop-c.ensures;
     }
 
 -- ---------------------------------------------------------------- expr_primary
@@ -1839,7 +1916,7 @@ expr_primary-returns-in_err-n t c =
     let e₂ = ate c.if-eat.true (subst (λ (x : Demangler). Eats 95 x c.eat.new.self c.eat.result) e.is c.eat.ensures) in
     let w : Parses (reading ⟨name⟩) (keep (c.args.d.now.state.depth + 1)) (c.args.d.now.state.at + 1 + 1 + 1) (at_place c.args.d.now (c.args.d.now.state.at + 1 + 1)) c.name.new.d (Err c.in_err-n.field-0.0) =
     subst (λ (x : Demangler). Parses (reading ⟨name⟩) (keep (x.state.depth + 1)) (x.state.at + 1) x c.name.new.d (Err c.in_err-n.field-0.0)) e₂.is c.in_err-n.ensures in
-    rw (p.1, p.2) (record { symbol = w.symbol; reads = λ σ h. lit_name_refused h e.past.ahead e₂.past.ahead refl w.reads refl })
+    rw (p.1, p.2) (record { symbol = w.symbol; same = w.same; reads = λ σ h. lit_name_refused h e.past.ahead e₂.past.ahead refl w.reads refl })
 
 pub expr_primary-returns-then-eat : goal.expr_primary-returns-then-eat
 expr_primary-returns-then-eat t c =
@@ -1862,7 +1939,7 @@ expr_primary-returns-in_err-n-2 t c =
     let n = ate_none c.if-eat.false (subst (λ (x : Demangler). Eats 95 x c.eat.new.self c.eat.result) e.is c.eat.ensures) in
     let w : Parses (reading ⟨type⟩) (keep (c.args.d.now.state.depth + 1)) (c.args.d.now.state.at + 1 + 1) (at_place c.args.d.now (c.args.d.now.state.at + 1)) c.ty.new.d (Err c.in_err-n-2.field-0.0) =
     subst (λ (x : Demangler). Parses (reading ⟨type⟩) (keep (x.state.depth + 1)) (x.state.at + 1) x c.ty.new.d (Err c.in_err-n-2.field-0.0)) n.1 c.in_err-n-2.ensures in
-    rw (p.1, p.2) (record { symbol = w.symbol; reads = λ σ h. lit_type_refused h e.past.ahead n.0 refl w.reads refl })
+    rw (p.1, p.2) (record { symbol = w.symbol; same = w.same; reads = λ σ h. lit_type_refused h e.past.ahead n.0 refl w.reads refl })
 
 pub expr_primary-before-to-requires : goal.expr_primary-before-to-requires
 expr_primary-before-to-requires t c =
@@ -1883,6 +1960,7 @@ expr_primary-returns-in_err-need-2 t c =
     let a = lacked c.in_err-need-2.ensures in
     rw (p.1, p.2, a.why_is) (record {
       symbol = ap (λ (x : Demangler). x.s.now) a.is ∙ w.symbol;
+      same = ap lent a.is ∙ w.same;
       reads = λ σ h. lit_open h e.past.ahead n.0 refl w.reads refl o (ap (λ (t : Text). starts (drop c.before-to.result t) (69 ∷ [])) (sym w.symbol) ∙ a.so);
     })
 
@@ -1921,6 +1999,7 @@ expr_primary-returns t c =
     let q = c.literal.ensures in
     record {
       symbol = ap (λ (x : Demangler). x.s.now) q.others ∙ y;
+      same = q.same ∙ ap lent a.is ∙ w.same;
       reads = λ σ h. lit_given h e.past.ahead n.0 refl w.reads refl o (ap (λ (t : Text). starts (drop c.before-to.result t) (69 ∷ [])) (sym w.symbol) ∙ a.past.ahead) (ap state_of a.is)
           (printed_from c.ty.new.d c.before-to.result w.symbol a.is y q);
     }

@@ -1,5 +1,5 @@
 use Rattle.std.proofs.Common.{◌+◌, ◌-◌, ◌*◌, ◌≡◌, length}
-use Rattle.parser.specs.Demanglers.{state_of, memory_of}
+use Rattle.parser.specs.Demanglers.{state_of, memory_of, lent}
 use Rattle.reader.specs.Laws.Items.{Listing}
 use Rattle.reader.specs.Laws.Nested.{Prefixing}
 use Rattle.reader.specs.Laws.Packs.{Packing}
@@ -98,6 +98,7 @@ decreases-wrapped l = 32 * (length l.d.now.s.now - l.d.now.state.at) + 9
 abbrev pub invariant-items-loop-c : goal.invariant-items-loop-c
 invariant-items-loop-c l = record {
   symbol : l.d.s.now ≡ l.initial.d.s.now;
+  same : lent l.d ≡ lent l.initial.d;
   so_far : Listing l.kind l.initial.d.s.now (memory_of l.initial.d) (state_of l.initial.d) (memory_of l.d) (state_of l.d) l.list.n l.list.count;
 }
 
@@ -107,6 +108,7 @@ decreases-items-loop-c l = length l.d.s.now - l.d.state.at
 abbrev pub invariant-nested_name-loop-c : goal.invariant-nested_name-loop-c
 invariant-nested_name-loop-c l = record {
   symbol : l.d.s.now ≡ l.initial.d.s.now;
+  same : lent l.d ≡ lent l.initial.d;
   so_far : Prefixing l.initial.d.s.now (memory_of l.initial.d) (state_of l.initial.d) (memory_of l.d) (state_of l.d) l.parts;
 }
 
@@ -116,6 +118,7 @@ decreases-nested_name-loop-c l = length l.d.s.now - l.d.state.at
 abbrev pub invariant-pack-loop-c : goal.invariant-pack-loop-c
 invariant-pack-loop-c l = record {
   symbol : l.d.s.now ≡ l.initial.d.s.now;
+  same : lent l.d ≡ lent l.initial.d;
   so_far : Packing l.initial.d.s.now (memory_of l.initial.d) (state_of l.initial.d) (memory_of l.d) (state_of l.d) l.outer l.n;
 }
 

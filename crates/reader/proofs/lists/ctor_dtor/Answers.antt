@@ -4,7 +4,7 @@ use Rattle.grammar.specs.Text.{Text}
 use Rattle.store.specs.Stack.{newest, Put}
 use Rattle.store.specs.Laws.Tails.{stack_of}
 use Rattle.parser.specs.Leaves.{Classed}
-use Rattle.parser.specs.Laws.Demanglers.{puts_of}
+use Rattle.parser.specs.Laws.Demanglers.{puts_of, lent_stack}
 use Rattle.parser.specs.Laws.Wraps.{puts_top, newest_size}
 use Rattle.reader.specs.declared.lists.Parts.{Parts}
 use Rattle.reader.specs.Lists.{before_part}
@@ -15,7 +15,7 @@ use Rattle.reader.proofs.lists.ctor_dtor.Goals as goal
 use Rattle.reader.proofs.lists.ctor_dtor.Goals.{then-c-eq68, else-c-eq68}
 
 pub returns-then-n-gt-BYTES : goal.returns-then-n-gt-BYTES
-returns-then-n-gt-BYTES c = record { others = refl; is = λ s store ends base from ps σ x t e h. structor_long h e refl (omega arith) }
+returns-then-n-gt-BYTES c = record { others = refl; same = refl; is = λ s store ends base from ps σ x t e h. structor_long h e refl (omega arith) }
 
 pub again-requires : goal.again-requires
 again-requires c =
@@ -30,7 +30,7 @@ again-requires c =
     let last : length c.newest.result.now ≡ q.last = ap length c.newest.ensures ∙ newest_size q.last (stack_of d.stack) (omega (arith, c.requires.1, c.if-n-gt-BYTES.false)) in
     let o = between q.count (ap (λ (z : Parts). z.n) c.longer-more.ensures) c.if-n-gt-BYTES.false (omega (arith, c.min-m.ensures)) y in
     let back : ℕ = q.last - r.from in
-    let u = puts_of d c.separate.new.stack c.separate.ensures in
+    let u = puts_of d c.separate.new.stack c.separate.ensures.left in
     let v = puts_of (record d { stack = c.separate.new.stack }) c.put.new.self c.put.ensures.left in
     let size = colons_size q.count in
     let a = puts_top back (stack_of d.stack) u (omega (arith, c.requires.1, c.if-n-gt-BYTES.false)) (omega (arith, c.requires.1, c.if-n-gt-BYTES.false)) in
@@ -53,13 +53,14 @@ returns c =
     let r : Classed (newest d.stack.bytes.now d.stack.top q.last) c.class_of-class.result = subst (λ (z : Text). Classed z c.class_of-class.result) c.newest.ensures c.class_of-class.ensures in
     let put : Put c.separate.new.stack.bytes.now c.put.new.self.bytes.now c.separate.new.stack.top c.put.new.self.top (tilde_of c.args.c) =
     subst (λ (z : Text). Put c.separate.new.stack.bytes.now c.put.new.self.bytes.now c.separate.new.stack.top c.put.new.self.top z) tilde c.put.ensures.left in
-    let u = puts_of d c.separate.new.stack c.separate.ensures in
+    let u = puts_of d c.separate.new.stack c.separate.ensures.left in
     let v = puts_of (record d { stack = c.separate.new.stack }) c.put.new.self put in
     let w = puts_of (record d { stack = c.put.new.self }) c.again.new.self c.again.ensures.left in
     let size = ap length tilde in
     let last = ap (λ (z : Parts). z.last) c.longer-more.ensures in
     rw (ap (λ (z : Parts). z.count) c.longer-more.ensures) (record {
       others = refl;
+      same = lent_stack d c.again.new.self (c.again.ensures.same ∙ c.put.ensures.same ∙ c.separate.ensures.same);
       is = λ s store ends base from ps σ x t e h.
           structor_named h c.if-n-gt-BYTES.false x t e r u v (omega (arith, c.min-m.ensures)) (omega (arith, o, size)) w refl (omega (arith, n, size)) (omega (arith, last, size));
     })

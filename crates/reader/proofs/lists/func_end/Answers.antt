@@ -5,7 +5,7 @@ use Rattle.grammar.specs.Reader.{recorded}
 use Rattle.parser.specs.Holds.{keep}
 use Rattle.parser.specs.Laws.Holds.{by, less}
 use Rattle.parser.specs.Laws.Wraps.{stands_puts}
-use Rattle.parser.specs.Laws.Demanglers.{puts_of, cuts_of}
+use Rattle.parser.specs.Laws.Demanglers.{puts_of, cuts_of, lent_stack}
 use Rattle.reader.specs.Funcs.{opening}
 use Rattle.reader.specs.Laws.Funcs.{function_listed, function_bare, void_text, newest_four, stands_without, recorded_behind}
 use Rattle.store.specs.Laws.Tails.{top_size}
@@ -32,6 +32,7 @@ pub returns-then-lone_void : goal.returns-then-lone_void
 unfolding b
 returns-then-lone_void c = record {
   others = recorded_behind c.args.d.now c.recorded.new.self c.put.new.self c.recorded.ensures.others;
+  same = c.recorded.ensures.same ∙ lent_stack c.args.d.now c.put.new.self (c.put.ensures.same ∙ c.cut.ensures.same);
   is = λ s base from t ts σ h e f g.
       let d = c.args.d.now in
       let q = sym (c.lone_void.ensures.is ts g f (λ i. newest_four t (join (b ", ") ts) h (omega (arith, e, c.requires.1.0)) (omega (arith, f, i)))) ∙ c.if-lone_void.true in
@@ -48,6 +49,7 @@ pub returns : goal.returns
 unfolding b
 returns c = record {
   others = recorded_behind c.args.d.now c.recorded-2.new.self c.put-2.new.self c.recorded-2.ensures.others;
+  same = c.recorded-2.ensures.same ∙ lent_stack c.args.d.now c.put-2.new.self c.put-2.ensures.same;
   is = λ s base from t ts σ h e f g.
       let d = c.args.d.now in
       let z = length-append (t ++ (opening ++ join (b ", ") ts)) (41 ∷ []) in
