@@ -27,22 +27,30 @@ pub fn digit_value(c: u8) -> u64
 }
 
 // The digits of the base that stand at `at`, and the place behind them.
-pub fn digits<const BASE: u64>(s: &[u8], at: usize) -> Number
-    requires { 1 ≤ BASE }
-    ensures { Numbered BASE s.now at result }
+pub fn digits_in(s: &[u8], at: usize, base: u64) -> Number
+    requires { 1 ≤ base }
+    ensures { Numbered base s.now at result }
 {
     let mut value: u64 = 0;
     for next in at..s.len() {
         let d = digit_value(s[next]);
-        if BASE <= d {
+        if base <= d {
             return Number { value, next };
         }
-        value = value.saturating_mul(BASE).saturating_add(d);
+        value = value.saturating_mul(base).saturating_add(d);
     }
     Number {
         value,
         next: at.max(s.len()),
     }
+}
+
+// The same, of a base that is known beforehand.
+pub fn digits<const BASE: u64>(s: &[u8], at: usize) -> Number
+    requires { 1 ≤ BASE }
+    ensures { Numbered BASE s.now at result }
+{
+    digits_in(s, at, BASE)
 }
 
 // The digits of n, the last of them before `end`. Returned is the place of the first.

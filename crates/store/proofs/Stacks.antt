@@ -3,8 +3,9 @@ use mathlib.Core.Path.{◌≡◌, refl, sym, ap, ap₂, ◌∙◌}
 use mathlib.Core.List.{[], ◌∷◌, ◌++◌, append_assoc, append-nil}
 use Prim.Native.Nat.{ℕ, ◌+◌, ◌-◌, ◌*◌, ◌≤◌, ◌<◌}
 use native.Mathlib.Omega.{arith}
-use lib.ListN.{length, take, drop, get_or, length-append, length-drop}
+use lib.ListN.{length, take, drop, get_or, set, length-append, length-drop, length-set}
 use lib.Seq.{paste, take-paste, length-paste, length-take-le, take_at, take_all, take-take, drop-drop, get_or-take, get_or-drop}
+use Rattle.std.proofs.lemmas.List.{take_more_set}
 use Rattle.grammar.specs.Text.{Text}
 use Rattle.grammar.specs.Limits.{kept_bytes, stack_bytes}
 use Rattle.grammar.specs.Grammar.{at_slots}
@@ -12,6 +13,13 @@ use Rattle.store.specs.Stack.{Stack, Put, Cut, Room, Grown, slots_in, at_slot, n
 use Rattle.store.specs.Laws.Lists.{drop_take, part_of}
 use Rattle.store.specs.Laws.Tails.{top_size}
 use Rattle.store.specs.Laws.Slots.{at_slot_yes, at_slot_no, at_slots_none, at_slots_more, at_slots_part, length_at_slots}
+
+pub grown_set : {T : Text} {top : ℕ} (x : ℕ) → Stack T top → top < stack_bytes → Grown T (set T top x) top (top + 1) (x ∷ [])
+grown_set {T} {top} x h l = record {
+  top_is = refl;
+  is = take_more_set T top x (omega (arith, h.size));
+  stack = record { size = length-set T top x ∙ h.size; most = omega arith };
+}
 
 pub grown_then : {T T₁ T₂ : Text} {top r r₂ : ℕ} (t u : Text) → Grown T T₁ top r t → Grown T₁ T₂ r r₂ u → Grown T T₂ top r₂ (t ++ u)
 grown_then {T} {T₁} {T₂} {top} {r} {r₂} t u g h = record {

@@ -1,18 +1,29 @@
 // A stack of texts in 51,200 bytes: the first `top` bytes, the newest last; those behind them may be anything. Where a text
 // does not fit, the oldest bytes leave and the newest 34,816 stay.
-ghost use Rattle.std.specs.Prelude.{◌≡◌, ◌++◌, ◌+◌, ◌-◌, ◌*◌, ◌≤◌, length, take, drop};
+ghost use Rattle.std.specs.Prelude.{◌≡◌, [], ◌∷◌, ◌++◌, ◌+◌, ◌-◌, ◌*◌, ◌≤◌, ◌<◌, length, take, drop};
 ghost use Rattle.grammar.specs.Limits.{most_text_bytes, kept_bytes, stack_bytes};
 ghost use Rattle.grammar.specs.Grammar.{at_slots};
 ghost use Rattle.store.specs.Stack.{Put, Cut, Room, Grown, slots_in, at_slot, newest, below_newest};
 
 use grammar::state::Parser;
 use grammar::text;
+use memchr::memchr;
 
 // How many of its newest bytes a full stack keeps: those of an entry, and what readings may drop above it.
 const KEPT: usize = Parser::BYTES + 2048;
 
 // The length of the stack.
 pub const LENGTH: usize = KEPT + Parser::TEXT;
+
+// How many slots stand in a text. Almost none has one, and whether one stands there is seen many bytes at a time.
+pub fn slots(text: &[u8]) -> usize
+    ensures { (result ≡ slots_in text.now) × (result ≤ length text.now) }
+{
+    let Some(_) = memchr(1, text) else {
+        return 0;
+    };
+    text.iter().filter(|x| **x == 1).count()
+}
 
 #[derive(Drop)]
 pub struct Stack<'a> {
@@ -35,7 +46,7 @@ impl Stack<'_> {
     }
 
     // Room for so many bytes.
-    fn room(&mut self, size: usize)
+    pub fn room(&mut self, size: usize)
         requires { size ≤ most_text_bytes }
         ensures same { self.new.bytes.ghost_name ≡ self.old.bytes.ghost_name }
         ensures left { Room self.old.bytes.now self.new.bytes.now self.old.top self.new.top size }
@@ -53,6 +64,16 @@ impl Stack<'_> {
     {
         text::copy(self.bytes, self.top, word);
         self.top += word.len();
+    }
+
+    // The byte, for which there is room, on the top.
+    fn place_byte(&mut self, x: u8)
+        requires { self.old.top < stack_bytes }
+        ensures same { self.new.bytes.ghost_name ≡ self.old.bytes.ghost_name }
+        ensures left { Grown self.old.bytes.now self.new.bytes.now self.old.top self.new.top (x ∷ []) }
+    {
+        self.bytes[self.top] = x;
+        self.top += 1;
     }
 
     // The n bytes at `from`, for which there is room, on the top once more.
@@ -98,7 +119,7 @@ impl Stack<'_> {
         requires { n ≤ self.now.top }
         ensures { (result ≡ slots_in (newest self.now.bytes.now self.now.top n)) × (result ≤ n) }
     {
-        self.newest(n).iter().filter(|x| **x == 1).count()
+        slots(self.newest(n))
     }
 
     // Puts the byte x on the top, and before a slot the d bytes at `low` and the word.
@@ -113,7 +134,7 @@ impl Stack<'_> {
             self.repeat(low, d);
             self.place(word);
         }
-        self.place(&[x]);
+        self.place_byte(x);
     }
 
     // Puts the newest n bytes on the top once more, with the d bytes below them and the word in front of each slot.

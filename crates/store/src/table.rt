@@ -4,8 +4,9 @@ ghost use Rattle.std.specs.Prelude.{◌≡◌, List, [], ◌∷◌, ◌++◌, �
 ghost use Rattle.grammar.specs.Text.{Text};
 ghost use Rattle.grammar.specs.Limits.{most_entries, most_entry_bytes};
 ghost use Rattle.grammar.specs.Reader.{bytes_of};
-ghost use Rattle.store.specs.Table.{Front, Entries, Room, ends_from};
+ghost use Rattle.store.specs.Table.{Front, Entries, Placed, Room, ends_from};
 
+use grammar::part::Part;
 use grammar::state::Parser;
 use grammar::text;
 
@@ -64,13 +65,23 @@ impl Table<'_> {
         }
     }
 
+    // Where entry k stands.
+    pub fn place(&self, k: usize) -> Part
+        requires { k < length self.now.ends.now }
+        ensures { (l : List Text) (store : List ℕ) (count bytes : ℕ) → Entries l store self.now.ends.now count bytes → k < count
+            → Placed l store k result.from result.to }
+    {
+        let from = self.start(k);
+        let to = self.start(k + 1);
+        Part { from, to }
+    }
+
     // Entry k.
     pub fn get(&self, k: usize) -> &[u8]
         requires { (l : List Text) × ((Entries l self.now.bytes.now self.now.ends.now self.now.count self.now.used) × (k < self.now.count)) }
         ensures { (l : List Text) → Entries l self.now.bytes.now self.now.ends.now self.now.count self.now.used → result.now ≡ get_or l k [] }
     {
-        let from = self.start(k);
-        let to = self.start(k + 1);
-        &self.bytes[from..to]
+        let at = self.place(k);
+        &self.bytes[at.from..at.to]
     }
 }

@@ -1,9 +1,11 @@
 -- Laws of what the methods of the reader's state answer. Assumes nothing.
-use Rattle.std.specs.Prelude.{◌≡◌, ℕ, ◌+◌, ◌<◌, ◌≤◌, nat_lt, Bool, true, false, [], ◌∷◌, drop, Option, Some, None, Result, Ok, Err}
+use Rattle.std.specs.Prelude.{◌≡◌, ℕ, ◌+◌, ◌<◌, ◌≤◌, nat_lt, Bool, true, false, [], ◌∷◌, length, drop, Option, Some, None, Result, Ok, Err}
 use Rattle.std.proofs.Math.Path.{refl}
-use Rattle.std.proofs.Common.{sym, ap, ◌∙◌, drop-drop, arith, ltb-true, ltb-false}
+use Rattle.std.proofs.Common.{sym, ap, ◌∙◌, subst, length-drop, drop-drop, arith, ltb-true, ltb-false}
 use Rattle.grammar.specs.Limits.{most_open}
 use Rattle.grammar.specs.Text.{Text, if◌then◌otherwise◌, starts}
+use Rattle.grammar.specs.Laws.NameSteps.{starts_one}
+use Rattle.grammar.specs.Laws.Places.{Stands, stands_by}
 use Rattle.grammar.specs.declared.refusal.Refusal.{Refusal}
 use Rattle.grammar.specs.declared.refusal.Refusal.TheVariants.{TooDeep}
 use Rattle.grammar.specs.declared.state.Parser.{Parser}
@@ -60,3 +62,28 @@ module _ (p : Parser) where
       go : (b : Bool) → nat_lt p.depth most_open ≡ b → ◌≡◌ {A = Result Parser Refusal} (if b then Ok (back_at p (p.depth + 1)) otherwise Err TooDeep) (Err k) → (most_open ≤ p.depth) × (k ≡ TooDeep)
       go true g f = let z : ◌≡◌ {A = ℕ} 0 1 = cc in absurd (omega arith)
       go false g f = (ltb-false p.depth most_open g, cc)
+
+-- ---------------------------------------------------------------- a byte read past
+
+-- the byte c stands at p's place, and q is behind it
+pub record Past (s : Text) (p : Parser) (c : ℕ) (q : Parser) : Type 0 where
+  pub stands : Stands s p.at c
+  pub next : q ≡ behind p
+
+module _ (s : Text) (p : Parser) {c : ℕ} {q : Parser} where
+  pub took_past : taken p (drop p.at s) ≡ Some (c, q) → Past s p c q
+  took_past e = let (f, g) = took s p e in record { stands = stands_by _ f; next = g }
+
+  pub ate_past : eaten p c (drop p.at s) ≡ Some q → Past s p c q
+  ate_past e = let (f, g) = ate p c (drop p.at s) e in record { stands = stands_by _ (starts_one (drop p.at s) c f); next = g }
+
+-- the same from a state that is equal
+pub past_from : {s : Text} {p q n : Parser} {c : ℕ} → q ≡ p → Past s q c n → Past s p c n
+past_from {s} {n = n} {c = c} e h = subst (λ (x : Parser). Past s x c n) e h
+
+pub none_from : (s : Text) (c : ℕ) {p q : Parser} → q ≡ p → starts (drop q.at s) (c ∷ []) ≡ false → starts (drop p.at s) (c ∷ []) ≡ false
+none_from s c e h = subst (λ (x : Parser). starts (drop x.at s) (c ∷ []) ≡ false) e h
+
+-- nothing stands there
+pub end_from : (s : Text) {p q : Parser} → q ≡ p → drop q.at s ≡ [] → length s ≤ p.at
+end_from s {p} {q} e h = omega (arith, length-drop q.at s, ap length h, ap (λ (x : Parser). x.at) e)

@@ -1,6 +1,6 @@
 -- What stands at a place of a text, in the form in which the code's tests tell it, and behind a run. Assumes nothing.
-use Rattle.std.specs.Prelude.{Some, None, ◌≡◌, ℕ, suc, ◌+◌, ◌<◌, ◌≤◌, Bool, true, false, ◌&&◌, [], ◌∷◌, length, drop, ◌==◌, slice_index, slice_set, refl}
-use Rattle.std.proofs.Common.{drop-drop, sym, ap, ap₂, ◌∙◌, add-one, arith, length-set, length-drop, drop_of_length-le, drop-cons, drop-set-lt, get_or-set_same}
+use Rattle.std.specs.Prelude.{Some, None, ◌≡◌, ℕ, suc, ◌+◌, ◌<◌, ◌≤◌, Bool, true, false, ◌&&◌, [], ◌∷◌, length, drop, ◌==◌, slice_index, slice_index_or, slice_set, refl}
+use Rattle.std.proofs.Common.{drop-drop, sym, ap, ap₂, ◌∙◌, add-one, arith, eq-eqb, length-set, length-drop, drop_of_length-le, drop-cons, drop-set-lt, get_or-set_same}
 use Rattle.grammar.specs.States.{peeked}
 use Rattle.std.proofs.lemmas.Bool.{false≢true}
 use Rattle.std.proofs.Math.Bool.{and-true}
@@ -32,6 +32,24 @@ starts_inside s at c h = omega (arith, some_there (drop at s) h, length-drop at 
     some_there : (t : Text) → starts t (c ∷ []) ≡ true → 0 < length t
     some_there [] e = absurd (false≢true e)
     some_there (x ∷ t) e = omega arith
+
+-- the byte c stands at a place
+pub record Stands (s : Text) (at c : ℕ) : Type 0 where
+  pub there : drop at s ≡ c ∷ drop (at + 1) s
+  pub ahead : starts (drop at s) (c ∷ []) ≡ true
+  pub inside : at < length s
+  pub byte : slice_index_or s at 0 ≡ c
+
+pub stands_by : {s : Text} {at c : ℕ} (u : Text) → drop at s ≡ c ∷ u → Stands s at c
+stands_by {s} {at} {c} u e =
+    let i : at < length s = omega (arith, length-drop at s, ap length e) in
+    let g : slice_index_or s at 0 ∷ drop (at + 1) s ≡ c ∷ u = sym (rest_some s at i) ∙ e in
+    record {
+      there = e ∙ ap (λ (t : Text). c ∷ t) (ap (drop 1) (sym e) ∙ drop-drop 1 at s);
+      ahead = rw e (starts_byte c c u ∙ eq-eqb c c refl);
+      inside = i;
+      byte = cc;
+    }
 
 -- what stands behind a run
 pub past_run : (p : ℕ → Bool) (t : Text) → past p t ≡ drop (length (run p t)) t

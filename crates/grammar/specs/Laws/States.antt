@@ -1,10 +1,10 @@
 -- What an answer of the state's methods tells, once it is taken apart. Assumes nothing.
 use Rattle.std.specs.Prelude.{◌≡◌, ℕ, ◌+◌, ◌<◌, ◌≤◌, Bool, true, false, [], ◌∷◌, length, drop, nat_lt, slice_index_or}
 use Rattle.std.proofs.Math.Path.{refl, sym}
-use Rattle.std.proofs.Common.{ap, ◌∙◌, arith, ltb-false, eq-eqb, length-drop, drop-drop}
+use Rattle.std.proofs.Common.{◌∙◌, arith, ltb-false}
 use Rattle.grammar.specs.Limits.{most_open}
 use Rattle.grammar.specs.Text.{Text, if◌then◌otherwise◌, starts}
-use Rattle.grammar.specs.Laws.Places.{starts_byte, rest_some}
+use Rattle.grammar.specs.Laws.Places.{Stands, stands_by}
 use Rattle.grammar.specs.States.{Progress, Read, moved_to, deeper, entered}
 use Rattle.grammar.specs.States as states
 use Rattle.grammar.specs.declared.refusal.Refusal.{Refusal}
@@ -33,13 +33,6 @@ pub record Past (s : Text) (p : Progress) (c : ℕ) (q : Progress) : Type 0 wher
 
 module _ {s : Text} {p : Progress} {c : ℕ} {q : Progress} where
   pub past_by : (u : Text) → drop p.at s ≡ c ∷ u → q ≡ moved_to p (p.at + 1) → Past s p c q
-  past_by u e f = record {
-    there = e ∙ ap (λ (t : Text). c ∷ t) (ap (drop 1) (sym e) ∙ drop-drop 1 p.at s);
-    ahead = rw e (starts_byte c c u ∙ eq-eqb c c refl);
-    inside = omega (arith, length-drop p.at s, ap length e);
-    byte =
-        let i : p.at < length s = omega (arith, length-drop p.at s, ap length e) in
-        let g : slice_index_or s p.at 0 ∷ drop (p.at + 1) s ≡ c ∷ u = sym (rest_some s p.at i) ∙ e in
-        cc;
-    next = f;
-  }
+  past_by u e f =
+      let h : Stands s p.at c = stands_by u e in
+      record { there = h.there; ahead = h.ahead; inside = h.inside; byte = h.byte; next = f }

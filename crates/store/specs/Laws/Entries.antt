@@ -111,7 +111,7 @@ stored {n} {store} k l f h =
     ∙ take_at t (concat (drop (suc k) l) ++ z) (length t) refl
 
 module _ {l : List Text} {store ends : List ℕ} {count bytes : ℕ} (h : Entries l store ends count bytes) where
-  -- what `place_of` returns
+  -- what `Table::place` returns
   pub placed : {k from to : ℕ} → k < count → from ≡ bytes_of (take k l) → to ≡ bytes_of (take (k + 1) l) → Placed l store k from to
   placed {k} {from} {to} i f e =
       let w : k < length l = omega (arith, h.count_is) in
@@ -141,6 +141,18 @@ module _ {l : List Text} {store ends : List ℕ} {count bytes : ℕ} (h : Entrie
         most = omega arith;
         room = fits;
       }
+
+-- the same slices, given in another way
+pub entries_as : {l : List Text} {store ends store' ends' : List ℕ} {count bytes : ℕ}
+    → store' ≡ store → ends' ≡ ends → Entries l store ends count bytes → Entries l store' ends' count bytes
+entries_as e f h = record {
+  store_is = front_as e h.store_is;
+  ends_is = front_as f h.ends_is;
+  count_is = h.count_is;
+  bytes_is = h.bytes_is;
+  most = h.most;
+  room = h.room;
+}
 
 -- what the struct of the code keeps
 pub sized_of : (t : Code) → Sized t.bytes.now t.ends.now

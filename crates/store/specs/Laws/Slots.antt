@@ -5,6 +5,11 @@ use Rattle.grammar.specs.Text.{Text, if◌then◌otherwise◌, each}
 use Rattle.grammar.specs.Grammar.{at_slots}
 use Rattle.store.specs.Stack.{slots_in, at_slot}
 
+pub slots_append : (s t : Text) → slots_in (s ++ t) ≡ slots_in s + slots_in t
+unfolding slots_in
+slots_append [] t = omega arith
+slots_append (x ∷ s) t = omega (arith, slots_append s t)
+
 pub at_slots_none : (w : Text) → at_slots w [] ≡ []
 unfolding at_slots each
 at_slots_none w = refl

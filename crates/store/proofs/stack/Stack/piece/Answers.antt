@@ -18,8 +18,8 @@ place-requires c =
       slot_room c.args.low c.args.d c.args.word.now c.args.x (stack_of c.args.self.now) c.requires.0 c.requires.1 c.if-x-eq1.true,
     )
 
-pub place-requires-2 : goal.place-requires-2
-place-requires-2 c =
+pub place_byte-requires : goal.place_byte-requires
+place_byte-requires c =
     let s = c.args.self.now in
     let w = take c.args.d (drop c.args.low s.bytes.now) ++ c.args.word.now in
     elim c.if-x-eq1.branch [
@@ -36,6 +36,6 @@ place-requires-2 c =
 pub returns-clause-left : goal.returns-clause-left
 returns-clause-left c =
     elim c.if-x-eq1.branch [
-      | then-x-eq1 u ↦ slot_put c.args.low c.args.d c.args.word.now c.args.x u.if-x-eq1.true u.repeat.ensures.left u.place.ensures.left (rw u.self-is at c.place-2.ensures.left)
-      | else-x-eq1 u ↦ byte_put c.args.low c.args.d c.args.word.now c.args.x u.if-x-eq1.false (rw u.self-is at c.place-2.ensures.left)
+      | then-x-eq1 u ↦ slot_put c.args.low c.args.d c.args.word.now c.args.x u.if-x-eq1.true u.repeat.ensures.left u.place.ensures.left (rw u.self-is at c.place_byte.ensures.left)
+      | else-x-eq1 u ↦ byte_put c.args.low c.args.d c.args.word.now c.args.x u.if-x-eq1.false (rw u.self-is at c.place_byte.ensures.left)
     ]

@@ -1,7 +1,7 @@
 use Rattle.std.proofs.Common.{◌≡◌, ℕ, ◌+◌, ◌≤◌, min, max, length, drop}
 use Rattle.grammar.specs.Text.{Text, run, digit, number}
 use Rattle.grammar.specs.Numbers.{most}
-use Rattle.grammar.proofs.numbers.digits.Given as goal
+use Rattle.grammar.proofs.numbers.digits_in.Given as goal
 
 pub record Begun (base : ℕ) (s : Text) (at value next : ℕ) : Type 0 where
   pub fits : value ≤ most
@@ -10,4 +10,4 @@ pub record Begun (base : ℕ) (s : Text) (at value next : ℕ) : Type 0 where
   pub ends : at + length (run (digit base) (drop at s)) ≡ next + length (run (digit base) (drop next s))
 
 abbrev pub invariant-loop-next : goal.invariant-loop-next
-invariant-loop-next g l = Begun g.row.BASE l.s l.at l.value l.next
+invariant-loop-next l = Begun l.base l.s l.at l.value l.next
