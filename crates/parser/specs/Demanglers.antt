@@ -4,8 +4,9 @@ use Rattle.std.proofs.Math.Option.{some}
 use Rattle.grammar.specs.Text.{Text, b, if◌then◌otherwise◌, choose, holds, same, starts}
 use Rattle.grammar.specs.Limits.{most_open, most_text_bytes, most_entries, most_entry_bytes, least_text, least_store, least_ends, most_length, kept_bytes}
 use Rattle.grammar.specs.Tables.{d_letters, wrappers}
-use Rattle.grammar.specs.Reader.{State, Reader, push_sub, push_arg, recorded, give, refuse, by_code, find}
+use Rattle.grammar.specs.Reader.{State, Reader, push_sub, push_arg, recorded, give, refuse, by_code, find, word_for}
 use Rattle.grammar.specs.Grammar.{last, slot, at_slots, literal}
+use Rattle.grammar.specs.Words.{at_slot}
 use Rattle.grammar.specs.States.{Progress, Read, read, Refused, fresh}
 use Rattle.grammar.specs.declared.refusal.Refusal.{Refusal}
 use Rattle.grammar.specs.declared.refusal.Refusal.TheVariants.{NoRule, TooDeep, LongText}
@@ -196,6 +197,16 @@ pub record Wraps (c n : ℕ) (d d' : Demangler) (r : Result ℕ Refusal) : Type 
       Stands k l s base from (memory_of d) (state_of d) n t σ →
       Refines k l s base from (memory_of d') (outcome (state_of d') r)
       (recorded (if holds slot t then at_slots (b u.1) t otherwise t ++ b u.0) σ)
+
+-- it was put at each slot of them
+pub record WrapsSlots (c n : ℕ) (d d' : Demangler) (r : Result ℕ Refusal) : Type 0 where
+  pub symbol : d'.s.now ≡ d.s.now
+  pub others : StackAndSubs d d'
+  pub same : lent d' ≡ lent d
+  pub is :
+      (k l : ℕ) (s base : Text) (from : ℕ) (t : Text) (σ : State) (w : Text) → word_for at_slot (c ∷ []) ≡ some w →
+      Stands k l s base from (memory_of d) (state_of d) n t σ →
+      Refines k l s base from (memory_of d') (outcome (state_of d') r) (recorded (at_slots w t) σ)
 
 -- the newest n bytes, with the c below them and the word at each slot, came in the place of all of them: an entry
 pub record Weaves (n c : ℕ) (word : Text) (d d' : Demangler) (r : Result ℕ Refusal) : Type 0 where

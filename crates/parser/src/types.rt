@@ -3,7 +3,7 @@ ghost use Rattle.std.specs.Prelude.{◌≡◌, ◌+◌, ◌*◌, ◌≤◌, ◌<
 ghost use Rattle.grammar.specs.Limits.{most_text_bytes, most_length};
 ghost use Rattle.grammar.specs.Words.{longest_word};
 ghost use Rattle.store.specs.Stack.{slots_in, newest};
-ghost use Rattle.parser.specs.Demanglers.{Prepared, BuiltinD, Wraps, Weaves, WrapsMember};
+ghost use Rattle.parser.specs.Demanglers.{Prepared, BuiltinD, Wraps, WrapsSlots, Weaves, WrapsMember};
 
 use crate::demangler::Demangler;
 use grammar::codes;
@@ -37,18 +37,26 @@ impl Demangler<'_> {
         ensures { Wraps c n self.old self.new result }
     {
         if self.stack.slots(n) != 0 {
-            let word = codes::slot_wrapper(c).ok_or(Refusal::NoRule)?;
-            return self.woven(n, 0, word);
+            return self.wrap_slots(n, c);
         }
         let word = codes::wrapper(c).ok_or(Refusal::NoRule)?;
         self.stack.put(word);
         self.recorded(n + word.len())
     }
 
+    // A wrapper put at each slot of the newest n bytes: an entry.
+    pub fn wrap_slots(&mut self, n: usize, c: u8) -> Result<usize, Refusal>
+        requires { (n ≤ self.old.stack.top) × (n ≤ most_text_bytes) }
+        ensures { WrapsSlots c n self.old self.new result }
+    {
+        let word = codes::slot_wrapper(c).ok_or(Refusal::NoRule)?;
+        self.woven(n, 0, word)
+    }
+
     // The newest n bytes with the d bytes below them and the word at each slot, in the place of all of them: an entry.
     fn woven(&mut self, n: usize, d: usize, word: &[u8]) -> Result<usize, Refusal>
         requires { (n ≤ most_text_bytes) × ((d ≤ most_text_bytes) × ((length word.now ≤ longest_word) × ((d + n ≤ self.old.stack.top)
-            × (slots_in (newest self.old.stack.bytes.now self.old.stack.top n) ≡ 0 → ⊥)))) }
+            × (slots_in (newest self.old.stack.bytes.now self.old.stack.top n) ≡ 0 → d ≡ 0)))) }
         ensures { Weaves n d word.now self.old self.new result }
     {
         let size = woven(n, self.stack.slots(n), d + word.len());

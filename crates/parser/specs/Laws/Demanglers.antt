@@ -131,7 +131,8 @@ texts_by d e = subst (λ (z : Demangler). StackAndSubs d z) (sym e) refl
 -- ---------------------------------------------------------------- readings that call no other back
 
 pub leaf_reads :
-    {f : Reader Text} {k from : ℕ} {d d' : Demangler} {r : Result ℕ Refusal} → OthersStay d d' → lent d' ≡ lent d → Reads f k from d.s.now (memory_of d) (memory_of d') (state_of d) (outcome (state_of d') r) →
+    {f : Reader Text} {k from : ℕ} {d d' : Demangler} {r : Result ℕ Refusal} → OthersStay d d' → lent d' ≡ lent d →
+    Reads f k from d.s.now (memory_of d) (memory_of d') (state_of d) (outcome (state_of d') r) →
     Leaf f k from d d' r
 leaf_reads e s h = record { parses = record { symbol = ap (λ (y : Demangler). y.s.now) e; same = s; reads = h }; others = e }
 
@@ -293,7 +294,8 @@ gives_word d {d₁} x {at} {from} {w} {σ} e h l i j u =
 -- a leaf that does so
 pub leaf_gives :
     (d : Demangler) {d₁ : Demangler} (x : Stack) {f : Reader Text} {at from : ℕ} {w : Text} → d₁ ≡ at_place d at → at ≤ length d.s.now → from ≤ at →
-    length w ≤ most_text_bytes → x.bytes.ghost_name ≡ d₁.stack.bytes.ghost_name → Put d₁.stack.bytes.now x.bytes.now d₁.stack.top x.top w → ((σ : State) → Held d σ → f σ ≡ give w (moved (drop at d.s.now) σ)) →
+    length w ≤ most_text_bytes → x.bytes.ghost_name ≡ d₁.stack.bytes.ghost_name → Put d₁.stack.bytes.now x.bytes.now d₁.stack.top x.top w →
+    ((σ : State) → Held d σ → f σ ≡ give w (moved (drop at d.s.now) σ)) →
     Leaf f kept_bytes from d (record d₁ { stack = x }) (Ok (length w))
 leaf_gives d x e l i j n u o = leaf_reads (others_by d (ap (λ (y : Demangler). record y { stack = x }) e)) (lent_moved d x e n) (λ σ h. by (o σ h) (gives_word d x e h l i j u))
 

@@ -123,7 +123,8 @@ loop-part-smaller c =
     let i = c.loop-part.invariant in
     let o = c.args.self.now in
     let h = here o c.loop-part.self i c.identifier.ensures c.in_ok-part.ensures.value in
-    let z = place o c.loop-part.self i c.identifier.ensures c.in_ok-part.ensures.value c.put.new.self (c.put.ensures.same, c.put.ensures.left) c.put-in-loop-part.new.self (ate c.if-not-eat.false c.eat.ensures) in
+    let z = place o c.loop-part.self i c.identifier.ensures c.in_ok-part.ensures.value c.put.new.self (c.put.ensures.same, c.put.ensures.left)
+    c.put-in-loop-part.new.self (ate c.if-not-eat.false c.eat.ensures) in
     omega (arith, h.behind, h.some, h.inside, z.0, ap length z.1, ap length (same o c.loop-part.self i))
 
 pub loop-part-preserved : goal.loop-part-preserved
@@ -136,5 +137,6 @@ loop-part-preserved c =
         others o d i c.identifier.ensures c.in_ok-part.ensures.value c.put.new.self (c.put.ensures.same, c.put.ensures.left) c.put-in-loop-part.new.self z,
         lent_on o d i c.identifier.ensures c.in_ok-part.ensures.value c.put.new.self (c.put.ensures.same, c.put.ensures.left) c.put-in-loop-part.new.self z c.put-in-loop-part.ensures.same,
       ),
-      more o d i c.identifier.ensures c.in_ok-part.ensures.value c.put.new.self (c.put.ensures.same, c.put.ensures.left) c.put-in-loop-part.new.self z c.put-in-loop-part.ensures.left c.sum-n.ensures c.sum-n-in-loop-part.ensures,
+      more o d i c.identifier.ensures c.in_ok-part.ensures.value c.put.new.self (c.put.ensures.same, c.put.ensures.left)
+          c.put-in-loop-part.new.self z c.put-in-loop-part.ensures.left c.sum-n.ensures c.sum-n-in-loop-part.ensures,
     )

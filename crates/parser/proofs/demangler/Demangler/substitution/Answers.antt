@@ -53,5 +53,6 @@ returns c =
     let n = needed c.in_ok-need.ensures in
     let e = behind n c.peek.ensures (given_some c.peek.result _ c.in_ok-c.ensures.value) in
     let f = c.in-Some.ensures.0 ∙ ap (λ (x : ℕ). word_for abbreviations (x ∷ [])) (sym e.byte) in
-    leaf_gives d c.put.new.self (ap (λ (x : Demangler). at_place x (x.state.at + 1)) n.is) (omega (arith, e.inside)) (omega arith) (omega (arith, c.in-Some.ensures.1)) c.put.ensures.same c.put.ensures.left
+    leaf_gives d c.put.new.self (ap (λ (x : Demangler). at_place x (x.state.at + 1)) n.is) (omega (arith, e.inside)) (omega arith) (omega (arith, c.in-Some.ensures.1))
+    c.put.ensures.same c.put.ensures.left
     (λ σ h. sub_word d.s.now d.state.at σ h.rest n.past.ahead e.inside c.in-Some.word.now f)

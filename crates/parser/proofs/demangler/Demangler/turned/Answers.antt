@@ -41,4 +41,8 @@ pub cut-requires : goal.cut-requires
 cut-requires c = omega (arith, room (state_of c.args.self.now) (stack_of c.args.self.now.stack) c.requires c.put.ensures.left c.again.ensures.left)
 
 pub returns : goal.returns
-returns c = record { others = refl; same = lent_stack c.args.self.now c.cut.new.self (c.cut.ensures.same ∙ c.again.ensures.same ∙ c.put.ensures.same); turned = turned (state_of c.args.self.now) (stack_of c.args.self.now.stack) c.requires c.put.ensures.left c.again.ensures.left c.cut.ensures.left }
+returns c = record {
+  others = refl;
+  same = lent_stack c.args.self.now c.cut.new.self (c.cut.ensures.same ∙ c.again.ensures.same ∙ c.put.ensures.same);
+  turned = turned (state_of c.args.self.now) (stack_of c.args.self.now.stack) c.requires c.put.ensures.left c.again.ensures.left c.cut.ensures.left;
+}

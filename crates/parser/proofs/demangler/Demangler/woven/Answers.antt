@@ -1,6 +1,6 @@
 use Rattle.std.proofs.Math.Path.{refl}
 use Rattle.std.proofs.Math.Nat.{mul-le-mul_right}
-use Rattle.std.proofs.Common.{◌≡◌, ℕ, ◌+◌, ◌-◌, ◌*◌, ◌≤◌, ◌++◌, sym, ap, ap₂, ◌∙◌, arith, length, drop, length-append, length-drop, length-take-le, subst}
+use Rattle.std.proofs.Common.{◌≡◌, ℕ, zero, suc, ◌+◌, ◌-◌, ◌*◌, ◌≤◌, ◌++◌, sym, ap, ap₂, ◌∙◌, arith, length, drop, length-append, length-drop, length-take-le, subst}
 use Rattle.grammar.specs.Text.{Text}
 use Rattle.grammar.specs.Limits.{most_entry_bytes, most_text_bytes}
 use Rattle.grammar.specs.Grammar.{at_slots}
@@ -28,6 +28,11 @@ room : (d : Demangler) (x : Stacked) {c n slots : ℕ} (word : Text) → c + n �
 room d x {c} {n} word l i j e p =
     omega (arith, woven c n word (stack_of d.stack) l e, puts_top (c + n) (stack_of d.stack) (puts_of d x p) l (omega arith))
 
+-- the text that comes is no shorter than what it stands for
+longer : (slots d w : ℕ) → (slots ≡ 0 → d ≡ 0) → d ≤ slots * (d + w)
+longer zero d w h = omega (arith, h refl)
+longer (suc m) d w h = omega (arith, mul-le-mul_right {m = 1} {n = suc m} (d + w) (omega arith))
+
 pub returns-then-size-gt-TEXT : goal.returns-then-size-gt-TEXT
 returns-then-size-gt-TEXT c = record {
   symbol = refl;
@@ -42,7 +47,12 @@ returns-then-size-gt-TEXT c = record {
 
 pub cut-requires : goal.cut-requires
 cut-requires c =
-    omega (arith, room c.args.self.now c.weave.new.self c.args.word.now c.requires.1.1.1.0 c.requires.1.0 c.requires.0 c.slots.ensures.0 c.weave.ensures.left, c.woven-size.ensures, c.if-size-gt-TEXT.false)
+    omega (
+      arith,
+      room c.args.self.now c.weave.new.self c.args.word.now c.requires.1.1.1.0 c.requires.1.0 c.requires.0 c.slots.ensures.0 c.weave.ensures.left,
+      c.woven-size.ensures,
+      c.if-size-gt-TEXT.false,
+    )
 
 pub recorded-requires : goal.recorded-requires
 recorded-requires c =
@@ -68,8 +78,7 @@ returns c = record {
       (ap₂ (λ (v t : Text). at_slots (v ++ c.args.word.now) t)
       (ap₂ (λ (v j : ℕ). below_newest c.args.self.now.stack.bytes.now c.args.self.now.stack.top v j) (sym f) (sym e) ∙ below_text x y h i) q)
       (puts_of c.args.self.now c.weave.new.self c.weave.ensures.left) in
-      let some_slots : c.slots.result ≡ 0 → ⊥ = λ v. c.requires.1.1.1.1 (sym c.slots.ensures.0 ∙ v) in
-      let r = mul-le-mul_right {m = 1} {n = c.slots.result} (c.args.d + length c.args.word.now) (omega (arith, some_slots)) in
+      let r = longer c.slots.result c.args.d (length c.args.word.now) (λ v. c.requires.1.1.1.1 (sym c.slots.ensures.0 ∙ v)) in
       c.recorded.ensures.is k l s base from _ σ
       (stands_replaced h u (cuts_of (record c.args.self.now { stack = c.weave.new.self }) c.cut.new.self c.cut.ensures.left)
       (length-append x y ∙ ap₂ (λ (v j : ℕ). v + j) e f) (omega (arith, z, c.woven-size.ensures, c.if-size-gt-TEXT.false))

@@ -1,6 +1,6 @@
 use Rattle.std.proofs.Math.Path.{refl}
 use Rattle.std.proofs.Math.Option.{Option, none, some}
-use Rattle.std.proofs.Common.{◌≡◌, ℕ, ◌+◌, [], ◌∷◌, ◌++◌, sym, ap, ◌∙◌, arith, length, length-append}
+use Rattle.std.proofs.Common.{◌≡◌, ℕ, [], ◌∷◌, ◌++◌, sym, ap, ◌∙◌, arith, length, length-append}
 use Rattle.grammar.specs.Text.{Text, b, choose}
 use Rattle.grammar.specs.Tables.{wrappers}
 use Rattle.grammar.specs.Reader.{find, word_for, recorded}
@@ -34,35 +34,24 @@ words_of x u e =
     (sym (ap (λ (o : Option (Wrapper × Text)). choose o (λ r. some (b r.0.0, b r.0.1)) none) (e []))
     ∙ by_pair (x ∷ []) [] (λ t v w. some (t, v)) none wrappers tt)
 
+pub returns-then-slots-ne0 : goal.returns-then-slots-ne0
+returns-then-slots-ne0 c = record {
+  symbol = c.wrap_slots.ensures.symbol;
+  others = c.wrap_slots.ensures.others;
+  same = c.wrap_slots.ensures.same;
+  is = λ k l s base from t σ u e h.
+      let i : length t ≡ c.args.n = omega (arith, h.size, c.requires.1) in
+      by (ap (λ (y : Text). recorded y σ)
+      (inside t (at_slots (b u.1) t) (t ++ b u.0) (λ j. c.if-slots-ne0.true (c.slots.ensures.0 ∙ ap slots_in (newest_text h (omega (arith, i, c.requires.1))) ∙ j))))
+      (c.wrap_slots.ensures.is k l s base from t σ (b u.1) (words_of _ u e).1 h);
+}
+
 pub returns-in_err-word : goal.returns-in_err-word
 returns-in_err-word c = record {
   symbol = refl;
   others = refl;
   same = refl;
-  is = λ k l s base from t σ u e h. absurd (some_not (sym (words_of _ u e).1 ∙ (spelled_none c.slot_wrapper.result c.in_err-word.ensures.value c.slot_wrapper.ensures).0));
-}
-
-pub returns-then-slots-ne0 : goal.returns-then-slots-ne0
-returns-then-slots-ne0 c = record {
-  symbol = c.woven.ensures.symbol;
-  others = c.woven.ensures.others;
-  same = c.woven.ensures.same;
-  is = λ k l s base from t σ u e h.
-      let f = some_is (sym (words_of _ u e).1 ∙ (spelled_some c.slot_wrapper.result _ c.in_ok-word.ensures.value c.slot_wrapper.ensures).0) in
-      let i : length t ≡ c.args.n = omega (arith, h.size, c.requires.1) in
-      let z : 0 + c.args.n ≡ c.args.n = omega arith in
-      by (ap (λ (y : Text). recorded y σ)
-      (inside t (at_slots (b u.1) t) (t ++ b u.0) (λ j. c.if-slots-ne0.true (c.slots.ensures.0 ∙ ap slots_in (newest_text h (omega (arith, i, c.requires.1))) ∙ j))
-      ∙ ap (λ (y : Text). at_slots y t) f))
-      (c.woven.ensures.is k l s base from [] t σ refl i (rw z h));
-}
-
-pub returns-in_err-word-2 : goal.returns-in_err-word-2
-returns-in_err-word-2 c = record {
-  symbol = refl;
-  others = refl;
-  same = refl;
-  is = λ k l s base from t σ u e h. absurd (some_not (sym (words_of _ u e).0 ∙ (spelled_none c.wrapper.result c.in_err-word-2.ensures.value c.wrapper.ensures).0));
+  is = λ k l s base from t σ u e h. absurd (some_not (sym (words_of _ u e).0 ∙ (spelled_none c.wrapper.result c.in_err-word.ensures.value c.wrapper.ensures).0));
 }
 
 pub recorded-requires : goal.recorded-requires
@@ -75,12 +64,12 @@ returns c = record {
   others = texts_by c.args.self.now c.recorded.ensures.others;
   same = c.recorded.ensures.same ∙ lent_stack c.args.self.now c.put.new.self c.put.ensures.same;
   is = λ k l s base from t σ u e h.
-      let x = spelled_some c.wrapper.result _ c.in_ok-word-2.ensures.value c.wrapper.ensures in
+      let x = spelled_some c.wrapper.result _ c.in_ok-word.ensures.value c.wrapper.ensures in
       let f = some_is (sym (words_of _ u e).0 ∙ x.0) in
       let i : length t ≡ c.args.n = omega (arith, h.size, c.requires.1) in
       by (ap (λ (y : Text). recorded y σ)
       (behind t (at_slots (b u.1) t) (t ++ b u.0) (ap slots_in (sym (newest_text h (omega (arith, i, c.requires.1)))) ∙ sym c.slots.ensures.0 ∙ c.if-slots-ne0.false)
       ∙ ap (λ (y : Text). t ++ y) f))
       (c.recorded.ensures.is k l s base from _ σ
-      (stands_puts h (puts_of c.args.self.now c.put.new.self c.put.ensures.left) (omega (arith, length-append t c.in_ok-word-2.word.now, i, x.1, c.requires.1))));
+      (stands_puts h (puts_of c.args.self.now c.put.new.self c.put.ensures.left) (omega (arith, length-append t c.in_ok-word.word.now, i, x.1, c.requires.1))));
 }

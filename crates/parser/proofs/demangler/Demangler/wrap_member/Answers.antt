@@ -35,7 +35,8 @@ pub recorded-requires : goal.recorded-requires
 recorded-requires c =
     omega (
       arith,
-      puts_top (c.args.m + 1 + c.args.c) (stack_of c.turned.new.self.stack) (puts_of c.turned.new.self c.put.new.self c.put.ensures.left) c.turned.ensures.turned.least (omega (arith, c.requires.0, c.requires.1.0)),
+      puts_top (c.args.m + 1 + c.args.c) (stack_of c.turned.new.self.stack) (puts_of c.turned.new.self c.put.new.self c.put.ensures.left)
+          c.turned.ensures.turned.least (omega (arith, c.requires.0, c.requires.1.0)),
     )
 
 pub returns : goal.returns

@@ -16,7 +16,8 @@ piece-requires c =
 
 pub loop-i-preserved : goal.loop-i-preserved
 loop-i-preserved c =
-    (c.piece.ensures.same ∙ c.loop-i.invariant.0, piece_more c.args.n c.args.d c.args.word.now (stack_of c.args.self.now) c.requires.0 c.loop-i.i c.loop-i.auto.i (omega arith) c.loop-i.invariant.1 c.piece.ensures.left)
+    let g = c.loop-i.invariant in
+    (c.piece.ensures.same ∙ g.0, piece_more c.args.n c.args.d c.args.word.now (stack_of c.args.self.now) c.requires.0 c.loop-i.i c.loop-i.auto.i (omega arith) g.1 c.piece.ensures.left)
 
 pub returns-clause-left : goal.returns-clause-left
 returns-clause-left c =
