@@ -165,8 +165,8 @@ pub record Kept (w w' : Writer) (A : Type 0) : Type 0 where
 -- the same of a step that writes in some of the slices alone: f of them stays as it was
 pub record KeptBut (f : Work → Work) (w w' : Writer) (A : Type 0) : Type 0 where
   pub symbol : w'.s.now ≡ w.s.now
-  pub same : lent w' ≡ lent w
   pub stays : f (slices_of w') ≡ f (slices_of w)
+  pub same : lent w' ≡ lent w
   pub is : A
 
 -- the answer is that of the walk with numbers, and L holds of the next state
