@@ -7,7 +7,7 @@ ghost use Rattle.store.specs.Stack.{Put, Cut, Room, Grown, slots_in, at_slot, ne
 
 use grammar::state::Parser;
 use grammar::text;
-use memchr::memchr;
+use memchr::memchr_iter;
 
 // How many of its newest bytes a full stack keeps: those of an entry, and what readings may drop above it.
 const KEPT: usize = Parser::BYTES + 2048;
@@ -15,14 +15,15 @@ const KEPT: usize = Parser::BYTES + 2048;
 // The length of the stack.
 pub const LENGTH: usize = KEPT + Parser::TEXT;
 
-// How many slots stand in a text. Almost none has one, and whether one stands there is seen many bytes at a time.
+// How many slots stand in a text. Few or none do: a search passes over many bytes at a time, where `count` would take each.
 pub fn slots(text: &[u8]) -> usize
     ensures { (result ≡ slots_in text.now) × (result ≤ length text.now) }
 {
-    let Some(_) = memchr(1, text) else {
-        return 0;
-    };
-    text.iter().filter(|x| **x == 1).count()
+    let mut found: usize = 0;
+    for _ in memchr_iter(1, text) {
+        found += 1;
+    }
+    found
 }
 
 #[derive(Drop)]
