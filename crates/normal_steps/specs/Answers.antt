@@ -1,7 +1,6 @@
 -- What an answer of the code says was read, by the definitions of the walk.
 use Rattle.std.specs.Prelude.{Bool, false, ◌≡◌, ℕ, ◌-◌, ◌≤◌, ◌<◌, min, length, drop, Option, Some, None}
 use Rattle.grammar.specs.Text.{Text, choose}
-use Rattle.grammar.specs.Numbers.{most}
 use Rattle.grammar.specs.declared.part.Part.{Part}
 use Rattle.catalogue.specs.Tree.{Kind, Ty, lit, kind_code}
 use Rattle.catalogue.specs.Class.{lit_ok}
@@ -29,14 +28,12 @@ NameIs s at None = name (drop at s) ≡ stop
 
 -- all indexes that are larger answer with this one, which no table reaches
 abbrev pub most_index : ℕ
-most_index = most
+most_index = most_note
 
 pub record RefAt (s : Text) (at i end : ℕ) : Type 0 where
   pub index : ℕ
   pub is : reference (drop at s) ≡ rd index (drop end s)
   pub told : i ≡ min index most_index
-  -- and up to `most_note`, which no table reaches either
-  pub noted : min i most_note ≡ min index most_note
   pub behind : at < end
   pub inside : end ≤ length s
 

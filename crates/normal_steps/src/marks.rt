@@ -9,7 +9,10 @@ ghost use Rattle.normal_steps.specs.Answers.{RefIs, ValueIs, LitIs, valid_by};
 use crate::words;
 use grammar::{numbers, text};
 
-// The index, `usize::MAX` for all that are larger, and the place behind `_`.
+// So large an index is past every table.
+const MOST_INDEX: u64 = 65536;
+
+// The index, 65,536 for all that are larger, and the place behind `_`.
 #[derive(Clone, Copy, Debug, PartialEq, Eq)]
 pub struct Referred {
     pub index: usize,
@@ -51,7 +54,7 @@ pub fn reference(s: &[u8], at: usize) -> Option<Referred>
     let index = if end == at {
         0
     } else {
-        number.value.saturating_add(1) as usize
+        number.value.saturating_add(1).min(MOST_INDEX) as usize
     };
     Some(Referred {
         index,

@@ -130,7 +130,6 @@ module _ (s : Text) (at end : ℕ) (e : end ≡ at + length (run (digit 36) (dro
       index = index 36 (run (digit 36) (drop at s));
       is = ref_by h ∙ rw p refl;
       told = m;
-      noted = omega (arith, m);
       behind = omega arith;
       inside = omega (arith, starts_inside s end 95 h);
     }

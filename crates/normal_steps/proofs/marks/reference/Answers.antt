@@ -20,5 +20,5 @@ returns c =
     ref_right c.args.s.now c.args.at _ n.behind (sym c.here.ensures ∙ c.if-not-here.false) (sym c.canonical.ensures ∙ c.if-not-canonical.false) _
     (elim c.if-end-at.branch [
       | then-end-at w ↦ omega (arith, index_none d (omega (arith, n.behind)))
-      | else-end-at w ↦ omega (arith, w.saturating_add.ensures, n.is, index_some d (omega (arith, n.behind)))
+      | else-end-at w ↦ omega (arith, w.min.ensures, w.saturating_add.ensures, n.is, index_some d (omega (arith, n.behind)))
     ])
