@@ -21,7 +21,7 @@ use Rattle.store.specs.declared.stack.Stack.{Stack}
 use Rattle.parser.specs.declared.demangler.Demangler.{Demangler}
 use Rattle.parser.specs.Demanglers.{state_of, memory_of, Held, at_place, at_depth, Enters, Parses, given_length, lent}
 use Rattle.parser.specs.Holds.{Stands, Puts, refuses, window, keep}
-use Rattle.parser.specs.Laws.Demanglers.{Passed, Stayed, deeper_by_one, went_in, stayed_out, puts_of, given_by, lent_stack}
+use Rattle.parser.specs.Laws.Demanglers.{Passed, Stayed, ParsesInAny, parses_lent, deeper_by_one, went_in, stayed_out, puts_of, given_by, lent_stack}
 use Rattle.parser.specs.Laws.Holds.{by, holds_puts}
 use Rattle.parser.specs.Laws.Wraps.{stands_puts}
 use Rattle.reader.specs.declared.lists.Joined.{Joined}
@@ -88,9 +88,24 @@ pub record InAngles (d d' : Demangler) (x : Stack) : Type 0 where
   pub same : lent (record (within d) { stack = x }) ≡ lent d
   pub puts : Puts d.stack.bytes.now x.bytes.now (state_of (within d)) (state_of (record (within d) { stack = x })) (60 ∷ [])
 
+-- as `InAngles`, in any slices
+pub record InAnglesInAny (d d' : Demangler) (x : Stack) : Type 0 where
+  pub ahead : starts (drop d.state.at d.s.now) (73 ∷ []) ≡ true
+  pub inside : d.state.at + 1 ≤ length d.s.now
+  pub below : d.state.depth < most_open
+  pub is : d' ≡ within d
+  pub puts : Puts d.stack.bytes.now x.bytes.now (state_of (within d)) (state_of (record (within d) { stack = x })) (60 ∷ [])
+
+module _ {d d' : Demangler} {x : Stack} where
+  pub angles_in_any : InAngles d d' x → InAnglesInAny d d' x
+  angles_in_any o = record { ahead = o.ahead; inside = o.inside; below = o.below; is = o.is; puts = o.puts }
+
+  angles_lent : InAnglesInAny d d' x → lent (record (within d) { stack = x }) ≡ lent d → InAngles d d' x
+  angles_lent o s = record { ahead = o.ahead; inside = o.inside; below = o.below; is = o.is; same = s; puts = o.puts }
+
 pub opened :
-    {d d₁ d₂ : Demangler} (x : Stack) {u : Unit {0}} → Passed 73 d d₁ → Enters d₁ d₂ (Ok u) → Put d₂.stack.bytes.now x.bytes.now d₂.stack.top x.top (60 ∷ []) → x.bytes.ghost_name ≡ d₂.stack.bytes.ghost_name → InAngles d d₂ x
-opened {d} {d₁} {d₂} x p e u n =
+    {d d₁ d₂ : Demangler} (x : Stack) {u : Unit {0}} → Passed 73 d d₁ → Enters d₁ d₂ (Ok u) → Put d₂.stack.bytes.now x.bytes.now d₂.stack.top x.top (60 ∷ []) → InAnglesInAny d d₂ x
+opened {d} {d₁} {d₂} x p e u =
     let w = went_in e in
     let f : d₂ ≡ within d = w.1 ∙ ap deeper_by_one p.is in
     record {
@@ -98,11 +113,16 @@ opened {d} {d₁} {d₂} x p e u n =
       inside = omega (arith, p.past.inside);
       below = omega (arith, w.0, ap (λ (y : Demangler). y.state.depth) p.is);
       is = f;
-      same = lent_stack (within d) x (n ∙ ap (λ (y : Demangler). y.stack.bytes.ghost_name) f);
       puts = puts_of (within d) x (subst (λ (y : Demangler). Put y.stack.bytes.now x.bytes.now y.stack.top x.top (60 ∷ [])) f u);
     }
 
-module _ {d d' : Demangler} {x : Stack} (o : InAngles d d' x) where
+pub opened_lent :
+    {d d₁ d₂ : Demangler} (x : Stack) {u : Unit {0}} → Passed 73 d d₁ → Enters d₁ d₂ (Ok u) → Put d₂.stack.bytes.now x.bytes.now d₂.stack.top x.top (60 ∷ []) → x.bytes.ghost_name ≡ d₂.stack.bytes.ghost_name → InAngles d d₂ x
+opened_lent {d} {d₁} {d₂} x p e u n =
+    let o = opened x p e u in
+    angles_lent o (lent_stack (within d) x (n ∙ ap (λ (y : Demangler). y.stack.bytes.ghost_name) o.is))
+
+module _ {d d' : Demangler} {x : Stack} (o : InAnglesInAny d d' x) where
   -- the state of the list
   abbrev list_state : State → State
   list_state σ = at_level (σ.depth + 1) (moved (drop (d.state.at + 1) d.s.now) σ)
@@ -123,21 +143,17 @@ module _ {d d' : Demangler} {x : Stack} (o : InAngles d d' x) where
     list_in r i = subst (λ (y : Demangler). Itemized Arguments (record y { stack = x }) d₄ r) o.is i
 
     -- a list that is none
-    pub args_no_list : {e : Refusal} → Itemized Arguments (record d' { stack = x }) d₄ (Err e) → Parses (reading ⟨template-args⟩) (keep (d.state.depth + 1)) (d.state.at + 1) d d₄ (Err e)
+    pub args_no_list : {e : Refusal} → Itemized Arguments (record d' { stack = x }) d₄ (Err e) → ParsesInAny (reading ⟨template-args⟩) (keep (d.state.depth + 1)) (d.state.at + 1) d d₄ (Err e)
     args_no_list {e} i =
         let j = list_in (Err e) i in
         record {
           symbol = j.symbol;
-          same = j.same ∙ o.same;
           reads = λ σ h. by (args_are h ∙ then_refused _ (then_refused _ (then_refused _ (list_refused refl (j.is _ (opened_in h)))))) refuses;
         }
 
     module _ {l : Joined} (i : Itemized Arguments (record d' { stack = x }) d₄ (Ok l)) where
       pub list_symbol : d₄.s.now ≡ d.s.now
       list_symbol = (list_in (Ok l) i).symbol
-
-      list_same : lent d₄ ≡ lent d
-      list_same = (list_in (Ok l) i).same ∙ o.same
 
       pub list_is :
           {σ : State} → Held d σ →
@@ -151,11 +167,10 @@ module _ {d d' : Demangler} {x : Stack} (o : InAngles d d' x) where
       -- no E behind the list
       pub args_unclosed :
           {d₅ : Demangler} {e : Refusal} → Stayed (starts (drop d₄.state.at d₄.s.now) (69 ∷ []) ≡ false) e NoRule d₄ d₅ →
-          Parses (reading ⟨template-args⟩) (keep (d.state.depth + 1)) (d.state.at + 1) d d₅ (Err e)
+          ParsesInAny (reading ⟨template-args⟩) (keep (d.state.depth + 1)) (d.state.at + 1) d d₅ (Err e)
       args_unclosed {d₅} {e} z =
           rw z.why_is (record {
             symbol = ap (λ (y : Demangler). y.s.now) z.is ∙ list_symbol;
-            same = ap lent z.is ∙ list_same;
             reads = λ σ h. by (args_are h ∙ then_refused _ (then_refused _ (closed_no (list_is h).is (ahead_E h z.so)))) refuses;
           })
 
@@ -175,16 +190,15 @@ module _ {d d' : Demangler} {x : Stack} (o : InAngles d d' x) where
         pub args_closed :
             {d₆ : Demangler} {y : Stack} {w : Text} {q : Bool} {m depth : ℕ} {r : Result ℕ Refusal} → d₆ ≡ at_depth d₅ depth → depth ≡ d.state.depth →
             q ≡ (slice_index d₆.stack.bytes.now (d₆.stack.top - 1) == 62) → w ≡ close_of q →
-            Put d₆.stack.bytes.now y.bytes.now d₆.stack.top y.top w → y.bytes.ghost_name ≡ d₆.stack.bytes.ghost_name → m ≡ min (l.n + (length w + 1)) most_length → r ≡ given_length m →
-            Parses (reading ⟨template-args⟩) (keep (d.state.depth + 1)) (d.state.at + 1) d (record d₆ { stack = y }) r
-        args_closed {d₆} {y} {w} {q} {m} {r = r} i a e f u v n k =
+            Put d₆.stack.bytes.now y.bytes.now d₆.stack.top y.top w → m ≡ min (l.n + (length w + 1)) most_length → r ≡ given_length m →
+            ParsesInAny (reading ⟨template-args⟩) (keep (d.state.depth + 1)) (d.state.at + 1) d (record d₆ { stack = y }) r
+        args_closed {d₆} {y} {w} {q} {m} {r = r} i a e f u n k =
             let x = back_out i a in
             let there : record d₆ { stack = y } ≡ record (without d d₄) { stack = y } = ap (λ (z : Demangler). record z { stack = y }) x in
             let u' : Put d₄.stack.bytes.now y.bytes.now d₄.stack.top y.top w = subst (λ (z : Demangler). Put z.stack.bytes.now y.bytes.now z.stack.top y.top w) x u in
             let e' : q ≡ (slice_index d₄.stack.bytes.now (d₄.stack.top - 1) == 62) = e ∙ ap (λ (z : Demangler). slice_index z.stack.bytes.now (z.stack.top - 1) == 62) x in
-            subst (λ (z : Demangler). Parses (reading ⟨template-args⟩) (keep (d.state.depth + 1)) (d.state.at + 1) d z r) (sym there) (record {
+            subst (λ (z : Demangler). ParsesInAny (reading ⟨template-args⟩) (keep (d.state.depth + 1)) (d.state.at + 1) d z r) (sym there) (record {
               symbol = list_symbol;
-              same = lent_stack (without d d₄) y (v ∙ ap (λ (z : Demangler). z.stack.bytes.ghost_name) x) ∙ list_same;
               reads = λ σ h.
                   let g = list_is h in
                   let s = bracketed h in
@@ -193,3 +207,28 @@ module _ {d d' : Demangler} {x : Stack} (o : InAngles d d' x) where
                   (given_as (given_by (state_of (record (without d d₄) { stack = y })) m k)
                   (stands_puts s (puts_of (without d d₄) y u') (omega (arith, n, g.stands.size, length-append (60 ∷ join (b ", ") g.texts) w))));
             })
+
+-- ---------------------------------------------------------------- in the slices that were lent
+
+module _ {d d' : Demangler} {x : Stack} (o : InAngles d d' x) {d₄ : Demangler} where
+  list_same : (r : Result Joined Refusal) → Itemized Arguments (record d' { stack = x }) d₄ r → lent d₄ ≡ lent d
+  list_same r i = (list_in (angles_in_any o) r i).same ∙ o.same
+
+  pub args_no_list_lent : {e : Refusal} → Itemized Arguments (record d' { stack = x }) d₄ (Err e) → Parses (reading ⟨template-args⟩) (keep (d.state.depth + 1)) (d.state.at + 1) d d₄ (Err e)
+  args_no_list_lent {e} i = parses_lent (args_no_list (angles_in_any o) i) (list_same (Err e) i)
+
+  module _ {l : Joined} (i : Itemized Arguments (record d' { stack = x }) d₄ (Ok l)) where
+    pub args_unclosed_lent :
+        {d₅ : Demangler} {e : Refusal} → Stayed (starts (drop d₄.state.at d₄.s.now) (69 ∷ []) ≡ false) e NoRule d₄ d₅ →
+        Parses (reading ⟨template-args⟩) (keep (d.state.depth + 1)) (d.state.at + 1) d d₅ (Err e)
+    args_unclosed_lent z = parses_lent (args_unclosed (angles_in_any o) i z) (ap lent z.is ∙ list_same (Ok l) i)
+
+    module _ {d₅ : Demangler} (p : Passed 69 d₄ d₅) where
+      pub args_closed_lent :
+          {d₆ : Demangler} {y : Stack} {w : Text} {q : Bool} {m depth : ℕ} {r : Result ℕ Refusal} → d₆ ≡ at_depth d₅ depth → depth ≡ d.state.depth →
+          q ≡ (slice_index d₆.stack.bytes.now (d₆.stack.top - 1) == 62) → w ≡ close_of q →
+          Put d₆.stack.bytes.now y.bytes.now d₆.stack.top y.top w → y.bytes.ghost_name ≡ d₆.stack.bytes.ghost_name → m ≡ min (l.n + (length w + 1)) most_length → r ≡ given_length m →
+          Parses (reading ⟨template-args⟩) (keep (d.state.depth + 1)) (d.state.at + 1) d (record d₆ { stack = y }) r
+      args_closed_lent {d₆} {y} g a e f u v n k =
+          parses_lent (args_closed (angles_in_any o) i p g a e f u n k)
+          (lent_stack d₆ y v ∙ ap lent (back_out (angles_in_any o) i p g a) ∙ list_same (Ok l) i)

@@ -14,7 +14,7 @@ use Rattle.parser.specs.Leaves.{qualifies}
 use Rattle.parser.specs.declared.demangler.Demangler.{Demangler}
 use Rattle.parser.specs.Demanglers.{state_of, memory_of, Held, Prepared, Parses, given_length, lent}
 use Rattle.parser.specs.Holds.{part, refuses, keep}
-use Rattle.parser.specs.Laws.Demanglers.{Passed, given_by}
+use Rattle.parser.specs.Laws.Demanglers.{Passed, ParsesInAny, parses_lent, given_by}
 use Rattle.parser.specs.Laws.Holds.{by, holds_moved, sooner}
 use Rattle.reader.specs.Lists.{ReadsPart, prefix_as, PreparedFor}
 use Rattle.reader.specs.declared.lists.Parts.{Parts}
@@ -43,17 +43,18 @@ abbrev pub closed_at : Bool → ℕ → ℕ → Demangler → Demangler
 closed_at true from to d = record d { state = record d.state { at = d.state.at + 1; cv = record { from = from; to = to }; templated = false } }
 closed_at false from to d = record d { state = record d.state { at = d.state.at + 1; cv = record { from = from; to = to } } }
 
+closed_lent : (z : Bool) (from to : ℕ) (d : Demangler) → lent (closed_at z from to d) ≡ lent d
+closed_lent true from to d = refl
+closed_lent false from to d = refl
+
 module _ {d d₁ : Demangler} {to : ℕ} (v : Passed 78 d d₁) (i : (to ≡ d₁.state.at + length (run qualifies (drop d₁.state.at d₁.s.now))) × (to ≤ length d₁.s.now)) where
   place_behind : (to ≡ d.state.at + 1 + length (run qualifies (drop (d.state.at + 1) d.s.now))) × (to ≤ length d.s.now)
   place_behind = subst (λ (x : Demangler). (to ≡ x.state.at + length (run qualifies (drop x.state.at x.s.now))) × (to ≤ length x.s.now)) v.is i
 
   -- the loop has come as far as d₂
-  module _ (d₂ : Demangler) {q : Parts} (y : d₂.s.now ≡ d₁.s.now) (w : lent d₂ ≡ lent d₁) (l : Prefixing d₁.s.now (memory_of d₁) (moved_to (state_of d₁) to) (memory_of d₂) (state_of d₂) q) where
+  module _ (d₂ : Demangler) {q : Parts} (y : d₂.s.now ≡ d₁.s.now) (l : Prefixing d₁.s.now (memory_of d₁) (moved_to (state_of d₁) to) (memory_of d₂) (state_of d₂) q) where
     symbol_first : d₂.s.now ≡ d.s.now
     symbol_first = y ∙ ap (λ (x : Demangler). x.s.now) v.is
-
-    same_first : lent d₂ ≡ lent d
-    same_first = w ∙ ap lent v.is
 
     ahead_first : {o : _} → peeked (drop d₂.state.at d₂.s.now) ≡ o → peeked (drop d₂.state.at d.s.now) ≡ o
     ahead_first e = ap (λ (t : Text). peeked (drop d₂.state.at t)) (sym symbol_first) ∙ e
@@ -69,10 +70,9 @@ module _ {d d₁ : Demangler} {to : ℕ} (v : Passed 78 d d₁) (i : (to ≡ d�
           (holds_moved h to place_behind.1)
 
     -- no E is left
-    pub nested_ends : {k from : ℕ} → peeked (drop d₂.state.at d₂.s.now) ≡ None → Parses (reading ⟨nested-name⟩) k from d d₂ (Err NoRule)
+    pub nested_ends : {k from : ℕ} → peeked (drop d₂.state.at d₂.s.now) ≡ None → ParsesInAny (reading ⟨nested-name⟩) k from d d₂ (Err NoRule)
     nested_ends e = record {
       symbol = symbol_first;
-      same = same_first;
       reads = λ σ h. by (opened_by h ∙ prefixed_4 (parts_by_now h) (part d.s.now (d.state.at + 1) to) (ahead_first e)) refuses;
     }
 
@@ -88,17 +88,16 @@ module _ {d d₁ : Demangler} {to : ℕ} (v : Passed 78 d d₁) (i : (to ≡ d�
       -- at the E
       pub nested_closes :
           (z : Bool) {d₃ : Demangler} {r : Result ℕ Refusal} → c ≡ 69 → q.structor ≡ z → r ≡ given_length q.n → d₃ ≡ closed_at z d₁.state.at to d₂ →
-          Parses (reading ⟨nested-name⟩) (keep d.state.depth) (d.state.at + 1) d d₃ r
+          ParsesInAny (reading ⟨nested-name⟩) (keep d.state.depth) (d.state.at + 1) d d₃ r
       nested_closes z {d₃} {r} f w j u =
           subst
-          (λ (x : Demangler). Parses (reading ⟨nested-name⟩) (keep d.state.depth) (d.state.at + 1) d x r)
+          (λ (x : Demangler). ParsesInAny (reading ⟨nested-name⟩) (keep d.state.depth) (d.state.at + 1) d x r)
           (sym (u ∙ ap (λ (k : ℕ). closed_at z k to d₂) (ap (λ (x : Demangler). x.state.at) v.is)))
           (at_E z w)
         where
-          at_E : (z : Bool) → q.structor ≡ z → Parses (reading ⟨nested-name⟩) (keep d.state.depth) (d.state.at + 1) d (closed_at z (d.state.at + 1) to d₂) r
+          at_E : (z : Bool) → q.structor ≡ z → ParsesInAny (reading ⟨nested-name⟩) (keep d.state.depth) (d.state.at + 1) d (closed_at z (d.state.at + 1) to d₂) r
           at_E true w = record {
             symbol = symbol_first;
-            same = same_first;
             reads = λ σ h.
                 by (opened_by h)
                 (sooner (omega (arith, place_behind.0))
@@ -106,7 +105,6 @@ module _ {d d₁ : Demangler} {to : ℕ} (v : Passed 78 d d₁) (i : (to ≡ d�
           }
           at_E false w = record {
             symbol = symbol_first;
-            same = same_first;
             reads = λ σ h.
                 by (opened_by h)
                 (sooner (omega (arith, place_behind.0))
@@ -117,10 +115,9 @@ module _ {d d₁ : Demangler} {to : ℕ} (v : Passed 78 d d₁) (i : (to ≡ d�
         -- a part that is none
         pub nested_refuses :
             {k from : ℕ} {j : Refusal} → ((t : List ℕ) → drop d₂.state.at d₂.s.now ≡ c ∷ t → cycle.Prefixed (g.prefix reading) d₂ d₃ q (Err j)) →
-            Parses (reading ⟨nested-name⟩) k from d d₃ (Err j)
+            ParsesInAny (reading ⟨nested-name⟩) k from d d₃ (Err j)
         nested_refuses {k} {from} {j} x = record {
           symbol = symbol_behind d₂ (Err j) symbol_first x e;
-          same = same_behind d₂ (Err j) same_first x e;
           reads = λ σ h.
               by (opened_by h) (prefixed_refuses (parts_by_now h) (ahead_first e) n (prefix_from d₂ (Err j) symbol_first x) (part d.s.now (d.state.at + 1) to) refl refl);
         }
@@ -139,3 +136,23 @@ module _ {d d₁ : Demangler} {to : ℕ} (v : Passed 78 d d₁) (i : (to ≡ d�
 
           pub nested_more : Prefixing d₁.s.now (memory_of d₁) (moved_to (state_of d₁) to) (memory_of d₃) (state_of d₃) q'
           nested_more = prefixing_more l (ap (λ (t : Text). peeked (drop d₂.state.at t)) (sym y) ∙ e) n (prefix_from d₂ (Ok q') y x) refl
+
+  -- the loop has come as far as d₂, in the slices that were lent
+  module _ (d₂ : Demangler) {q : Parts} (y : d₂.s.now ≡ d₁.s.now) (w : lent d₂ ≡ lent d₁) (l : Prefixing d₁.s.now (memory_of d₁) (moved_to (state_of d₁) to) (memory_of d₂) (state_of d₂) q) where
+    same_first : lent d₂ ≡ lent d
+    same_first = w ∙ ap lent v.is
+
+    pub nested_ends_lent : {k from : ℕ} → peeked (drop d₂.state.at d₂.s.now) ≡ None → Parses (reading ⟨nested-name⟩) k from d d₂ (Err NoRule)
+    nested_ends_lent e = parses_lent (nested_ends d₂ y l e) same_first
+
+    module _ {c : ℕ} (e : peeked (drop d₂.state.at d₂.s.now) ≡ Some c) where
+      pub nested_closes_lent :
+          (z : Bool) {d₃ : Demangler} {r : Result ℕ Refusal} → c ≡ 69 → q.structor ≡ z → r ≡ given_length q.n → d₃ ≡ closed_at z d₁.state.at to d₂ →
+          Parses (reading ⟨nested-name⟩) (keep d.state.depth) (d.state.at + 1) d d₃ r
+      nested_closes_lent z f g j u = parses_lent (nested_closes d₂ y l e z f g j u) (ap lent u ∙ closed_lent z d₁.state.at to d₂ ∙ same_first)
+
+      module _ (n : c ≢ 69) {d₃ : Demangler} where
+        pub nested_refuses_lent :
+            {k from : ℕ} {j : Refusal} → ((t : List ℕ) → drop d₂.state.at d₂.s.now ≡ c ∷ t → cycle.Prefixed (g.prefix reading) d₂ d₃ q (Err j)) →
+            Parses (reading ⟨nested-name⟩) k from d d₃ (Err j)
+        nested_refuses_lent {j = j} x = parses_lent (nested_refuses d₂ y l e n x) (same_behind d₂ (Err j) same_first x e)

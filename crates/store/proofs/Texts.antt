@@ -2,6 +2,7 @@
 use Rattle.std.proofs.Common.{◌≡◌, ℕ, ◌+◌, Bool, true, false, cond, ◌==◌, length, refl, sym, ◌∙◌, arith}
 use Rattle.memchr.specs.Find.{is_byte, places}
 use Rattle.memchr.proofs.lemmas.CallerLemmas.{length-places}
+use Rattle.std.specs.List.{count_by}
 use Rattle.std.proofs.lemmas.List.Recursion.{is_count_by}
 use Rattle.grammar.specs.Text.{Text, if◌then◌otherwise◌}
 use Rattle.store.specs.Stack.{slots_in}
@@ -12,8 +13,11 @@ unfolding if◌then◌otherwise◌
 one_more true n = refl
 one_more false n = omega arith
 
--- the places of the bytes 1 are as many as the slots
-pub places_counted : (t : Text) → length (places (is_byte 1) t) ≡ slots_in t
+-- the bytes 1 are counted
+pub slots_counted : (t : Text) → slots_in t ≡ count_by (λ x. x == 1) t
 unfolding slots_in
-places_counted t =
-    length-places (is_byte 1) t ∙ sym (is_count_by slots_in (is_byte 1) refl (λ x t. one_more (x == 1) (slots_in t)) t)
+slots_counted = is_count_by slots_in (λ x. x == 1) refl (λ x t. one_more (x == 1) (slots_in t))
+
+-- their places are as many
+pub places_counted : (t : Text) → length (places (is_byte 1) t) ≡ slots_in t
+places_counted t = length-places (is_byte 1) t ∙ sym (slots_counted t)

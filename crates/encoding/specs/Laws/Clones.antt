@@ -140,17 +140,28 @@ pub record Cloned (d₀ d : Demangler) (n : ℕ) : Type 0 where
   pub same : lent d ≡ lent d₀
   pub clones : Clones d₀.s.now d.s.now d₀.stack.bytes.now d.stack.bytes.now (state_of d₀) (state_of d) n
 
+-- as `Cloned`, in any slices
+pub record ClonedInAny (d₀ d : Demangler) (n : ℕ) : Type 0 where
+  pub others : d ≡ record d₀ { s = d.s; stack = d.stack }
+  pub clones : Clones d₀.s.now d.s.now d₀.stack.bytes.now d.stack.bytes.now (state_of d₀) (state_of d) n
+
+module _ {d₀ d : Demangler} {n : ℕ} where
+  pub cloned_in_any : Cloned d₀ d n → ClonedInAny d₀ d n
+  cloned_in_any c = record { others = c.others; clones = c.clones }
+
+  cloned_lent : ClonedInAny d₀ d n → lent d ≡ lent d₀ → Cloned d₀ d n
+  cloned_lent c s = record { others = c.others; same = s; clones = c.clones }
+
 module _ (d₀ : Demangler) where
   pub cloned_start : Cloned d₀ d₀ 0
   cloned_start = record { others = refl; same = refl; clones = clones_start d₀.s.now (stack_of d₀.stack) }
 
-  module _ {d : Demangler} {n : ℕ} (c : Cloned d₀ d n) where
+  module _ {d : Demangler} {n : ℕ} (c : ClonedInAny d₀ d n) where
     pub cloned_more :
         (rest : Bor Text) (x : Stacked) {n' : ℕ} → pointwise nat_eq (take 3 d.s.now) (71 ∷ 84 ∷ 116 ∷ []) ≡ true → rest.now ≡ drop 3 d.s.now →
-        Put d.stack.bytes.now x.bytes.now d.stack.top x.top clone → x.bytes.ghost_name ≡ d.stack.bytes.ghost_name → n' ≡ min (n + 22) most_length → Cloned d₀ (record d { s = rest; stack = x }) n'
-    cloned_more rest x e i u v z = record {
+        Put d.stack.bytes.now x.bytes.now d.stack.top x.top clone → n' ≡ min (n + 22) most_length → ClonedInAny d₀ (record d { s = rest; stack = x }) n'
+    cloned_more rest x e i u z = record {
       others = ap (λ (y : Demangler). record y { s = rest; stack = x }) c.others;
-      same = lent_stack d x v ∙ c.same;
       clones = clones_more c.clones (sym (strip_starts d.s.now (71 ∷ 84 ∷ 116 ∷ [])) ∙ e) i (puts_of d x u) z;
     }
 
@@ -158,3 +169,9 @@ module _ (d₀ : Demangler) where
     cloned_begun h =
         let k = subst (λ (y : Demangler). Clones d₀.s.now d.s.now d₀.stack.bytes.now d.stack.bytes.now (state_of d₀) (state_of y) n) c.others c.clones in
         subst (λ (y : Demangler). Begun y) (sym c.others) (clones_fresh k h)
+
+  module _ {d : Demangler} {n : ℕ} (c : Cloned d₀ d n) where
+    pub cloned_more_lent :
+        (rest : Bor Text) (x : Stacked) {n' : ℕ} → pointwise nat_eq (take 3 d.s.now) (71 ∷ 84 ∷ 116 ∷ []) ≡ true → rest.now ≡ drop 3 d.s.now →
+        Put d.stack.bytes.now x.bytes.now d.stack.top x.top clone → x.bytes.ghost_name ≡ d.stack.bytes.ghost_name → n' ≡ min (n + 22) most_length → Cloned d₀ (record d { s = rest; stack = x }) n'
+    cloned_more_lent rest x e i u v z = cloned_lent (cloned_more (cloned_in_any c) rest x e i u z) (lent_stack d x v ∙ c.same)

@@ -18,7 +18,7 @@ use Rattle.store.specs.declared.stack.Stack.{Stack}
 use Rattle.parser.specs.Holds.{Holds, window, keep}
 use Rattle.parser.specs.declared.demangler.Demangler.{Demangler}
 use Rattle.parser.specs.Demanglers.{state_of, memory_of, Held, Prepared, at_place, Eats, eats, stays, Needs, needs, lacks, outcome, given_length, Parses, lent}
-use Rattle.parser.specs.Laws.Demanglers.{held_at, puts_of, reads_of, given_by, lent_stack}
+use Rattle.parser.specs.Laws.Demanglers.{ParsesInAny, parses_in_any, held_at, puts_of, reads_of, given_by, lent_stack}
 use Rattle.parser.specs.Laws.Holds.{holds_puts}
 use Rattle.encoding.specs.Encodings.{Begun, Encodes, refuses, Encoded, Stepped, past, stopped, StepsOver, two_offsets}
 use Rattle.encoding.specs.Laws.Answers.{encodes_by, encodes_refines}
@@ -220,6 +220,14 @@ pub plain_encoded : {d d' : Demangler} {r : Result' ℕ Refusal} → length d.s.
     Parses base (keep d.state.depth) (d.state.at + 1) d d' r → Encoded d d' r (rows (start d.s.now))
 plain_encoded {d} l h e f g = record { symbol = g.symbol; same = g.same; is = encodes_by (no_thunk d.s.now e f) (encodes_refines (omega arith) (g.reads (start d.s.now) (fresh_holds l h))) }
 
+-- as `Encoded`, in any slices
+pub record EncodedInAny (d d' : Demangler) (r : Result' ℕ Refusal) (f : Result Text) : Type 0 where
+  pub symbol : d'.s.now ≡ d.s.now
+  pub is : Encodes (keep 0) d.s.now (window (memory_of d) (state_of d)) (memory_of d') (outcome (state_of d') r) f
+
+encoded_lent : {d d' : Demangler} {r : Result' ℕ Refusal} {f : Result Text} → EncodedInAny d d' r f → lent d' ≡ lent d → Encoded d d' r f
+encoded_lent e s = record { symbol = e.symbol; same = s; is = e.is }
+
 module _ {d d' : Demangler} {w : Text} (l : length d.s.now ≤ most_text_bytes) (h : Begun d) (i : Labelled d d' w) where
   abbrev there : State
   there = moved (drop i.at d.s.now) (start d.s.now)
@@ -234,26 +242,34 @@ module _ {d d' : Demangler} {w : Text} (l : length d.s.now ≤ most_text_bytes) 
   labelled_holds = subst (λ (t : Text). Holds t (memory_of d') (state_of d') there) labelled_symbol labelled_held
 
   -- the word is put, and a reading goes on behind it
-  module _ (x : Stack) (u : Put d'.stack.bytes.now x.bytes.now d'.stack.top x.top w) (n : x.bytes.ghost_name ≡ d'.stack.bytes.ghost_name) where
+  module _ (x : Stack) (u : Put d'.stack.bytes.now x.bytes.now d'.stack.top x.top w) where
     pub put_prepared : Prepared (record d' { stack = x })
     put_prepared = (there, holds_puts (puts_of d' x u) labelled_held)
 
-    put_lent : lent (record d' { stack = x }) ≡ lent d
-    put_lent = lent_stack d' x n ∙ ap lent i.next
-
     module _ {d₂ : Demangler} where
-      pub labelled_refused : {e : Refusal} → Parses base (keep d'.state.depth) (d'.state.at + 1) (record d' { stack = x }) d₂ (Err e) → Encoded d d₂ (Err e) (rows (start d.s.now))
-      labelled_refused g = record { symbol = g.symbol ∙ labelled_symbol; same = g.same ∙ put_lent; is = encodes_by i.is (behind_refused labelled_holds (puts_of d' x u) (reads_of labelled_symbol g) refl) }
+      pub labelled_refused : {e : Refusal} → ParsesInAny base (keep d'.state.depth) (d'.state.at + 1) (record d' { stack = x }) d₂ (Err e) → EncodedInAny d d₂ (Err e) (rows (start d.s.now))
+      labelled_refused g = record { symbol = g.symbol ∙ labelled_symbol; is = encodes_by i.is (behind_refused labelled_holds (puts_of d' x u) (reads_of labelled_symbol g) refl) }
 
-      pub labelled_short : {n : ℕ} → Parses base (keep d'.state.depth) (d'.state.at + 1) (record d' { stack = x }) d₂ (Ok n) → n ≤ most_text_bytes
+      pub labelled_short : {n : ℕ} → ParsesInAny base (keep d'.state.depth) (d'.state.at + 1) (record d' { stack = x }) d₂ (Ok n) → n ≤ most_text_bytes
       labelled_short g = let v = (behind_got labelled_holds (puts_of d' x u) (reads_of labelled_symbol g) refl).wrote in omega (arith, v.size, v.short)
 
-      pub labelled_given : {n : ℕ} {r : Result' ℕ Refusal} → Parses base (keep d'.state.depth) (d'.state.at + 1) (record d' { stack = x }) d₂ (Ok n) → r ≡ given_length (n + length w) →
-          Encoded d d₂ r (rows (start d.s.now))
+      pub labelled_given : {n : ℕ} {r : Result' ℕ Refusal} → ParsesInAny base (keep d'.state.depth) (d'.state.at + 1) (record d' { stack = x }) d₂ (Ok n) → r ≡ given_length (n + length w) →
+          EncodedInAny d d₂ r (rows (start d.s.now))
       labelled_given {n} {r} g e = record {
         symbol = g.symbol ∙ labelled_symbol;
-        same = g.same ∙ put_lent;
         is = encodes_by i.is
             (subst (λ (y : Demangler). Encodes (keep 0) d.s.now (window (memory_of y) (state_of y)) (memory_of d₂) (outcome (state_of d₂) r) (labelled w base there)) i.next
             (behind_given labelled_holds (puts_of d' x u) (reads_of labelled_symbol g) (omega arith) i.fits refl (given_by (state_of d₂) (n + length w) e)));
       }
+
+    module _ (n : x.bytes.ghost_name ≡ d'.stack.bytes.ghost_name) where
+      put_lent : lent (record d' { stack = x }) ≡ lent d
+      put_lent = lent_stack d' x n ∙ ap lent i.next
+
+      module _ {d₂ : Demangler} where
+        pub labelled_refused_lent : {e : Refusal} → Parses base (keep d'.state.depth) (d'.state.at + 1) (record d' { stack = x }) d₂ (Err e) → Encoded d d₂ (Err e) (rows (start d.s.now))
+        labelled_refused_lent g = encoded_lent (labelled_refused (parses_in_any g)) (g.same ∙ put_lent)
+
+        pub labelled_given_lent : {n : ℕ} {r : Result' ℕ Refusal} → Parses base (keep d'.state.depth) (d'.state.at + 1) (record d' { stack = x }) d₂ (Ok n) → r ≡ given_length (n + length w) →
+            Encoded d d₂ r (rows (start d.s.now))
+        labelled_given_lent g e = encoded_lent (labelled_given (parses_in_any g) e) (g.same ∙ put_lent)

@@ -23,7 +23,7 @@ use Rattle.normal_steps.specs.Laws.Slices.{numbered}
 use Rattle.normal_writer.specs.Laws.FirstBytes.{parts_none, parts_some, more_some}
 use Rattle.normal_writer.specs.Laws.Types.{Here, here_inside, here_byte, Through, through_end}
 use Rattle.normal_writer.specs.Laws.Types.{by_name, by_reference, Behind, FirstPart, args_at, args_from, args_closed, Enclosed, close_next, closed_next, Enters}
-use Rattle.normal_writer.specs.Laws.Loops.{Told, moved, SoFar, one_more}
+use Rattle.normal_writer.specs.Laws.Loops.{Told, moved, SoFar, SoFarInAny, so_far_in_any, so_far_lent, one_more}
 use Rattle.normal_steps.specs.declared.lead.Lead.TheVariants.{Digit, S}
 use Rattle.normal_steps.specs.declared.state.Writer.{Writer}
 
@@ -164,6 +164,19 @@ pub record Onward (from t : ℕ) (lone : Bool) (w w' : Writer) (d : ℕ) (lone' 
   pub enclosed : Enclosed from w w' d
   pub rest : (w'' : Writer) (r : Option ℕ) → Ends d lone' from w' w'' r → MoreFrom t lone from w w'' r
 
+-- as `Onward`, in any slices
+pub record OnwardInAny (from t : ℕ) (lone : Bool) (w w' : Writer) (d : ℕ) (lone' : Bool) : Type 0 where
+  pub source : w'.s.now ≡ w.s.now
+  pub enclosed : Enclosed from w w' d
+  pub rest : (w'' : Writer) (r : Option ℕ) → Ends d lone' from w' w'' r → MoreFrom t lone from w w'' r
+
+module _ {from t d : ℕ} {lone lone' : Bool} {w w' : Writer} where
+  pub onward_in_any : Onward from t lone w w' d lone' → OnwardInAny from t lone w w' d lone'
+  onward_in_any a = record { source = a.source; enclosed = a.enclosed; rest = a.rest }
+
+  pub onward_lent : OnwardInAny from t lone w w' d lone' → lent w' ≡ lent w → Onward from t lone w w' d lone'
+  onward_lent a n = record { source = a.source; same = n; enclosed = a.enclosed; rest = a.rest }
+
 -- by other names
 pub onward_as : {from t d d' : ℕ} {lone l l' : Bool} {w w₁ w' : Writer} → Onward from t lone w w₁ d l → w' ≡ w₁ → d' ≡ d → l' ≡ l → Onward from t lone w w' d' l'
 onward_as {from} {t} {d} {d'} {lone} {l} {l'} {w} {w₁} {w'} a e f g =
@@ -193,12 +206,11 @@ module _ (w : Writer) (t : ℕ) (lone : Bool) (from : ℕ) where
           by (part_by m t lone from σ _ h.rest i ∙ on_got (ending m from false) a.is)
           (within (λ x y. spent_spent a.limits.1 y) (v a.state a.holds m (omega (arith, a.limits.0, ap length z))))
 
-      pub part_next : lent w₁ ≡ lent w → Stretch from w.state → Ready w → Onward from t lone w w₁ d false
-      part_next n b (σ, h) =
+      pub part_next : Stretch from w.state → Ready w → OnwardInAny from t lone w w₁ d false
+      part_next b (σ, h) =
           let a = answered (u σ h) in
           record {
             source = z;
-            same = n;
             enclosed = record {
               at = a.limits.0;
               small = a.small;
@@ -213,6 +225,9 @@ module _ (w : Writer) (t : ℕ) (lone : Bool) (from : ℕ) where
             };
             rest = part_rest;
           }
+
+      pub part_next_lent : lent w₁ ≡ lent w → Stretch from w.state → Ready w → Onward from t lone w w₁ d false
+      part_next_lent n b h = onward_lent (part_next b h) n
 
   module _ (i : starts (drop w.state.at w.s.now) (73 ∷ []) ≡ true) {tag : ℕ} (g : Tag w t tag) where
     angled_by : {σ : Notes} (m : ℕ) → Held w σ → {b : Bool} → a_bare tag ≡ b
@@ -239,8 +254,11 @@ module _ (w : Writer) (t : ℕ) (lone : Bool) (from : ℕ) where
             by (angled_by m h e ∙ on_got (λ u τ. ending m from lone u (closed τ)) a.is)
             (within (λ x y. closed_spent k.0 a.limits b.limits y) (x (closed a.state) b.holds m (omega (arith, k.0, a.limits, b.limits, ap length y))))
 
-        pub angled_next : lent w₃ ≡ lent w → Stretch from w.state → Ready w → Onward from t lone w w₃ d lone
-        angled_next n b h = record { source = y; same = n; enclosed = args_closed w w₁ w₂ t i z k u w₃ h b v; rest = angled_rest }
+        pub angled_next : Stretch from w.state → Ready w → OnwardInAny from t lone w w₃ d lone
+        angled_next b h = record { source = y; enclosed = args_closed w w₁ w₂ t i z k u w₃ h b v; rest = angled_rest }
+
+        pub angled_next_lent : lent w₃ ≡ lent w → Stretch from w.state → Ready w → Onward from t lone w w₃ d lone
+        angled_next_lent n b h = onward_lent (angled_next b h) n
 
 -- ---------------------------------------------------------------- the end of a nested name, or more of its parts
 
@@ -268,16 +286,21 @@ abbrev pub MoreSoFar : ℕ → Writer → ℕ → Bool → Writer → ℕ → Bo
 MoreSoFar from w₀ t₀ lone₀ w t lone = (Stretch from w.state) × SoFar (MoreFrom t₀ lone₀ from w₀) w₀ (MoreFrom t lone from w) w t
 
 -- no E is behind what was read, and it enters the table
-module _ {from t d : ℕ} {lone lone' : Bool} {w w₁ : Writer} (a : Onward from t lone w w₁ d lone') (w₂ : Writer) (v : Enters d from w₁ w₂) (z : w₂.s.now ≡ w₁.s.now) where
+module _ {from t d : ℕ} {lone lone' : Bool} {w w₁ : Writer} (a : OnwardInAny from t lone w w₁ d lone') (w₂ : Writer) (v : Enters d from w₁ w₂) (z : w₂.s.now ≡ w₁.s.now) where
   pub more_behind : (w.state.at + 1 ≤ w₂.state.at) × (w₂.state.at ≤ length w₂.s.now)
   more_behind =
       let b = v a.enclosed.ready.0 a.enclosed.ready.1 in (omega (arith, a.enclosed.at, b.limits.at), b.holds.place)
 
-  pub more_again : lent w₂ ≡ lent w₁ → starts (drop w₁.state.at w₁.s.now) (69 ∷ []) ≡ false → {F : Writer → Option ℕ → Type 0} {w₀ : Writer}
-      → SoFar F w₀ (MoreFrom t lone from w) w t → (Stretch from w₂.state) × SoFar F w₀ (MoreFrom d lone' from w₂) w₂ d
-  more_again n j y =
+  pub more_again : starts (drop w₁.state.at w₁.s.now) (69 ∷ []) ≡ false → {F : Writer → Option ℕ → Type 0} {w₀ : Writer}
+      → SoFarInAny F w₀ (MoreFrom t lone from w) w t → (Stretch from w₂.state) × SoFarInAny F w₀ (MoreFrom d lone' from w₂) w₂ d
+  more_again j y =
       let b = v a.enclosed.ready.0 a.enclosed.ready.1 in (
         stretch_after a.enclosed.stretch b.limits (omega arith),
-        one_more w₂ y (z ∙ a.source) (n ∙ a.same) (omega (arith, more_behind)) a.enclosed.small (_, b.holds)
+        one_more w₂ y (z ∙ a.source) (omega (arith, more_behind)) a.enclosed.small (_, b.holds)
             (λ w' r k. a.rest w' r (end_more w₁ d lone' from w₂ w' j z v k)),
       )
+
+module _ {from t d : ℕ} {lone lone' : Bool} {w w₁ : Writer} (a : Onward from t lone w w₁ d lone') (w₂ : Writer) (v : Enters d from w₁ w₂) (z : w₂.s.now ≡ w₁.s.now) where
+  pub more_again_lent : lent w₂ ≡ lent w₁ → starts (drop w₁.state.at w₁.s.now) (69 ∷ []) ≡ false → {F : Writer → Option ℕ → Type 0} {w₀ : Writer}
+      → SoFar F w₀ (MoreFrom t lone from w) w t → (Stretch from w₂.state) × SoFar F w₀ (MoreFrom d lone' from w₂) w₂ d
+  more_again_lent n j y = let b = more_again (onward_in_any a) w₂ v z j (so_far_in_any y) in (b.0, so_far_lent b.1 (n ∙ a.same ∙ y.same))

@@ -18,7 +18,7 @@ use Rattle.normal_steps.specs.Laws.Tests.{byte_next}
 use Rattle.normal_steps.specs.Laws.Limits.{spent_less, spent_spent, passed_spent, passed_none, spent_took, spent_closed, spent_nothing, spent_moved, spent_stands, spent_stretch, spent_room}
 use Rattle.normal_steps.specs.Laws.Slices.{numbered}
 use Rattle.normal_writer.specs.Laws.FirstBytes.{type_none, type_some}
-use Rattle.normal_writer.specs.Laws.Loops.{Told, moved, SoFar, one_more}
+use Rattle.normal_writer.specs.Laws.Loops.{Told, moved, SoFar, SoFarInAny, so_far_in_any, so_far_lent, one_more}
 use Rattle.normal_steps.specs.declared.state.State.{State}
 use Rattle.normal_steps.specs.declared.state.Writer.{Writer}
 
@@ -297,8 +297,11 @@ module _ (w w₁ : Writer) (t : ℕ) where
             by (f ∙ byte_not c.holds 69 _ _ j)
             (within (λ x y. spent_stands c.limits.stands (spent_spent c.limits y)) (g c.state c.holds m (omega (arith, c.at, ap length z))))
 
-        pub args_again : {F : Writer → Option ℕ → Type 0} {w₀ : Writer} → lent w₂ ≡ lent w → SoFar F w₀ (ArgsFrom t w) w t → SoFar F w₀ (ArgsFrom d w₂) w₂ d
-        args_again n y = let c = counted_next y.ready in one_more w₂ y z n (omega (arith, c.at)) c.small (c.state, c.holds) args_more
+        pub args_again : {F : Writer → Option ℕ → Type 0} {w₀ : Writer} → SoFarInAny F w₀ (ArgsFrom t w) w t → SoFarInAny F w₀ (ArgsFrom d w₂) w₂ d
+        args_again y = let c = counted_next y.ready in one_more w₂ y z (omega (arith, c.at)) c.small (c.state, c.holds) args_more
+
+        pub args_again_lent : {F : Writer → Option ℕ → Type 0} {w₀ : Writer} → lent w₂ ≡ lent w → SoFar F w₀ (ArgsFrom t w) w t → SoFar F w₀ (ArgsFrom d w₂) w₂ d
+        args_again_lent n y = so_far_lent (args_again (so_far_in_any y)) (n ∙ y.same)
 
 -- ---------------------------------------------------------------- ty
 

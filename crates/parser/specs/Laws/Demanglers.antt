@@ -18,10 +18,10 @@ use Rattle.store.specs.Table.{Entries, Room}
 use Rattle.store.specs.Laws.Tails.{size, top_size}
 use Rattle.store.specs.declared.stack.Stack.{Stack}
 use Rattle.store.specs.declared.table.Table.{Table}
-use Rattle.parser.specs.Holds.{Halves, mem, Holds, Stands, Refines, refuses, Reads, Puts, Cuts, window, given_of}
+use Rattle.parser.specs.Holds.{Halves, mem, Holds, Stands, Refines, refuses, Reads, Pushes, Puts, Cuts, window, given_of}
 use Rattle.parser.specs.Recalls.{Recalls, recalls, long}
 use Rattle.parser.specs.Demanglers.{state_of, memory_of, lent, Held, Prepared, at_place, at_depth, Takes, takes, ends, Eats, eats, stays, Needs, needs, lacks, Enters, enters, deep, outcome}
-use Rattle.parser.specs.Demanglers.{given_length, Parses, OthersStay, StackAndSubs, Leaf, PushesOnto, PushesSub, Turns}
+use Rattle.parser.specs.Demanglers.{given_length, Parses, OthersStay, StackAndSubs, Leaf, pushed_as, PushesOnto, PushesSub, Turns}
 use Rattle.parser.specs.Laws.Holds.{at_level, by, refused_on, puts_by, cuts_by, got, holds_moved, holds_entered, sooner}
 use Rattle.parser.specs.Laws.Halves.{Pushed, pushes_not, pushes_entry, give_long, wrote_one, recorded_given}
 use Rattle.parser.specs.Laws.Wraps.{newest_text}
@@ -128,13 +128,41 @@ lent_args d x e = ap₂ (λ (m n : ℕ). d.stack.bytes.ghost_name ∷ d.subs.byt
 pub texts_by : (d : Demangler) {d' : Demangler} {x : Stack} {y : Table} → d' ≡ record d { stack = x; subs = y } → StackAndSubs d d'
 texts_by d e = subst (λ (z : Demangler). StackAndSubs d z) (sym e) refl
 
+-- ---------------------------------------------------------------- readings in any slices
+
+-- as `Parses`, but which slices are left is not said
+pub record ParsesInAny (f : Reader Text) (k from : ℕ) (d d' : Demangler) (r : Result ℕ Refusal) : Type 0 where
+  pub symbol : d'.s.now ≡ d.s.now
+  pub reads : Reads f k from d.s.now (memory_of d) (memory_of d') (state_of d) (outcome (state_of d') r)
+
+-- as `Leaf`, in any slices
+pub record LeafInAny (f : Reader Text) (k from : ℕ) (d d' : Demangler) (r : Result ℕ Refusal) : Type 0 where
+  pub parses : ParsesInAny f k from d d' r
+  pub others : OthersStay d d'
+
+module _ {f : Reader Text} {k from : ℕ} {d d' : Demangler} {r : Result ℕ Refusal} where
+  pub parses_in_any : Parses f k from d d' r → ParsesInAny f k from d d' r
+  parses_in_any h = record { symbol = h.symbol; reads = h.reads }
+
+  -- it leaves those that were lent
+  pub parses_lent : ParsesInAny f k from d d' r → lent d' ≡ lent d → Parses f k from d d' r
+  parses_lent h s = record { symbol = h.symbol; same = s; reads = h.reads }
+
+  pub leaf_lent : LeafInAny f k from d d' r → lent d' ≡ lent d → Leaf f k from d d' r
+  leaf_lent h s = record { parses = parses_lent h.parses s; others = h.others }
+
 -- ---------------------------------------------------------------- readings that call no other back
 
 pub leaf_reads :
+    {f : Reader Text} {k from : ℕ} {d d' : Demangler} {r : Result ℕ Refusal} → OthersStay d d' → Reads f k from d.s.now (memory_of d) (memory_of d') (state_of d) (outcome (state_of d') r) →
+    LeafInAny f k from d d' r
+leaf_reads e h = record { parses = record { symbol = ap (λ (y : Demangler). y.s.now) e; reads = h }; others = e }
+
+pub leaf_reads_lent :
     {f : Reader Text} {k from : ℕ} {d d' : Demangler} {r : Result ℕ Refusal} → OthersStay d d' → lent d' ≡ lent d →
     Reads f k from d.s.now (memory_of d) (memory_of d') (state_of d) (outcome (state_of d') r) →
     Leaf f k from d d' r
-leaf_reads e s h = record { parses = record { symbol = ap (λ (y : Demangler). y.s.now) e; same = s; reads = h }; others = e }
+leaf_reads_lent e s h = leaf_lent (leaf_reads e h) s
 
 -- a leaf whose first byte was not there
 pub lacked_leaf :
@@ -163,7 +191,7 @@ module _ {d d' : Demangler} {at : ℕ} (e : d' ≡ at_place d at) where
   pub leaf_moved :
       {f g : Reader Text} {k from : ℕ} {d'' : Demangler} {r : Result ℕ Refusal} → at ≤ length d.s.now → from ≤ at →
       ((σ : State) → Held d σ → g σ ≡ f (moved (drop at d.s.now) σ)) → Leaf f k d'.state.at d' d'' r → Leaf g k from d d'' r
-  leaf_moved l u o h = leaf_reads (others_then d (others_by d e) h.others) (h.parses.same ∙ ap lent e) (λ σ g. by (o σ g) (parses_at h.parses g l u))
+  leaf_moved l u o h = leaf_reads_lent (others_then d (others_by d e) h.others) (h.parses.same ∙ ap lent e) (λ σ g. by (o σ g) (parses_at h.parses g l u))
 
 -- what is known behind a reading that returned n, of every demangler that was prepared
 pub record Done (k from n : ℕ) (d d' : Demangler) : Type 0 where
@@ -177,7 +205,7 @@ pub record Done (k from n : ℕ) (d d' : Demangler) : Type 0 where
 
 -- a reading of the same symbol, and what it leaves
 module _ {f : Reader Text} {k from : ℕ} {d d' : Demangler} where
-  pub reads_of : {s : Text} {r : Result ℕ Refusal} → d.s.now ≡ s → Parses f k from d d' r → Reads f k from s (memory_of d) (memory_of d') (state_of d) (outcome (state_of d') r)
+  pub reads_of : {s : Text} {r : Result ℕ Refusal} → d.s.now ≡ s → ParsesInAny f k from d d' r → Reads f k from s (memory_of d) (memory_of d') (state_of d) (outcome (state_of d') r)
   reads_of {s} {r} e h = subst (λ (x : Text). Reads f k from x (memory_of d) (memory_of d') (state_of d) (outcome (state_of d') r)) e h.reads
 
   pub done : {n : ℕ} → Parses f k from d d' (Ok n) → Prepared d → Done k from n d d'
@@ -238,6 +266,18 @@ pub recalls_reads :
 recalls_reads d h (recalls l u) = wrote_one h (record { same = refl; put = u }) refl l (omega arith)
 recalls_reads d {t = t} {σ = σ} h (long l) = by (give_long t σ l) refuses
 
+-- as `PushesOnto`, in any slices
+pub record PushesOntoInAny (push : Text → Reader (Unit {0})) (n : ℕ) (d o d' : Demangler) (r : Result (Unit {0}) Refusal) : Type 0 where
+  pub others : d' ≡ o
+  pub prepared : Prepared d → Prepared d'
+  pub is :
+      (k l : ℕ) (s base : Text) (from : ℕ) (t : Text) (σ : State) → Stands k l s base from (memory_of d) (state_of d) n t σ →
+      Pushes s (memory_of d') n (state_of d') (pushed_as (state_of d') n r) (push t σ)
+
+pub pushes_lent :
+    {push : Text → Reader (Unit {0})} {n : ℕ} {d o d' : Demangler} {r : Result (Unit {0}) Refusal} → PushesOntoInAny push n d o d' r → lent d' ≡ lent d → PushesOnto push n d o d' r
+pushes_lent h s = record { others = h.others; same = s; prepared = h.prepared; is = h.is }
+
 -- a push onto a table, whose texts in the grammar's state are `of` and are set by `to`
 module _
     (j : Refusal) {push : Text → Reader (Unit {0})} (of : State → List Text) (to : List Text → State → State)
@@ -247,18 +287,24 @@ module _
   pushes_full e = record { others = refl; same = refl; prepared = λ g. g; is = λ k l s base from t σ h. pushes_not h (holds s σ h.holds) room (to (of σ ++ (t ∷ [])) σ) j (is t σ) e }
 
   pub pushes_more :
-      {d' : Demangler} {ys' zs' : List ℕ} {c' i' : ℕ} {w : Text} {u : Unit {0}} → d'.s.now ≡ d.s.now → lent d' ≡ lent d →
+      {d' : Demangler} {ys' zs' : List ℕ} {c' i' : ℕ} {w : Text} {u : Unit {0}} → d'.s.now ≡ d.s.now →
       ((s : Text) (σ : State) (l : List Text) → Holds s (memory_of d) (state_of d) σ → Entries l ys' zs' c' i' → Holds s (memory_of d') (state_of d') (to l σ)) →
       q ≡ true → w ≡ newest d.stack.bytes.now d.stack.top n → ((l : List Text) → Entries l ys zs c i → Entries (l ++ (w ∷ [])) ys' zs' c' i') →
-      PushesOnto push n d d' d' (Ok u)
-  pushes_more {w = w} symbol same hold e f more = record {
+      PushesOntoInAny push n d d' d' (Ok u)
+  pushes_more {w = w} symbol hold e f more = record {
     others = refl;
-    same = same;
     prepared = λ (σ, h). (to (of σ ++ (w ∷ [])) σ, rw symbol (hold d.s.now σ _ h (more (of σ) (holds d.s.now σ h))));
     is = λ k l s base from t σ h.
         pushes_entry h (holds s σ h.holds) room (to (of σ ++ (t ∷ [])) σ) j (is t σ) e
         (hold s σ _ h.holds (rw (f ∙ newest_text h (omega (arith, h.size, room.yes e))) at (more (of σ) (holds s σ h.holds))));
   }
+
+  pub pushes_more_lent :
+      {d' : Demangler} {ys' zs' : List ℕ} {c' i' : ℕ} {w : Text} {u : Unit {0}} → d'.s.now ≡ d.s.now → lent d' ≡ lent d →
+      ((s : Text) (σ : State) (l : List Text) → Holds s (memory_of d) (state_of d) σ → Entries l ys' zs' c' i' → Holds s (memory_of d') (state_of d') (to l σ)) →
+      q ≡ true → w ≡ newest d.stack.bytes.now d.stack.top n → ((l : List Text) → Entries l ys zs c i → Entries (l ++ (w ∷ [])) ys' zs' c' i') →
+      PushesOnto push n d d' d' (Ok u)
+  pushes_more_lent symbol same hold e f more = pushes_lent (pushes_more symbol hold e f more) same
 
 module _ {k l : ℕ} {s base : Text} {from n : ℕ} {t : Text} {σ : State} (d d' : Demangler) (h : Stands k l s base from (memory_of d) (state_of d) n t σ) where
   pub records_given : {u : Unit {0}} → PushesSub n d d' (Ok u) → Refines k l s base from (memory_of d') (outcome (state_of d') (given_length n)) (recorded t σ)
@@ -294,10 +340,16 @@ gives_word d {d₁} x {at} {from} {w} {σ} e h l i j u =
 -- a leaf that does so
 pub leaf_gives :
     (d : Demangler) {d₁ : Demangler} (x : Stack) {f : Reader Text} {at from : ℕ} {w : Text} → d₁ ≡ at_place d at → at ≤ length d.s.now → from ≤ at →
+    length w ≤ most_text_bytes → Put d₁.stack.bytes.now x.bytes.now d₁.stack.top x.top w → ((σ : State) → Held d σ → f σ ≡ give w (moved (drop at d.s.now) σ)) →
+    LeafInAny f kept_bytes from d (record d₁ { stack = x }) (Ok (length w))
+leaf_gives d x e l i j u o = leaf_reads (others_by d (ap (λ (y : Demangler). record y { stack = x }) e)) (λ σ h. by (o σ h) (gives_word d x e h l i j u))
+
+pub leaf_gives_lent :
+    (d : Demangler) {d₁ : Demangler} (x : Stack) {f : Reader Text} {at from : ℕ} {w : Text} → d₁ ≡ at_place d at → at ≤ length d.s.now → from ≤ at →
     length w ≤ most_text_bytes → x.bytes.ghost_name ≡ d₁.stack.bytes.ghost_name → Put d₁.stack.bytes.now x.bytes.now d₁.stack.top x.top w →
     ((σ : State) → Held d σ → f σ ≡ give w (moved (drop at d.s.now) σ)) →
     Leaf f kept_bytes from d (record d₁ { stack = x }) (Ok (length w))
-leaf_gives d x e l i j n u o = leaf_reads (others_by d (ap (λ (y : Demangler). record y { stack = x }) e)) (lent_moved d x e n) (λ σ h. by (o σ h) (gives_word d x e h l i j u))
+leaf_gives_lent d x e l i j n u o = leaf_lent (leaf_gives d x e l i j u o) (lent_moved d x e n)
 
 abbrev bytes_of : Demangler → Halves
 bytes_of d = record { low = d.subs.bytes.now; high = d.args.bytes.now }

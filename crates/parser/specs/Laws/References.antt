@@ -24,7 +24,7 @@ use Rattle.parser.specs.Holds.{refuses}
 use Rattle.parser.specs.References.{referred, entry_of, entry_at, digits_at, behind_digits, index_of, Indexes, indexes, unended}
 use Rattle.parser.specs.Laws.Holds.{by}
 use Rattle.parser.specs.Laws.Halves.{none_given}
-use Rattle.parser.specs.Laws.Demanglers.{Passed, held_at, prepared_at, others_by, leaf_reads, leaf_moved}
+use Rattle.parser.specs.Laws.Demanglers.{Passed, held_at, prepared_at, others_by, leaf_reads_lent, leaf_moved}
 
 -- what a value, or the lack of one, is returned for
 module _ {A : Type 0} where
@@ -88,7 +88,7 @@ module _ {base : ℕ} {d d' : Demangler} where
   module _ (f : Text → Reader Text) {k : ℕ} where
     -- no underscore
     pub index_refused : {e : Refusal} → Indexes base d d' (Err e) → Leaf (referred base f) k d.state.at d d' (Err e)
-    index_refused (unended n e) = leaf_reads (others_by d e) (ap lent e) (λ σ h. by (referred_open base f d.s.now d.state.at σ h.rest n) refuses)
+    index_refused (unended n e) = leaf_reads_lent (others_by d e) (ap lent e) (λ σ h. by (referred_open base f d.s.now d.state.at σ h.rest n) refuses)
 
     -- what is read by an index, and behind it
     pub index_read :
@@ -214,7 +214,7 @@ module _ {d d₁ : Demangler} (p : Passed 84 d d₁) where
 
   module _ {d' : Demangler} {o : Returned ℕ} (i : Indexes 10 d₁ d' (Ok o)) where
     pub param_unfit : most < index_of o → Leaf (reading ⟨template-param⟩) kept_bytes (d.state.at + 1) d d' (Err NoRule)
-    param_unfit l = param_behind (index_read _ i (λ t e σ h. argument_past t σ e l) (leaf_reads refl refl (λ σ h. refuses)))
+    param_unfit l = param_behind (index_read _ i (λ t e σ h. argument_past t σ e l) (leaf_reads_lent refl refl (λ σ h. refuses)))
 
     pub param_read :
         {n : ℕ} {d'' : Demangler} {r : Answer ℕ Refusal} → index_of o ≡ n → (n ≡ most + 1 → ⊥) →

@@ -4,7 +4,7 @@ use Rattle.grammar.specs.Text.{b}
 use Rattle.parser.specs.Demanglers.{state_of}
 use Rattle.parser.specs.Laws.Demanglers.{given_by}
 use Rattle.parser.specs.Laws.Literals.{strip_starts}
-use Rattle.encoding.specs.Laws.Clones.{cloned_start, cloned_more, cloned_begun, clones_alone, clones_refused, clones_given}
+use Rattle.encoding.specs.Laws.Clones.{cloned_start, cloned_in_any, cloned_more_lent, cloned_begun, clones_alone, clones_refused, clones_given}
 use Rattle.encoding.proofs.mangled.mangled_name.Goals as goal
 
 pub loop-rest-init : goal.loop-rest-init
@@ -13,13 +13,13 @@ loop-rest-init c = cloned_start c.args.d.now
 pub loop-rest-preserved : goal.loop-rest-preserved
 unfolding b
 loop-rest-preserved c =
-    cloned_more c.args.d.now c.loop-rest.invariant c.in-Some.rest c.put.new.self c.in-Some.ensures.cases.0 c.in-Some.ensures.cases.1 c.put.ensures.left c.put.ensures.same c.sum-n.ensures
+    cloned_more_lent c.args.d.now c.loop-rest.invariant c.in-Some.rest c.put.new.self c.in-Some.ensures.cases.0 c.in-Some.ensures.cases.1 c.put.ensures.left c.put.ensures.same c.sum-n.ensures
 
 pub encoding-m-requires : goal.encoding-m-requires
 unfolding b
 encoding-m-requires c = (
   omega (arith, c.requires.0, c.loop-rest.invariant.clones.within),
-  (sym (strip_starts c.loop-rest.d.s.now (71 ∷ 84 ∷ 116 ∷ [])) ∙ c.in_default.ensures.cases, cloned_begun c.args.d.now c.loop-rest.invariant c.requires.1),
+  (sym (strip_starts c.loop-rest.d.s.now (71 ∷ 84 ∷ 116 ∷ [])) ∙ c.in_default.ensures.cases, cloned_begun c.args.d.now (cloned_in_any c.loop-rest.invariant) c.requires.1),
 )
 
 pub returns-in_err-m : goal.returns-in_err-m

@@ -2,8 +2,9 @@ use Rattle.std.proofs.Common.{◌≡◌, false, [], ◌∷◌, rules, tests, ari
 use Rattle.std.proofs.lemmas.Result.{err_from_is_err_and}
 use Rattle.grammar.specs.Text.{b, starts}
 use Rattle.encoding.specs.Laws.Specials.{fresh_holds}
+use Rattle.parser.specs.Laws.Demanglers.{parses_in_any}
 use Rattle.encoding.specs.Laws.Thunks.{Labelled, starts_both, starts_unlike, labelled_h, labelled_v, unlabelled_h}
-use Rattle.encoding.specs.Laws.Thunks.{unlabelled_v, unlabelled_second, plain_encoded, put_prepared, labelled_refused, labelled_short, labelled_given}
+use Rattle.encoding.specs.Laws.Thunks.{unlabelled_v, unlabelled_second, plain_encoded, put_prepared, labelled_refused_lent, labelled_short, labelled_given_lent}
 use Rattle.encoding.proofs.thunks.thunk_or_function.Goals as goal
 use Rattle.encoding.proofs.thunks.thunk_or_function.Goals.{in_default-via-then-d-lt2, in_default-via-else-d-lt2+in-84+in_default-1, in_default-via-else-d-lt2+in_default-1}
 use Rattle.encoding.proofs.thunks.thunk_or_function.Goals.{After-put, in-84+in_ok-offset-in-84, in-84-2+in_ok-offset-in-84-2+in_ok-offset-in-84-2-2}
@@ -60,23 +61,23 @@ pub function_or_data-requires-2 : goal.function_or_data-requires-2
 unfolding b
 function_or_data-requires-2 c =
     let l = labelled (goal.at.function_or_data-requires-2 c).After-put in
-    put_prepared c.requires.0 c.requires.1 l c.put.new.self c.put.ensures.left c.put.ensures.same
+    put_prepared c.requires.0 c.requires.1 l c.put.new.self c.put.ensures.left
 
 pub returns-in_err-n : goal.returns-in_err-n
 unfolding b
 returns-in_err-n c =
     let l = labelled (goal.at.returns-in_err-n c).After-put in
     let p = err_from_is_err_and c.from_residual-in_err-n.result c.from_residual-in_err-n.ensures.1 in
-    rw (p.1, p.2) (labelled_refused c.requires.0 c.requires.1 l c.put.new.self c.put.ensures.left c.put.ensures.same c.in_err-n.ensures)
+    rw (p.1, p.2) (labelled_refused_lent c.requires.0 c.requires.1 l c.put.new.self c.put.ensures.left c.put.ensures.same c.in_err-n.ensures)
 
 pub overflow_add-n : goal.overflow_add-n
 unfolding b
 overflow_add-n c =
     let l = labelled (goal.at.overflow_add-n c).After-put in
-    omega (arith, labelled_short c.requires.0 c.requires.1 l c.put.new.self c.put.ensures.left c.put.ensures.same c.in_ok-n.ensures, l.fits)
+    omega (arith, labelled_short c.requires.0 c.requires.1 l c.put.new.self c.put.ensures.left (parses_in_any c.in_ok-n.ensures), l.fits)
 
 pub returns : goal.returns
 unfolding b
 returns c =
     let l = labelled (goal.at.returns c).After-put in
-    labelled_given c.requires.0 c.requires.1 l c.put.new.self c.put.ensures.left c.put.ensures.same c.in_ok-n.ensures c.given.ensures
+    labelled_given_lent c.requires.0 c.requires.1 l c.put.new.self c.put.ensures.left c.put.ensures.same c.in_ok-n.ensures c.given.ensures

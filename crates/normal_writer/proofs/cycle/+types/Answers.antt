@@ -9,10 +9,11 @@ use Rattle.normal_steps.specs.Laws.Moves.{copied_ready}
 use Rattle.normal_steps.specs.Laws.Leads.{lead_is}
 use Rattle.normal_steps.specs.declared.lead.Lead.TheVariants.{Digit, S, Letter, Wrap, N, L, None}
 use Rattle.normal_writer.specs.Laws.Loops.{moved}
-use Rattle.normal_writer.specs.Laws.Types.{Counted, arg_refused, arg_next, counted_next, args_end, args_again, args_next, args_closed, enter_next}
+use Rattle.normal_writer.specs.Laws.Types.{Counted, arg_refused, arg_next, counted_next, args_end, args_again_lent, args_next, args_closed, enter_next}
 use Rattle.normal_writer.specs.Laws.Types.{by_name, first_named, first_next, class_refused, class_answer, by_reference, first_referred, here_inside, moved_ready, referred_ready}
 use Rattle.normal_writer.specs.Laws.Types.{type_end, type_by, letter_answer, literal_answer, none_answer, without_args, args_barred, args_refused, args_answer, wrap_refused, wrap_next, wrap_answer}
-use Rattle.normal_writer.specs.Laws.Parts.{Onward, onward_as, part_refused, part_next, angled_barred, angled_refused, angled_next, end_lone, end_answer, more_behind, more_again}
+use Rattle.normal_writer.specs.Laws.Parts.{Onward, onward_as, onward_in_any, part_refused, part_next_lent, angled_barred, angled_refused, angled_next_lent}
+use Rattle.normal_writer.specs.Laws.Parts.{end_lone, end_answer, more_behind, more_again_lent}
 use Rattle.normal_writer.specs.Laws.Parts.{nested_refused, nested_next, nested_closed, nested_answer}
 use Rattle.normal_writer.specs.Laws.Parts.{parts_end, parts_by, parts_other, parts_unnamed, parts_named, parts_unreferred, parts_barred, parts_referred}
 use Rattle.normal_writer.proofs.cycle.+types.Goals.{args-After-here, more-After-here-in-loop-w, more-then-here+else-not-bare+in_ok-of, more-else-here+in_ok-of-2}
@@ -58,7 +59,7 @@ args-loop-x-smaller t c =
 
 pub args-loop-x-preserved : goal.args-loop-x-preserved
 args-loop-x-preserved t c =
-    args_again c.loop-x.w c.ty.new.w c.loop-x.of c.in_ok-x.ensures.is c.arg-of.new.self c.arg-of.ensures.is
+    args_again_lent c.loop-x.w c.ty.new.w c.loop-x.of c.in_ok-x.ensures.is c.arg-of.new.self c.arg-of.ensures.is
     (c.arg-of.ensures.symbol ∙ c.in_ok-x.ensures.symbol)
     (sym c.here.ensures ∙ c.if-here.false) (c.arg-of.ensures.same ∙ c.in_ok-x.ensures.same) c.loop-x.invariant
 
@@ -113,14 +114,14 @@ more-returns-in_err-of-2 t c =
 onward : (t : ℕ) (c : more-After-here-in-loop-w t) → Onward c.args.from c.loop-w.of c.loop-w.alone c.loop-w.w c.if-here.w c.if-here.of c.if-here.alone
 onward t c =
     elim c.if-here.branch [
-      | more-then-here+else-not-bare+in_ok-of x ↦ onward_as (angled_next c.loop-w.w c.loop-w.of c.loop-w.alone c.args.from (sym c.here.ensures ∙ x.if-here.true)
+      | more-then-here+else-not-bare+in_ok-of x ↦ onward_as (angled_next_lent c.loop-w.w c.loop-w.of c.loop-w.alone c.args.from (sym c.here.ensures ∙ x.if-here.true)
           x.tag_of.ensures (sym x.bare.ensures ∙ x.if-not-bare.false)
           x.copy_byte.new.self x.args-then-here.new.w x.copy_byte.ensures.symbol x.copy_byte.ensures.is x.in_ok-of.ensures.is x.close.new.self
           x.close.ensures.is
           (x.close.ensures.symbol ∙ x.in_ok-of.ensures.symbol ∙ x.copy_byte.ensures.symbol)
           (x.close.ensures.same ∙ x.in_ok-of.ensures.same ∙ x.copy_byte.ensures.same) c.loop-w.invariant.0 c.loop-w.invariant.1.ready) x.w-is
           x.of-is x.alone-is
-      | more-else-here+in_ok-of-2 x ↦ onward_as (part_next c.loop-w.w c.loop-w.of c.loop-w.alone c.args.from x.part.new.self (sym c.here.ensures ∙ x.if-here.false)
+      | more-else-here+in_ok-of-2 x ↦ onward_as (part_next_lent c.loop-w.w c.loop-w.of c.loop-w.alone c.args.from x.part.new.self (sym c.here.ensures ∙ x.if-here.false)
           x.in_ok-of-2.ensures.symbol x.in_ok-of-2.ensures.is x.in_ok-of-2.ensures.same c.loop-w.invariant.0 c.loop-w.invariant.1.ready) x.w-is x.of-is x.alone-is
     ]
 
@@ -158,13 +159,13 @@ more-enter-requires t c =
 pub more-loop-w-smaller : goal.more-loop-w-smaller
 more-loop-w-smaller t c =
     let a = onward t (goal.at.more-loop-w-smaller t c).After-here-in-loop-w in
-    let b = more_behind a c.enter.new.self c.enter.ensures.is c.enter.ensures.symbol in
+    let b = more_behind (onward_in_any a) c.enter.new.self c.enter.ensures.is c.enter.ensures.symbol in
     omega (arith, b.0, b.1, ap length (c.enter.ensures.symbol ∙ a.source))
 
 pub more-loop-w-preserved : goal.more-loop-w-preserved
 more-loop-w-preserved t c =
     let a = onward t (goal.at.more-loop-w-preserved t c).After-here-in-loop-w in
-    more_again a c.enter.new.self c.enter.ensures.is c.enter.ensures.symbol c.enter.ensures.same (sym c.here-in-loop-w.ensures ∙ c.if-here-2.false) c.loop-w.invariant.1
+    more_again_lent a c.enter.new.self c.enter.ensures.is c.enter.ensures.symbol c.enter.ensures.same (sym c.here-in-loop-w.ensures ∙ c.if-here-2.false) c.loop-w.invariant.1
 
 -- ---------------------------------------------------------------- named
 

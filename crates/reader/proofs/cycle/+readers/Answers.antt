@@ -50,7 +50,7 @@ use Rattle.grammar.specs.States.{read, peeked}
 use Rattle.reader.specs.Laws.LocFns.{fn_refused, fn_bare, fn_items_ready, fn_items_refused, fn_long, fn_open, fn_given}
 use Rattle.reader.specs.Laws.Opers.{unq_ready, unq_end, unq_U, unq_digit, unq_operator, operator_short, operator_word, operator_no_c, operator_no_v, oper_holds, oper_refused, oper_typed}
 use Rattle.reader.specs.Laws.Nested.{nested_4, prefixing_start}
-use Rattle.reader.proofs.Nested.{symbol_behind, nested_ends, nested_ready, nested_closes, nested_refuses, nested_nearer, nested_more, nested_further, same_behind}
+use Rattle.reader.proofs.Nested.{symbol_behind, nested_ends_lent, nested_ready, nested_closes_lent, nested_refuses_lent, nested_nearer, nested_more, nested_further, same_behind}
 use Rattle.std.specs.Prelude.{Some, None, not, ◌==◌}
 use Rattle.grammar.specs.Limits.{most_text_bytes}
 use Rattle.parser.specs.Halves.{with_args}
@@ -60,7 +60,7 @@ use Rattle.reader.specs.declared.lists.Parts.{Parts}
 use Rattle.store.specs.Stack.{Put, Stack as Stacked}
 use Rattle.store.specs.declared.stack.Stack.{Stack}
 use Rattle.reader.specs.Laws.Brackets.{stands_some}
-use Rattle.reader.proofs.Angles.{opened, opened_held, args_too_deep, args_no_list, args_unclosed, list_is, bracketed, close_of, newest_byte, args_closed}
+use Rattle.reader.proofs.Angles.{angles_in_any, opened, opened_lent, opened_held, args_too_deep, args_no_list_lent, args_unclosed_lent, list_is, bracketed, close_of, newest_byte, args_closed_lent}
 use Rattle.grammar.specs.declared.refusal.Refusal.TheVariants.{NoRule}
 use Rattle.parser.specs.Leaves.{Skips}
 use Rattle.reader.specs.Laws.Packs.{packed_start, packed_4, packed_opens, packed_closes, packed_more, packed_refuses, packed_ends, packed_long, inside, outer_small, text_short, text_further}
@@ -1274,7 +1274,7 @@ nested_name-returns-in_err-c t c =
     let p = err_from_is_err_and c.from_residual-in_err-c.result c.from_residual-in_err-c.ensures.1 in
     let f = given_none c.peek.result _ c.in_err-c.ensures.value in
     let l = c.loop-c.invariant in
-    rw (p.1, p.2, f.1) (nested_ends (needed c.in_ok-need.ensures) c.qualifiers-to.ensures c.loop-c.d l.symbol l.same l.so_far (sym c.peek.ensures ∙ f.0))
+    rw (p.1, p.2, f.1) (nested_ends_lent (needed c.in_ok-need.ensures) c.qualifiers-to.ensures c.loop-c.d l.symbol l.same l.so_far (sym c.peek.ensures ∙ f.0))
 
 pub nested_name-returns-then-c-eq69 : goal.nested_name-returns-then-c-eq69
 nested_name-returns-then-c-eq69 t c =
@@ -1283,29 +1283,29 @@ nested_name-returns-then-c-eq69 t c =
     let v = needed c.in_ok-need.ensures in
     elim c.if-parts.branch [
       | nested_name-then-parts w ↦
-          nested_closes v c.qualifiers-to.ensures c.loop-c.d l.symbol l.same l.so_far (sym c.peek.ensures ∙ f) true c.if-c-eq69.true w.if-parts.true c.given.ensures w.d-is
+          nested_closes_lent v c.qualifiers-to.ensures c.loop-c.d l.symbol l.same l.so_far (sym c.peek.ensures ∙ f) true c.if-c-eq69.true w.if-parts.true c.given.ensures w.d-is
       | nested_name-else-parts w ↦
-          nested_closes v c.qualifiers-to.ensures c.loop-c.d l.symbol l.same l.so_far (sym c.peek.ensures ∙ f) false c.if-c-eq69.true w.if-parts.false c.given.ensures w.d-is
+          nested_closes_lent v c.qualifiers-to.ensures c.loop-c.d l.symbol l.same l.so_far (sym c.peek.ensures ∙ f) false c.if-c-eq69.true w.if-parts.false c.given.ensures w.d-is
     ]
 
 pub nested_name-prefix-requires : goal.nested_name-prefix-requires
 nested_name-prefix-requires t c =
     let l = c.loop-c.invariant in
-    let m = nested_further (needed c.in_ok-need.ensures) c.qualifiers-to.ensures c.loop-c.d l.symbol l.same l.so_far c.requires in
-    (omega (arith, c.decreases, m.0, ap length m.1), nested_ready (needed c.in_ok-need.ensures) c.qualifiers-to.ensures c.loop-c.d l.symbol l.same l.so_far c.requires)
+    let m = nested_further (needed c.in_ok-need.ensures) c.qualifiers-to.ensures c.loop-c.d l.symbol l.so_far c.requires in
+    (omega (arith, c.decreases, m.0, ap length m.1), nested_ready (needed c.in_ok-need.ensures) c.qualifiers-to.ensures c.loop-c.d l.symbol l.so_far c.requires)
 
 pub nested_name-returns-in_err-parts : goal.nested_name-returns-in_err-parts
 nested_name-returns-in_err-parts t c =
     let p = err_from_is_err_and c.from_residual-in_err-parts.result c.from_residual-in_err-parts.ensures.1 in
     let f = given_some c.peek.result _ c.in_ok-c.ensures.value in
     let l = c.loop-c.invariant in
-    rw (p.1, p.2) (nested_refuses (needed c.in_ok-need.ensures) c.qualifiers-to.ensures c.loop-c.d l.symbol l.same l.so_far (sym c.peek.ensures ∙ f) c.if-c-eq69.false c.in_err-parts.ensures)
+    rw (p.1, p.2) (nested_refuses_lent (needed c.in_ok-need.ensures) c.qualifiers-to.ensures c.loop-c.d l.symbol l.same l.so_far (sym c.peek.ensures ∙ f) c.if-c-eq69.false c.in_err-parts.ensures)
 
 pub nested_name-loop-c-smaller : goal.nested_name-loop-c-smaller
 nested_name-loop-c-smaller t c =
     let f = given_some c.peek.result _ c.in_ok-c.ensures.value in
     let l = c.loop-c.invariant in
-    nested_nearer (needed c.in_ok-need.ensures) c.qualifiers-to.ensures c.loop-c.d l.symbol l.same l.so_far (sym c.peek.ensures ∙ f) c.if-c-eq69.false c.in_ok-parts.ensures c.requires
+    nested_nearer (needed c.in_ok-need.ensures) c.qualifiers-to.ensures c.loop-c.d l.symbol l.so_far (sym c.peek.ensures ∙ f) c.if-c-eq69.false c.in_ok-parts.ensures c.requires
 
 pub nested_name-loop-c-preserved : goal.nested_name-loop-c-preserved
 nested_name-loop-c-preserved t c =
@@ -1314,7 +1314,7 @@ nested_name-loop-c-preserved t c =
     record {
       symbol = symbol_behind c.loop-c.d (Ok c.in_ok-parts.parts) l.symbol c.in_ok-parts.ensures (sym c.peek.ensures ∙ f);
       same = same_behind c.loop-c.d (Ok c.in_ok-parts.parts) l.same c.in_ok-parts.ensures (sym c.peek.ensures ∙ f);
-      so_far = nested_more (needed c.in_ok-need.ensures) c.qualifiers-to.ensures c.loop-c.d l.symbol l.same l.so_far (sym c.peek.ensures ∙ f) c.if-c-eq69.false c.in_ok-parts.ensures;
+      so_far = nested_more (needed c.in_ok-need.ensures) c.qualifiers-to.ensures c.loop-c.d l.symbol l.so_far (sym c.peek.ensures ∙ f) c.if-c-eq69.false c.in_ok-parts.ensures;
     }
 
 -- ---------------------------------------------------------------- prefix
@@ -1660,30 +1660,30 @@ template_args-returns-in_err-enter t c =
 
 pub template_args-items-requires : goal.template_args-items-requires
 template_args-items-requires t c =
-    let o = opened c.put.new.self (needed c.in_ok-need.ensures) c.in_ok-enter.ensures c.put.ensures.left c.put.ensures.same in
+    let o = opened c.put.new.self (needed c.in_ok-need.ensures) c.in_ok-enter.ensures c.put.ensures.left in
     (omega (arith, c.decreases, o.inside, ap (λ (x : Demangler). x.state.at) o.is, ap (λ (x : Demangler). length x.s.now) o.is), (_, opened_held o c.requires.1))
 
 pub template_args-returns-in_err-list : goal.template_args-returns-in_err-list
 template_args-returns-in_err-list t c =
     let p = err_from_is_err_and c.from_residual-in_err-list.result c.from_residual-in_err-list.ensures.1 in
-    let o = opened c.put.new.self (needed c.in_ok-need.ensures) c.in_ok-enter.ensures c.put.ensures.left c.put.ensures.same in
-    rw (p.1, p.2) (args_no_list o c.in_err-list.ensures)
+    let o = opened_lent c.put.new.self (needed c.in_ok-need.ensures) c.in_ok-enter.ensures c.put.ensures.left c.put.ensures.same in
+    rw (p.1, p.2) (args_no_list_lent o c.in_err-list.ensures)
 
 pub template_args-returns-in_err-need-2 : goal.template_args-returns-in_err-need-2
 template_args-returns-in_err-need-2 t c =
     let p = err_from_is_err_and c.from_residual-in_err-need-2.result c.from_residual-in_err-need-2.ensures.1 in
-    let o = opened c.put.new.self (needed c.in_ok-need.ensures) c.in_ok-enter.ensures c.put.ensures.left c.put.ensures.same in
-    rw (p.1, p.2) (args_unclosed o c.in_ok-list.ensures (lacked c.in_err-need-2.ensures))
+    let o = opened_lent c.put.new.self (needed c.in_ok-need.ensures) c.in_ok-enter.ensures c.put.ensures.left c.put.ensures.same in
+    rw (p.1, p.2) (args_unclosed_lent o c.in_ok-list.ensures (lacked c.in_err-need-2.ensures))
 
 pub template_args-newest-requires : goal.template_args-newest-requires
 template_args-newest-requires t c =
-    let o = opened c.put.new.self (needed c.in_ok-need.ensures) c.in_ok-enter.ensures c.put.ensures.left c.put.ensures.same in
+    let o = opened c.put.new.self (needed c.in_ok-need.ensures) c.in_ok-enter.ensures c.put.ensures.left in
     let q = needed c.in_ok-need-2.ensures in
     omega (arith, stands_some (bracketed o c.in_ok-list.ensures q c.requires.1) (omega arith), ap (λ (x : Demangler). x.stack.top) (c.leave.ensures ∙ ap (λ (x : Demangler). at_depth x c.need.new.self.state.depth) q.is))
 
 pub template_args-sum-requires : goal.template_args-sum-requires
 template_args-sum-requires t c =
-    let o = opened c.put.new.self (needed c.in_ok-need.ensures) c.in_ok-enter.ensures c.put.ensures.left c.put.ensures.same in
+    let o = opened c.put.new.self (needed c.in_ok-need.ensures) c.in_ok-enter.ensures c.put.ensures.left in
     let z : length c.if-eq.close.now ≤ 2 = elim c.if-eq.branch [
       | template_args-then-eq w ↦ omega (arith, ap (λ (x : Bor Text). length x.now) w.close-is)
       | template_args-else-eq w ↦ omega (arith, ap (λ (x : Bor Text). length x.now) w.close-is)
@@ -1693,9 +1693,9 @@ template_args-sum-requires t c =
 pub template_args-returns : goal.template_args-returns
 template_args-returns t c =
     let e = needed c.in_ok-need.ensures in
-    let o = opened c.put.new.self e c.in_ok-enter.ensures c.put.ensures.left c.put.ensures.same in
+    let o = opened_lent c.put.new.self e c.in_ok-enter.ensures c.put.ensures.left c.put.ensures.same in
     let q = needed c.in_ok-need-2.ensures in
-    let v = bracketed o c.in_ok-list.ensures q c.requires.1 in
+    let v = bracketed (angles_in_any o) c.in_ok-list.ensures q c.requires.1 in
     let i = c.leave.ensures ∙ ap (λ (x : Demangler). at_depth x c.need.new.self.state.depth) q.is in
     let top = ap (λ (x : Demangler). x.stack.top) i in
     let g : Stacked c.leave.new.self.stack.bytes.now c.leave.new.self.stack.top = subst (λ (x : Demangler). Stacked x.stack.bytes.now x.stack.top) (sym i) v.holds.text in
@@ -1703,7 +1703,7 @@ template_args-returns t c =
       | template_args-then-eq w ↦ ap (λ (x : Bor Text). x.now) w.close-is ∙ ap close_of (sym w.if-eq.true)
       | template_args-else-eq w ↦ ap (λ (x : Bor Text). x.now) w.close-is ∙ ap close_of (sym w.if-eq.false)
     ] in
-    args_closed o c.in_ok-list.ensures q c.leave.ensures (ap (λ (x : Demangler). x.state.depth) e.is)
+    args_closed_lent o c.in_ok-list.ensures q c.leave.ensures (ap (λ (x : Demangler). x.state.depth) e.is)
     (newest_byte _ _ 62 g (omega (arith, top, stands_some v (omega arith))) c.newest.ensures c.as_slice.ensures c.eq.ensures) z c.put-2.ensures.left c.put-2.ensures.same c.sum.ensures c.given.ensures
 
 -- ---------------------------------------------------------------- template_arg

@@ -6,7 +6,7 @@ use Rattle.grammar.specs.Laws.Decimals.{decimal_most}
 use Rattle.parser.specs.Laws.Holds.{by}
 use Rattle.parser.specs.Laws.Halves.{wrote_one}
 use Rattle.parser.specs.Laws.Decimals.{marked_text, marked_size}
-use Rattle.parser.specs.Laws.Demanglers.{puts_of, lent_stack, leaf_reads}
+use Rattle.parser.specs.Laws.Demanglers.{puts_of, lent_stack, leaf_reads_lent}
 use Rattle.parser.proofs.demangler.Demangler.number.Goals as goal
 
 pub write_decimal-start-requires : goal.write_decimal-start-requires
@@ -20,5 +20,5 @@ returns c =
     let z : length c.write_decimal-start.new.out ≡ 21 = omega (arith, c.write_decimal-start.auto.out) in
     let e = marked_text c.write_decimal-start.ensures refl z 84 in
     let n = marked_size c.write_decimal-start.ensures refl z 84 in
-    leaf_reads refl (lent_stack c.args.self.now c.put.new.self c.put.ensures.same)
+    leaf_reads_lent refl (lent_stack c.args.self.now c.put.new.self c.put.ensures.same)
     (λ σ h. by (ap (λ (t : Text). give t σ) (sym e)) (wrote_one h (puts_of c.args.self.now c.put.new.self c.put.ensures.left) (ap length e ∙ n) (omega (arith, ap length e, n)) (omega arith)))

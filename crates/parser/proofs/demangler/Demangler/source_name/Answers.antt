@@ -19,7 +19,7 @@ use Rattle.parser.specs.Source.{identified, closers, Closes}
 use Rattle.parser.specs.Laws.Source.{Located}
 use Rattle.parser.specs.Laws.Tags.{Tagging, tagging_start, tagging_refuses, located, tagging_ends, tagging_more}
 use Rattle.parser.specs.Laws.References.{given_some, given_none}
-use Rattle.parser.specs.Laws.Demanglers.{Passed, failed, ate, ate_none, others_by, others_then, lent_stack, leaf_reads, outcome_given}
+use Rattle.parser.specs.Laws.Demanglers.{Passed, failed, ate, ate_none, others_by, others_then, lent_stack, leaf_reads_lent, outcome_given}
 use Rattle.parser.proofs.demangler.Demangler.source_name.Goals as goal
 
 -- a turn of the loop: o is the demangler before it, d the one at the turn
@@ -66,7 +66,7 @@ module _ (o d : Demangler) {n tags : ℕ}
               {n' n'' : ℕ} {v : Result ℕ Refusal} → n' ≡ min (n + (q.to - q.from)) most_length → n'' ≡ min (n' + tags) most_length → v ≡ given_length n'' →
               Leaf (reading ⟨source-name⟩) kept_bytes (o.state.at + 1) o d'' v
           ending {v = v} a c w =
-              leaf_reads stay (k.same ∙ ap lent z.1 ∙ lent_next)
+              leaf_reads_lent stay (k.same ∙ ap lent z.1 ∙ lent_next)
               (subst (λ (m : Memory). Reads (reading ⟨source-name⟩) kept_bytes (o.state.at + 1) o.s.now (memory_of o) m (state_of o) (outcome (state_of d'') v)) (sym kept)
               (tagging_ends turn.1 found (subst (λ (t : Text). starts (drop q.to t) (66 ∷ []) ≡ false) same z.0) refl puts a closed c (ap (outcome (state_of d'')) w ∙ outcome_given _ _)))
 
@@ -99,7 +99,7 @@ returns-in_err-part c =
     let f = given_none c.identifier.result _ c.in_err-part.ensures.value in
     let i = c.loop-part.invariant in
     rw (failed c.from_residual.result c.from_residual.ensures.1, f.1)
-    (leaf_reads i.0.0 i.0.1 (tagging_refuses i.1 (sym (seen c.args.self.now c.loop-part.self i c.identifier.ensures) ∙ f.0)))
+    (leaf_reads_lent i.0.0 i.0.1 (tagging_refuses i.1 (sym (seen c.args.self.now c.loop-part.self i c.identifier.ensures) ∙ f.0)))
 
 pub slice_bounds-put-count : goal.slice_bounds-put-count
 slice_bounds-put-count c = omega (arith, (here c.args.self.now c.loop-part.self c.loop-part.invariant c.identifier.ensures c.in_ok-part.ensures.value).some)

@@ -9,7 +9,7 @@ use Rattle.parser.specs.Demanglers.{at_place, state_of, lent}
 use Rattle.parser.specs.Holds.{refuses}
 use Rattle.parser.specs.Laws.Holds.{by}
 use Rattle.parser.specs.Laws.References.{given_some, given_none, sub_none, sub_end, sub_word, sub_entry}
-use Rattle.parser.specs.Laws.Demanglers.{Passed, failed, needed, lacked_leaf, prepared_at, others_by, leaf_reads, leaf_moved, leaf_gives}
+use Rattle.parser.specs.Laws.Demanglers.{Passed, failed, needed, lacked_leaf, prepared_at, others_by, leaf_reads_lent, leaf_moved, leaf_gives_lent}
 use Rattle.parser.proofs.demangler.Demangler.substitution.Goals as goal
 
 -- the byte behind the first
@@ -31,7 +31,7 @@ returns-in_err-c c =
     let g = given_none c.peek.result _ c.in_err-c.ensures.value in
     let o : drop (d.state.at + 1) d.s.now ≡ [] = peek_end _ (ahead n c.peek.ensures ∙ g.0) in
     rw (failed c.from_residual-in_err-c.result c.from_residual-in_err-c.ensures.1, g.1)
-    (leaf_reads (others_by d n.is) (ap lent n.is) (λ σ h. by (sub_end d.s.now d.state.at σ h.rest n.past.ahead (omega (arith, length-drop (d.state.at + 1) d.s.now, ap length o))) refuses))
+    (leaf_reads_lent (others_by d n.is) (ap lent n.is) (λ σ h. by (sub_end d.s.now d.state.at σ h.rest n.past.ahead (omega (arith, length-drop (d.state.at + 1) d.s.now, ap length o))) refuses))
 
 pub old_entry-requires : goal.old_entry-requires
 old_entry-requires c =
@@ -53,6 +53,6 @@ returns c =
     let n = needed c.in_ok-need.ensures in
     let e = behind n c.peek.ensures (given_some c.peek.result _ c.in_ok-c.ensures.value) in
     let f = c.in-Some.ensures.0 ∙ ap (λ (x : ℕ). word_for abbreviations (x ∷ [])) (sym e.byte) in
-    leaf_gives d c.put.new.self (ap (λ (x : Demangler). at_place x (x.state.at + 1)) n.is) (omega (arith, e.inside)) (omega arith) (omega (arith, c.in-Some.ensures.1))
+    leaf_gives_lent d c.put.new.self (ap (λ (x : Demangler). at_place x (x.state.at + 1)) n.is) (omega (arith, e.inside)) (omega arith) (omega (arith, c.in-Some.ensures.1))
     c.put.ensures.same c.put.ensures.left
     (λ σ h. sub_word d.s.now d.state.at σ h.rest n.past.ahead e.inside c.in-Some.word.now f)
